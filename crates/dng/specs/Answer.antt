@@ -1,0 +1,156 @@
+-- What comes back: the ranges, the order of the refusals, and what each answer leaves. Document 01, 'Taken and left' and 'What comes back'.
+use Prim.Native.Nat.{ℕ, _*_}
+use mathlib.Core.Bool.{Bool, true, false, _&&_, cond}
+use mathlib.Core.List.{List, _++_}
+use mathlib.Core.Path.{_≡_}
+use lib.Dec.{leb, eqb}
+use lib.Ieee.{Float}
+use lib.ListN.{length, drop, replicate}
+use Rattle.dng.specs.declared.Window.{Window}
+use Rattle.dng.specs.declared.RowWindow.{RowWindow}
+use Rattle.dng.specs.declared.Settings.{Settings}
+use Rattle.dng.specs.declared.Numbers.{Numbers}
+use Rattle.dng.specs.declared.Answer.{Answer}
+use Rattle.dng.specs.declared.Answer.the-variants as Ans
+use Rattle.dng.specs.declared.RowAnswer.{RowAnswer}
+use Rattle.dng.specs.declared.RowAnswer.the-variants as Row
+use Rattle.dng.specs.declared.Reading.{Reading}
+use Rattle.dng.specs.declared.Reading.the-variants as R
+use Rattle.dng.specs.List.{Item, readingOf, itemsOf}
+use Rattle.dng.specs.Value.{Frame, one, nought}
+use Rattle.dng.specs.Run.{Kind, f32Kind, u16Kind, Class, skipped, skipped16, takes16, takesRows, namesOf, Progress, going, marksFull, valuesFull, Room, performAll, rowOn}
+
+-- ---- the ranges
+
+unfoldable pub inRange : Window → (period : ℕ) → Bool
+inRange w period =
+    leb (w .width) 65536 && (leb (w .height) 65536 && (leb (w .stride) 65536
+    && (leb 1 (w .planes) && (leb (w .planes) 8
+    && (leb (w .x0) 16777216 && (leb (w .y0) 16777216
+    && (leb (w .«full_width») 16777216 && (leb (w .«full_height») 16777216
+    && leb period 65536))))))))
+
+-- a lent row of n samples, the row y of the image
+unfoldable pub rowInRange : RowWindow → (y n : ℕ) → Bool
+rowInRange w y n =
+    leb (w .width) 65536 && (leb 1 (w .planes) && (leb (w .planes) 8
+    && (leb (w .x0) 16777216 && (leb (w .«full_width») 16777216 && (leb (w .«full_height») 16777216
+    && (leb y 16842751 && leb n (w .width * w .planes)))))))
+
+-- ---- the paper's number and values for each answer; entry and opcode numbers, names and totals are 0 where they are not named
+
+abbrev pub numbersOf : Answer → Numbers
+numbersOf (Ans.Done n r l) = record { number = 0; entry = 0; opcode = 0; names = n; repaired = r; left = l }
+numbersOf Ans.Range = record { number = 1; entry = 0; opcode = 0; names = 0; repaired = 0; left = 0 }
+numbersOf (Ans.Malformed k) = record { number = 2; entry = k; opcode = 0; names = 0; repaired = 0; left = 0 }
+numbersOf Ans.NotTaken = record { number = 3; entry = 0; opcode = 0; names = 0; repaired = 0; left = 0 }
+numbersOf Ans.Names = record { number = 4; entry = 0; opcode = 0; names = 0; repaired = 0; left = 0 }
+numbersOf (Ans.Marks k) = record { number = 5; entry = 0; opcode = k; names = 0; repaired = 0; left = 0 }
+numbersOf (Ans.Values k) = record { number = 6; entry = 0; opcode = k; names = 0; repaired = 0; left = 0 }
+
+abbrev pub readingNumbersOf : Reading → Numbers
+readingNumbersOf (R.Whole n) = record { number = 0; entry = 0; opcode = 0; names = 0; repaired = 0; left = 0 }
+readingNumbersOf (R.Malformed k) = record { number = 2; entry = k; opcode = 0; names = 0; repaired = 0; left = 0 }
+
+abbrev pub rowNumbersOf : RowAnswer → Numbers
+rowNumbersOf (Row.Done n) = record { number = 0; entry = 0; opcode = 0; names = 0; repaired = 0; left = 0 }
+rowNumbersOf Row.Range = record { number = 1; entry = 0; opcode = 0; names = 0; repaired = 0; left = 0 }
+rowNumbersOf (Row.Malformed k) = record { number = 2; entry = k; opcode = 0; names = 0; repaired = 0; left = 0 }
+rowNumbersOf Row.NotTaken = record { number = 3; entry = 0; opcode = 0; names = 0; repaired = 0; left = 0 }
+
+-- ---- a run: the refusals 1 to 4 in order, samples and names unchanged; then opcode by opcode 5 before 6; names only on 0
+
+pub record Out (A : Type 0) : Type 0 where
+  pub answer : Answer
+  pub samples : List A
+  pub names : List ℕ
+
+abbrev pub unchanged : {A : Type 0} → Answer → List A → List ℕ → Out A
+unchanged a s names = record { answer = a; samples = s; names = names }
+
+-- the bytes l at the front of the buffer b, which keeps what stands after them
+abbrev pub written : List ℕ → List ℕ → List ℕ
+written l b = l ++ drop (length l) b
+
+abbrev pub finished : {A : Type 0} → List ℕ → List ℕ → Progress A → Out A
+finished l names (going s r t) = record { answer = Ans.Done (length l) r t; samples = s; names = written l names }
+finished l names (marksFull s k) = unchanged (Ans.Marks k) s names
+finished l names (valuesFull s k) = unchanged (Ans.Values k) s names
+
+module _ {A : Type 0} (kind : Kind A) (takes : List Item → Bool) (skip : Class → Bool) where
+  -- a list that is read whole: 3, 4, then the run
+  unfoldable pub ranOn : Window → (period : ℕ) → Room → List ℕ → List A → List ℕ → Out A
+  ranOn w period room list s names =
+      cond (takes (itemsOf list))
+      (cond (leb (length (namesOf skip (itemsOf list))) (length names))
+      (finished (namesOf skip (itemsOf list)) names (performAll kind w period room list 0 (itemsOf list) (going s 0 0)))
+      (unchanged Ans.Names s names))
+      (unchanged Ans.NotTaken s names)
+
+  abbrev pub readOut : Window → (period : ℕ) → Room → List ℕ → List A → List ℕ → Reading → Out A
+  readOut w period room list s names (R.Whole n) = ranOn w period room list s names
+  readOut w period room list s names (R.Malformed k) = unchanged (Ans.Malformed k) s names
+
+  unfoldable pub runOut : Window → (period : ℕ) → Room → List ℕ → List A → List ℕ → Out A
+  runOut w period room list s names =
+      cond (inRange w period) (readOut w period room list s names (readingOf list)) (unchanged Ans.Range s names)
+
+-- the f32 run takes every list
+abbrev pub takesAll : List Item → Bool
+takesAll is = true
+
+abbrev pub frameOf : Window → Float → Frame
+frameOf w scale = record { scale = scale; fullWidth = w .«full_width»; fullHeight = w .«full_height» }
+
+abbrev pub f32Out : Window → Settings → Room → List ℕ → List Float → List ℕ → Out Float
+f32Out w set room list s names =
+    runOut (f32Kind (frameOf w (set .scale))) takesAll skipped w (set .period) room list s names
+
+-- the whole-number form has no scale
+abbrev pub u16Out : Window → (period : ℕ) → Room → List ℕ → List ℕ → List ℕ → Out ℕ
+u16Out w period room list s names = runOut u16Kind takes16 skipped16 w period room list s names
+
+-- What a run promises of its result r and of what it leaves: the answer, the samples and the names are those of o, and both scratch buffers hold zeros alone.
+pub record Ran {A : Type 0} (o : Out A) (room : Room) (r : Answer) (samples : List A) (names marks : List ℕ) (values : List Float) : Type 0 where
+  pub answered : r ≡ o .answer
+  pub left : samples ≡ o .samples
+  pub named : names ≡ o .names
+  pub marksClear : marks ≡ replicate (room .marks) 0
+  pub valuesClear : values ≡ replicate (room .values) nought
+
+-- ---- a row: 1, 2, 3 in order, the row unchanged on each
+
+pub record RowOut : Type 0 where
+  pub answer : RowAnswer
+  pub row : List Float
+
+abbrev pub rowFrameOf : RowWindow → Float → Frame
+rowFrameOf w scale = record { scale = scale; fullWidth = w .«full_width»; fullHeight = w .«full_height» }
+
+abbrev pub rowRead : RowWindow → Float → (y : ℕ) → List ℕ → List Float → Reading → RowOut
+rowRead w scale y list row (R.Whole n) =
+    cond (takesRows (itemsOf list))
+    (record { answer = Row.Done (length (namesOf skipped (itemsOf list))); row = rowOn (rowFrameOf w scale) (w .x0) (w .planes) y list (itemsOf list) row })
+    (record { answer = Row.NotTaken; row = row })
+rowRead w scale y list row (R.Malformed k) = record { answer = Row.Malformed k; row = row }
+
+unfoldable pub rowOut : RowWindow → Float → (y : ℕ) → List ℕ → List Float → RowOut
+rowOut w scale y list row =
+    cond (rowInRange w y (length row)) (rowRead w scale y list row (readingOf list)) (record { answer = Row.Range; row = row })
+
+-- ---- the verdict: a frame is whole when a run answers 0 and skips nothing
+
+abbrev pub wholeFrame : Answer → Bool
+wholeFrame (Ans.Done n r l) = eqb n 0
+wholeFrame Ans.Range = false
+wholeFrame (Ans.Malformed k) = false
+wholeFrame Ans.NotTaken = false
+wholeFrame Ans.Names = false
+wholeFrame (Ans.Marks k) = false
+wholeFrame (Ans.Values k) = false
+
+abbrev pub wholeRow : RowAnswer → Bool
+wholeRow (Row.Done n) = eqb n 0
+wholeRow Row.Range = false
+wholeRow (Row.Malformed k) = false
+wholeRow Row.NotTaken = false
