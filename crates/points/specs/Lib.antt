@@ -1,1 +1,3 @@
 pub mod Points
+pub mod Select
+pub mod Worked
