@@ -6,7 +6,7 @@ use mathlib.Core.Bool.{Bool, true, false, cond}
 use mathlib.Core.List.{List, [], _∷_, _++_}
 use native.Mathlib.Omega.{arith}
 use borrow.Author.Tests.{lt-ltb, le-ltb, le-leb, lt-leb}
-use lib.Dec.{leb}
+use lib.Dec.{leb, ltb}
 use lib.ListN.{length, getD, take, drop, set, length-take, length-drop, length-set, take-append-drop}
 use lib.Seq.{getD-set-same, getD-set-other, length-take-le}
 use Rattle.points.specs.Points.{each, before, between}
@@ -15,23 +15,23 @@ use Rattle.points.proofs.Each.{below-or, length-each, getD-each, is-eac
 module _ {A : Type 0} where
   pub before-in : (n : ℕ) (f : ℕ → A → A) (i : ℕ) (v : A) → i < n → before n f i v ≡ f i v
   unfolding before
-  before-in n f i v h = rw (lt-ltb i n h)
+  before-in n f i v h = ap (λ (b : Bool). cond b (f i v) v) (lt-ltb i n h)
 
   pub before-out : (n : ℕ) (f : ℕ → A → A) (i : ℕ) (v : A) → n ≤ i → before n f i v ≡ v
   unfolding before
-  before-out n f i v h = rw (le-ltb i n h)
+  before-out n f i v h = ap (λ (b : Bool). cond b (f i v) v) (le-ltb i n h)
 
   pub between-in : (a e : ℕ) (f : ℕ → A → A) (i : ℕ) (v : A) → a ≤ i → i < e → between a e f i v ≡ f i v
   unfolding between
-  between-in a e f i v h q = rw (le-leb a i h, lt-ltb i e q)
+  between-in a e f i v h q = ap₂ (λ (b c : Bool). cond b (cond c (f i v) v) v) (le-leb a i h) (lt-ltb i e q)
 
   pub between-low : (a e : ℕ) (f : ℕ → A → A) (i : ℕ) (v : A) → i < a → between a e f i v ≡ v
   unfolding between
-  between-low a e f i v h = rw (lt-leb a i h)
+  between-low a e f i v h = ap (λ (b : Bool). cond b (cond (ltb i e) (f i v) v) v) (lt-leb a i h)
 
   pub between-high : (a e : ℕ) (f : ℕ → A → A) (i : ℕ) (v : A) → e ≤ i → between a e f i v ≡ v
   unfolding between
-  between-high a e f i v h = rw (le-ltb i e h) (either (leb a i))
+  between-high a e f i v h = ap (λ (b : Bool). cond (leb a i) (cond b (f i v) v) v) (le-ltb i e h) ∙ either (leb a i)
     where
       either : (b : Bool) → cond b v v ≡ v
       either true = refl

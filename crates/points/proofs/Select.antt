@@ -1,7 +1,7 @@
 -- The cases of `selects` and `onColumns`: where a column is selected and where not, and what is left as it stands.
 -- Assumes nothing.
 use Prim.Native.Nat.{ℕ, suc, _+_, _-_, _*_, _/_, _%_, _≤_, _<_, max}
-use mathlib.Core.Path.{_≡_, refl, sym, ap, _∙_}
+use mathlib.Core.Path.{_≡_, refl, ap, ap₂, _∙_}
 use mathlib.Core.Bool.{Bool, true, false, cond, _&&_}
 use native.Mathlib.Nat.{add-mul, one-mul}
 use native.Mathlib.Omega.{arith}
@@ -30,7 +30,8 @@ rest-of lo pitch x n r e h = ap (λ (y : ℕ). y % max pitch 1) (omega arith) �
 pub selects-at : (lo hi pitch x n : ℕ) → x ≡ lo + n * max pitch 1 → x < hi → selects lo hi pitch x ≡ true
 unfolding selects
 selects-at lo hi pitch x n e h =
-    rw (le-leb lo x (omega arith), lt-ltb x hi h, eq-eqb ((x - lo) % max pitch 1) 0 (rest-of lo pitch x n 0 (omega arith) (omega arith)))
+    ap₂ _&&_ (le-leb lo x (omega arith))
+    (ap₂ _&&_ (lt-ltb x hi h) (eq-eqb ((x - lo) % max pitch 1) 0 (rest-of lo pitch x n 0 (omega arith) (omega arith))))
 
 pub selects-low : (lo hi pitch x : ℕ) → x < lo → selects lo hi pitch x ≡ false
 unfolding selects
@@ -48,6 +49,7 @@ selects-gap lo hi pitch x n above below =
   where
     r : ℕ
     r = x - (lo + n * max pitch 1)
+
     apart : (x - lo) % max pitch 1 ≡ 0 → ⊥
     apart z = let q : (x - lo) % max pitch 1 ≡ r = rest-of lo pitch x n r (omega arith) (omega arith) in omega arith
 
@@ -55,10 +57,11 @@ selects-gap lo hi pitch x n above below =
 pub selects-only : (lo hi pitch x : ℕ) → selects lo hi pitch x ≡ true → (lo ≤ x) × (x < hi) × ((x - lo) % max pitch 1 ≡ 0)
 unfolding selects
 selects-only lo hi pitch x h =
-    let r = and-right (leb lo x) (ltb x hi && eqb ((x - lo) % max pitch 1) 0) h in
-    ( leb-true lo x (and-left (leb lo x) (ltb x hi && eqb ((x - lo) % max pitch 1) 0) h)
-    , ltb-true x hi (and-left (ltb x hi) (eqb ((x - lo) % max pitch 1) 0) r)
-    , eqb-true ((x - lo) % max pitch 1) 0 (and-right (ltb x hi) (eqb ((x - lo) % max pitch 1) 0) r))
+    let r = and-right (leb lo x) (ltb x hi && eqb ((x - lo) % max pitch 1) 0) h in (
+      leb-true lo x (and-left (leb lo x) (ltb x hi && eqb ((x - lo) % max pitch 1) 0) h),
+      ltb-true x hi (and-left (ltb x hi) (eqb ((x - lo) % max pitch 1) 0) r),
+      eqb-true ((x - lo) % max pitch 1) 0 (and-right (ltb x hi) (eqb ((x - lo) % max pitch 1) 0) r),
+    )
 
 -- the number of a selected column, counted from lo
 pub selects-number : (lo pitch x n : ℕ) → x ≡ lo + n * max pitch 1 → (x - lo) / max pitch 1 ≡ n
@@ -69,7 +72,8 @@ module _ {A : Type 0} where
   pub on-plane : (lo hi pitch plane planes : ℕ) (g : ℕ → ℕ → A → A) (x k : ℕ) (v : A) → plane ≤ k → k < plane + planes
       → onColumns lo hi pitch plane planes g x k v ≡ cond (selects lo hi pitch x) (g x k v) v
   unfolding onColumns
-  on-plane lo hi pitch plane planes g x k v a b = rw (le-leb plane k a, lt-ltb k (plane + planes) b)
+  on-plane lo hi pitch plane planes g x k v a b =
+      ap₂ (λ (b c : Bool). cond (selects lo hi pitch x) (cond b (cond c (g x k v) v) v) v) (le-leb plane k a) (lt-ltb k (plane + planes) b)
 
   pub on-in : (lo hi pitch plane planes : ℕ) (g : ℕ → ℕ → A → A) (x k : ℕ) (v : A) → selects lo hi pitch x ≡ true → plane ≤ k
       → k < plane + planes → onColumns lo hi pitch plane planes g x k v ≡ g x k v

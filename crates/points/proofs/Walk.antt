@@ -12,7 +12,7 @@ use Rattle.points.specs.Points.{each, before, between}
 use Rattle.points.specs.Select.{selects, inRow, onColumns}
 use Rattle.points.proofs.Each.{below-or, length-each, each-agree, each-none, each-each}
 use Rattle.points.proofs.Parts.{before-in, before-out, between-in, between-low, between-high, each-between-empty, advance-at, store}
-use Rattle.points.proofs.Select.{selects-at, selects-low, selects-high, selects-gap, on-plane, on-in, on-unselected, on-below, on-above}
+use Rattle.points.proofs.Select.{selects-at, selects-low, selects-high, selects-gap, selects-number, on-plane, on-in, on-unselected, on-below, on-above}
 
 -- x0 + col is the n-th selected column counted from lo, and none before it is at or past x0
 pub record First (lo pitch x0 col n : ℕ) : Type 0 where
@@ -25,8 +25,8 @@ first-near lo pitch x0 col (suc m) e near =
     record {
       here = e;
       none = λ hi x a b.
-        below-or x lo (λ q. selects-low lo hi pitch x q)
-        (λ q. selects-gap lo hi pitch x m (omega (arith, suc-mul m (max pitch 1), near (omega arith))) (omega (arith, suc-mul m (max pitch 1))))
+          below-or x lo (λ q. selects-low lo hi pitch x q)
+          (λ q. selects-gap lo hi pitch x m (omega (arith, suc-mul m (max pitch 1), near (omega arith))) (omega (arith, suc-mul m (max pitch 1))));
     }
 
 -- a first column that is not lo itself is less than a step away
@@ -38,6 +38,7 @@ first-close lo pitch x0 col (suc m) f h =
   where
     x : ℕ
     x = lo + m * max pitch 1
+
     apart : selects lo (suc x) pitch x ≡ false → ⊥
     apart e =
         let t : selects lo (suc x) pitch x ≡ true = selects-at lo (suc x) pitch x m refl (omega arith) in
@@ -56,6 +57,10 @@ first-unique lo pitch x0 col n col′ n′ f f′ =
         let e : selects lo (suc (x0 + a)) pitch (x0 + a) ≡ false = w .none (suc (x0 + a)) (x0 + a) (omega arith) (omega arith) in
         let z : _≡_ {A = ℕ} 0 1 = cc in
         omega arith
+
+-- the number of the first column
+pub first-number : (lo pitch x0 col n : ℕ) → First lo pitch x0 col n → n ≡ (x0 + col - lo) / max pitch 1
+first-number lo pitch x0 col n f = sym (selects-number lo pitch (x0 + col) n (f .here))
 
 -- the first column where the row starts at or before lo, on a selected column, and between two
 pub first-left : (lo pitch x0 : ℕ) → x0 ≤ lo → First lo pitch x0 (lo - x0) 0
@@ -100,11 +105,12 @@ module _ {A : Type 0} where
         number = n;
         here = f .here;
         place = refl;
-        same = refl
+        same = refl;
       }
     where
       F : ℕ → A → A
       F = inRow x0 p (onColumns lo hi pitch plane 1 g)
+
       passed : (i : ℕ) (v : A) → i < col * p → before (col * p) F i v ≡ v
       passed i v h =
           let q : i / p < col = div-lt-iff-lt-mul pos .1 h in
@@ -138,10 +144,13 @@ module _ {A : Type 0} where
     where
       pos : 0 < p
       pos = omega arith
+
       from : c ≤ j / p
       from = le-div-iff-mul-le pos .1 above
+
       upto : j / p < c + max pitch 1
       upto = div-lt-iff-lt-mul pos .1 below
+
       column : j / p ≡ c → inRow x0 p (onColumns lo hi pitch plane 1 g) j v ≡ between i (i + 1) (inRow x0 p g) j v
       column e =
           let split : j ≡ c * p + j % p = sym (div-add-mod' j p) ∙ ap (λ (m : ℕ). m * p + j % p) e in
@@ -165,24 +174,28 @@ module _ {A : Type 0} where
   upto-next {lo} {hi} {pitch} {plane} {x0} {p} {g} {l} {row} {c} {i} {w} d pl u below value =
       record {
         done = stored
-          ∙ ap (each (between i (i + 1) (inRow x0 p g))) (u .done)
-          ∙ advance-at d F (inRow x0 p g) (c * p) ((c + max pitch 1) * p) i (i + 1) l (omega (arith, u .place)) (omega (arith, u .place, step, wide))
-          (omega (arith, step))
-          (λ j a b q. step-at lo hi pitch plane x0 p g c i (u .number) pl (u .here) (u .place) in-hi j (getD l j d) a b);
+            ∙ ap (each (between i (i + 1) (inRow x0 p g))) (u .done)
+            ∙ advance-at d F (inRow x0 p g) (c * p) ((c + max pitch 1) * p) i (i + 1) l (omega (arith, u .place)) (omega (arith, u .place, step, wide))
+            (omega (arith, step))
+            (λ j a b q. step-at lo hi pitch plane x0 p g c i (u .number) pl (u .here) (u .place) in-hi j (getD l j d) a b);
         number = u .number + 1;
         here = omega (arith, u .here, add-mul (u .number) 1 (max pitch 1));
         place = omega (arith, u .place, step);
-        same = length-set row i w ∙ u .same
+        same = length-set row i w ∙ u .same;
       }
     where
       F : ℕ → A → A
       F = inRow x0 p (onColumns lo hi pitch plane 1 g)
+
       step : (c + max pitch 1) * p ≡ c * p + max pitch 1 * p
       step = add-mul c (max pitch 1) p
+
       wide : 1 * p ≤ max pitch 1 * p
       wide = mul-le-mul-right p (omega arith)
+
       in-hi : x0 + c < hi
       in-hi = let q : c < hi - x0 = lt-of-mul-lt-mul-right p (omega (arith, u .place)) in omega arith
+
       stored : set row i w ≡ each (between i (i + 1) (inRow x0 p g)) row
       stored =
           store d (inRow x0 p g) i i row row w (sym (each-between-empty i i (inRow x0 p g) row (omega arith)))
@@ -204,8 +217,10 @@ module _ {A : Type 0} where
     where
       F : ℕ → A → A
       F = inRow x0 p (onColumns lo hi pitch plane 1 g)
+
       pos : 0 < p
       pos = omega arith
+
       left : (j : ℕ) (v : A) → j < length l → c * p ≤ j → F j v ≡ v
       left j v h q =
           let from : c ≤ j / p = le-div-iff-mul-le pos .1 q in
@@ -292,8 +307,10 @@ module _ {A : Type 0} where
     where
       a : ℕ
       a = (lo - x0) * p
+
       e : ℕ
       e = min (length l) ((hi - x0) * p)
+
       at : (i : ℕ) (v : A) → i < length l → between a e (inRow x0 p g) i v ≡ inRow x0 p (onColumns lo hi pitch plane planes g) i v
       at i v h =
           let x : ℕ = x0 + i / p in
