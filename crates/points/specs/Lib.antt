@@ -1,2 +1,6 @@
 pub mod Points
 pub mod Select
+<<<<<<< HEAD
+=======
+pub mod Worked
+>>>>>>> points
