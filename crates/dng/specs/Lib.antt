@@ -4,4 +4,5 @@ pub mod Value
 pub mod Repair
 pub mod Run
 pub mod Answer
+pub mod Bounds
 pub mod Frames

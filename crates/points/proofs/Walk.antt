@@ -9,15 +9,10 @@ use native.Mathlib.Omega.{arith}
 use lib.Arith.{digits-div, digits-mod}
 use lib.ListN.{length, getD, set, length-set}
 use Rattle.points.specs.Points.{each, before, between}
-use Rattle.points.specs.Select.{selects, inRow, onColumns}
+use Rattle.points.specs.Select.{selects, inRow, onColumns, First}
 use Rattle.points.proofs.Each.{below-or, length-each, each-agree, each-none, each-each}
 use Rattle.points.proofs.Parts.{before-in, before-out, between-in, between-low, between-high, each-between-empty, advance-at, store}
 use Rattle.points.proofs.Select.{selects-at, selects-low, selects-high, selects-gap, selects-number, on-plane, on-in, on-unselected, on-below, on-above}
-
--- x0 + col is the n-th selected column counted from lo, and none before it is at or past x0
-pub record First (lo pitch x0 col n : ℕ) : Type 0 where
-  pub here : x0 + col ≡ lo + n * max pitch 1
-  pub none : (hi x : ℕ) → x0 ≤ x → x < x0 + col → selects lo hi pitch x ≡ false
 
 pub first-near : (lo pitch x0 col n : ℕ) → x0 + col ≡ lo + n * max pitch 1 → (0 < n → col < max pitch 1) → First lo pitch x0 col n
 first-near lo pitch x0 col zero e near = record { here = e; none = λ hi x a b. selects-low lo hi pitch x (omega arith) }

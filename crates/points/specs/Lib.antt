@@ -1,6 +1,3 @@
 pub mod Points
 pub mod Select
-<<<<<<< HEAD
-=======
 pub mod Worked
->>>>>>> points
