@@ -3,12 +3,18 @@
 use mathlib.Core.Path.{_≡_, refl, sym, ap, ap₂, _∙_, subst}
 use mathlib.Core.List.{List, []}
 use Prim.Native.Nat.{ℕ, zero, suc, _+_, _-_, _*_, _/_, _%_, _^_, _≤_, _<_}
-use native.Mathlib.Nat.{add-zero, zero-add, add-suc, add-assoc, add-comm, mul-one, zero-mul, mul-comm, mul-assoc, add-mul, pow-zero, pow-suc, one-le-pow, mod-one, zero-lt-suc, le-trans, le-add-right}
+use native.Mathlib.Nat.{add-zero, zero-add, add-suc, add-assoc, add-comm, mul-one, zero-mul, mul-comm, mul-assoc, add-mul, pow-zero, pow-suc, one-le-pow, mul-pos, mul-div-cancel, mul-mod-left, zero-lt-suc, le-trans, le-add-right}
 use native.Mathlib.Omega.{arith}
 use lib.ListN.{length, getD, set, take, drop, length-set, length-drop, List·getD-eq-default}
 use lib.Seq.{take-all, getD-take, getD-drop, getD-set-same, getD-set-other, set-out}
 use lib.Arith.{digits-lt, digits-div, digits-mod, mod-mul}
-use lib.Pow.{pow-add}
+use lib.Pow.{pow-add, pow-pos}
+use borrow.Author.Tests.{lt-ltb, le-ltb}
+use mathlib.Core.Bool.{Bool, true, false, not}
+use lib.Dec.{T}
+use lib.Ieee.Compare.{differs-from-itself, nan-differs}
+use lib.Ieee.Bits.{nanBits-is, nanBits-above}
+use lib.Ieee.{Float, nan, inf, fin, Format, binary32, binary64, prec, ones, hid, top, ofBits, toBits, nanBits, isNan, div, ne}
 use Rattle.words.specs.Words.{big, little, put}
 
 -- every element is a byte; past the end it is 0
@@ -105,3 +111,45 @@ tail k s a = simp (take-all (length s - a) (drop a s) (simp length-drop (omega a
 
 pub past : (k : ℕ) (s : List ℕ) (at : ℕ) → length s ≤ at → big k s at ≡ 0
 past k s at h = same k s [] at 0 (λ i l. List·getD-eq-default s 0 (omega arith)) ∙ none k
+
+-- ---- which patterns are a NaN's, over the format: twice the pattern without its sign is above twice the infinity's
+
+doubled : (n c : ℕ) → 0 < c → (n + n) % (2 * c) ≡ 2 * (n % c)
+doubled n c h =
+    let e : n + n ≡ n * 2 = omega arith in
+    simp (e, mul-comm 2 c, mod-mul (n * 2) h (zero-lt-suc 1), mul-div-cancel n (zero-lt-suc 1), mul-mod-left n 2, add-zero) (mul-comm (n % c) 2)
+
+halved : (m x y : ℕ) → x ≡ 2 * y → (2 * m < x → m < y) × (x ≤ 2 * m → y ≤ m)
+halved m x y e = omega arith
+
+tested : (f : Format) (n : ℕ) → (2 * (ones f * hid f) < (n + n) % (2 * top f) → ones f * hid f < n % top f) × ((n + n) % (2 * top f) ≤ 2 * (ones f * hid f) → n % top f ≤ ones f * hid f)
+tested f n = halved (ones f * hid f) ((n + n) % (2 * top f)) (n % top f) (doubled n (top f) (mul-pos (pow-pos (prec f - 1)) (zero-lt-suc (ones f))))
+
+only-nan : (x : Float) → isNan x ≡ true → x ≡ nan
+unfolding isNan
+only-nan nan e = refl
+only-nan (inf s) e = absurd (subst (λ (b : Bool). T (not b)) e tt)
+only-nan (fin s m k) e = absurd (subst (λ (b : Bool). T (not b)) e tt)
+
+nought : (f : Format) → div f (ofBits f 0) (ofBits f 0) ≡ nan
+unfolding div ofBits
+nought binary32 = refl
+nought binary64 = refl
+
+pub is-nan : (f : Format) (n : ℕ) {x : ℕ} → x ≡ (n + n) % (2 * top f) → 2 * (ones f * hid f) < x → div f (ofBits f 0) (ofBits f 0) ≡ ofBits f n
+is-nan f n e h =
+    nought f ∙ sym (only-nan (ofBits f n) (sym (nanBits-is f n) ∙ nanBits-above f n ∙ lt-ltb _ _ (tested f n .0 (rw e at h))))
+
+pub no-nan : (f : Format) (n : ℕ) {x : ℕ} → x ≡ (n + n) % (2 * top f) → x ≤ 2 * (ones f * hid f) → T (not (nanBits f n))
+no-nan f n e h = subst (λ (b : Bool). T (not b)) (sym (nanBits-above f n ∙ le-ltb _ _ (tested f n .1 (rw e at h)))) tt
+
+-- a float that differs from itself, as `x != x` tests it, is the NaN, and has the fixed pattern; any other has its own
+pub nan-bits : (f : Format) (x : Float) → ne x x ≡ true → toBits f x ≡ ones f * hid f + hid f / 2
+unfolding toBits
+nan-bits f x e = ap (toBits f) (differs-from-itself x (subst T (sym e) tt))
+
+pub own-bits : (x : Float) → ne x x ≡ false → T (not (isNan x))
+unfolding isNan
+own-bits nan e = subst (λ (b : Bool). T (not b)) (sym (sym nan-differs ∙ e)) tt
+own-bits (inf s) e = tt
+own-bits (fin s m k) e = tt

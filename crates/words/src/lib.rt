@@ -95,3 +95,37 @@ pub fn u64_at(s: &[u8], at: usize) -> u64
 {
     if at < less(s.len(), 7) { eight(s, at) } else { edge(s, at) }
 }
+
+// ---- floats by their bits
+
+// Twice the pattern, cut to 32 bits, drops the sign: above twice the infinity's it is a NaN's. All of those give the one NaN.
+pub fn f32_of(bits: u32) -> f32
+    ensures { λ r. ⌜ r ≡ ofBits binary32 bits ⌝ }
+{
+    if std::num::wrapping_add_u32(bits, bits) > 0xff00_0000 { 0.0 / 0.0 } else { f32::from_bits(bits) }
+}
+
+pub fn f64_of(bits: u64) -> f64
+    ensures { λ r. ⌜ r ≡ ofBits binary64 bits ⌝ }
+{
+    if std::num::wrapping_add_u64(bits, bits) > 0xffe0_0000_0000_0000 { 0.0 / 0.0 } else { f64::from_bits(bits) }
+}
+
+// The pattern of x, for NaN the fixed one of the definition.
+pub fn bits_of(x: f32) -> u32
+    ensures { λ r. ⌜ r ≡ toBits binary32 x ⌝ }
+{
+    if x != x { 0x7fc0_0000 } else { f32::to_bits(x) }
+}
+
+pub fn f32_at(s: &[u8], at: usize) -> f32
+    ensures { λ r. ⌜ r ≡ ofBits binary32 (big 4 (now (s .entry)) at) ⌝ }
+{
+    f32_of(u32_at(s, at))
+}
+
+pub fn f64_at(s: &[u8], at: usize) -> f64
+    ensures { λ r. ⌜ r ≡ ofBits binary64 (big 8 (now (s .entry)) at) ⌝ }
+{
+    f64_of(u64_at(s, at))
+}
