@@ -51,49 +51,45 @@ fn eight(s: &[u8], at: usize) -> u64
 
 // ---- big-endian, the word across or past the end
 
-// Four bytes of what is left of a list, each 0 where there is none.
-fn half(t: &[u8], at: usize) -> u32
-    requires { ⌜ at ≤ 4 ⌝ }
-    ensures { λ r. ⌜ r ≡ big 4 (now (t .entry)) at ⌝ }
+fn pair(s: &[u8], at: usize) -> u16
+    requires { ⌜ at ≤ length (now s) + 6 ⌝ }
+    ensures { λ r. ⌜ r ≡ big 2 (now (s .entry)) at ⌝ }
 {
-    if at < less(t.len(), 3) {
-        four(t, at)
-    } else {
-        (((byte(t, at) * 256 + byte(t, at + 1)) * 256 + byte(t, at + 2)) * 256 + byte(t, at + 3)) as u32
-    }
+    if at < less(s.len(), 1) { two(s, at) } else { (byte(s, at) * 256 + byte(s, at + 1)) as u16 }
 }
 
-// Its first eight. One function for the three widths, so that it stays apart from the readers that call it, which are then small enough to inline.
-fn head(t: &[u8]) -> u64
-    ensures { λ r. ⌜ r ≡ big 8 (now (t .entry)) 0 ⌝ }
+fn half(s: &[u8], at: usize) -> u32
+    requires { ⌜ at ≤ length (now s) + 4 ⌝ }
+    ensures { λ r. ⌜ r ≡ big 4 (now (s .entry)) at ⌝ }
 {
-    (half(t, 0) as u64) * 0x1_0000_0000 + half(t, 4) as u64
+    if at < less(s.len(), 3) { four(s, at) } else { (pair(s, at) as u32) * 65536 + pair(s, at + 2) as u32 }
 }
 
+// Eight bytes from at on. The three widths share it, so that it stays a function of its own and the readers stay small enough to inline.
 fn edge(s: &[u8], at: usize) -> u64
     ensures { λ r. ⌜ r ≡ big 8 (now (s .entry)) at ⌝ }
 {
-    if at < s.len() { head(&s[at..]) } else { 0 }
+    if at < s.len() { (half(s, at) as u64) * 0x1_0000_0000 + half(s, at + 4) as u64 } else { 0 }
 }
 
-// ---- big-endian, at any position
+// ---- big-endian, at any position. The slice is lent anew, `&s[..]`, on the rare way only: on the common way it then never leaves the registers.
 
 pub fn u16_at(s: &[u8], at: usize) -> u16
     ensures { λ r. ⌜ r ≡ big 2 (now (s .entry)) at ⌝ }
 {
-    if at < less(s.len(), 1) { two(s, at) } else { (edge(s, at) / 0x1_0000_0000_0000) as u16 }
+    if at < less(s.len(), 1) { two(s, at) } else { (edge(&s[..], at) / 0x1_0000_0000_0000) as u16 }
 }
 
 pub fn u32_at(s: &[u8], at: usize) -> u32
     ensures { λ r. ⌜ r ≡ big 4 (now (s .entry)) at ⌝ }
 {
-    if at < less(s.len(), 3) { four(s, at) } else { (edge(s, at) / 0x1_0000_0000) as u32 }
+    if at < less(s.len(), 3) { four(s, at) } else { (edge(&s[..], at) / 0x1_0000_0000) as u32 }
 }
 
 pub fn u64_at(s: &[u8], at: usize) -> u64
     ensures { λ r. ⌜ r ≡ big 8 (now (s .entry)) at ⌝ }
 {
-    if at < less(s.len(), 7) { eight(s, at) } else { edge(s, at) }
+    if at < less(s.len(), 7) { eight(s, at) } else { edge(&s[..], at) }
 }
 
 // ---- floats by their bits

@@ -8,27 +8,27 @@ use Rattle.words.proofs.edge.Reads as edge-reads
 use Rattle.words.proofs.less.Reads as less-reads
 use Rattle.words.proofs.two.Reads as two-reads
 
--- src/lib.rt:84:13
+-- src/lib.rt:80:13
 less-requires : tie.Need-less-requires
 less-requires c κs = search needs
 
--- src/lib.rt:84:32
+-- src/lib.rt:80:32
 two-requires : tie.Need-two-requires
 two-requires c κs = search needs
 
--- src/lib.rt:84:53
+-- src/lib.rt:80:53
 edge-requires : tie.Need-edge-requires
 edge-requires c κs = search needs
 
--- src/lib.rt:84:52
+-- src/lib.rt:80:52
 cast-result : tie.Need-cast-result
 cast-result c = search needs
 
--- src/lib.rt:81:1
+-- src/lib.rt:77:1
 returns : tie.Need-returns
 returns c = search needs
 
--- src/lib.rt:81:1
+-- src/lib.rt:77:1
 returns-2 : tie.Need-returns-2
 returns-2 c = first _ (λ i. c .before .before .before .shared-slice-known .given i .fits) 2 6 _ (c .edge .ensures)
 

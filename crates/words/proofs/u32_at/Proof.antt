@@ -8,27 +8,27 @@ use Rattle.words.proofs.edge.Reads as edge-reads
 use Rattle.words.proofs.four.Reads as four-reads
 use Rattle.words.proofs.less.Reads as less-reads
 
--- src/lib.rt:90:13
+-- src/lib.rt:86:13
 less-requires : tie.Need-less-requires
 less-requires c κs = search needs
 
--- src/lib.rt:90:32
+-- src/lib.rt:86:32
 four-requires : tie.Need-four-requires
 four-requires c κs = search needs
 
--- src/lib.rt:90:54
+-- src/lib.rt:86:54
 edge-requires : tie.Need-edge-requires
 edge-requires c κs = search needs
 
--- src/lib.rt:90:53
+-- src/lib.rt:86:53
 cast-result : tie.Need-cast-result
 cast-result c = search needs
 
--- src/lib.rt:87:1
+-- src/lib.rt:83:1
 returns : tie.Need-returns
 returns c = search needs
 
--- src/lib.rt:87:1
+-- src/lib.rt:83:1
 returns-2 : tie.Need-returns-2
 returns-2 c = first _ (λ i. c .before .before .before .shared-slice-known .given i .fits) 4 4 _ (c .edge .ensures)
 
