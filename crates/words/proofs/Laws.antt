@@ -3,7 +3,7 @@
 use mathlib.Core.Path.{_≡_, refl, sym, ap, ap₂, _∙_, subst}
 use mathlib.Core.List.{List, []}
 use Prim.Native.Nat.{ℕ, zero, suc, _+_, _-_, _*_, _/_, _%_, _^_, _≤_, _<_}
-use native.Mathlib.Nat.{add-zero, zero-add, add-suc, add-assoc, add-comm, mul-one, zero-mul, mul-comm, mul-assoc, add-mul, pow-zero, pow-suc, one-le-pow, mul-pos, mul-div-cancel, mul-mod-left, zero-lt-suc, le-trans, le-add-right}
+use native.Mathlib.Nat.{add-zero, zero-add, add-suc, add-assoc, add-comm, mul-one, zero-mul, mul-comm, mul-assoc, add-mul, pow-zero, pow-suc, one-le-pow, mul-pos, mul-div-cancel, mul-mod-left, div-one, mod-one, zero-lt-suc, le-trans, le-add-right}
 use native.Mathlib.Omega.{arith}
 use lib.ListN.{length, getD, set, take, drop, length-set, length-drop, List·getD-eq-default}
 use lib.Seq.{take-all, getD-take, getD-drop, getD-set-same, getD-set-other, set-out}
@@ -103,14 +103,72 @@ part k s n a at h = same k (take n (drop a s)) s at (a + at) (inside k s n a at 
 pub little-part : (k : ℕ) (s : List ℕ) (n a at : ℕ) → at + k ≤ n → little k (take n (drop a s)) at ≡ little k s (a + at)
 little-part k s n a at h = little-same k (take n (drop a s)) s at (a + at) (inside k s n a at h)
 
+whole : (s : List ℕ) (a : ℕ) → take (length s - a) (drop a s) ≡ drop a s
+whole s a = take-all (length s - a) (drop a s) (simp length-drop (omega arith))
+
+pub little-rest : (k : ℕ) (s : List ℕ) (a at : ℕ) → little k (drop a s) at ≡ little k s (a + at)
+little-rest k s a at = little-same k (drop a s) s at (a + at) (λ i l. getD-drop a s (at + i) 0 ∙ simp add-assoc)
+
 pub rest : (k : ℕ) (s : List ℕ) (a at : ℕ) → big k (drop a s) at ≡ big k s (a + at)
 rest k s a at = same k (drop a s) s at (a + at) (λ i l. getD-drop a s (at + i) 0 ∙ simp add-assoc)
 
-pub tail : (k : ℕ) (s : List ℕ) (a : ℕ) → big k (take (length s - a) (drop a s)) 0 ≡ big k s a
-tail k s a = simp (take-all (length s - a) (drop a s) (simp length-drop (omega arith)), rest k s a 0, add-zero)
+pub tail : (k : ℕ) (s : List ℕ) (a at : ℕ) → big k (take (length s - a) (drop a s)) at ≡ big k s (a + at)
+tail k s a at = ap (λ (l : List ℕ). big k l at) (whole s a) ∙ rest k s a at
+
+pub little-tail : (k : ℕ) (s : List ℕ) (a at : ℕ) → little k (take (length s - a) (drop a s)) at ≡ little k s (a + at)
+little-tail k s a at = ap (λ (l : List ℕ). little k l at) (whole s a) ∙ little-rest k s a at
+
+pub little-past : (k : ℕ) (s : List ℕ) (at : ℕ) → length s ≤ at → little k s at ≡ 0
+little-past k s at h = little-same k s [] at 0 (λ i l. List·getD-eq-default s 0 (omega arith)) ∙ little-none k
 
 pub past : (k : ℕ) (s : List ℕ) (at : ℕ) → length s ≤ at → big k s at ≡ 0
 past k s at h = same k s [] at 0 (λ i l. List·getD-eq-default s 0 (omega arith)) ∙ none k
+
+-- ---- what was put
+
+pub put-one : (s : List ℕ) (at n : ℕ) → set s at (n % 256) ≡ put 1 s at n
+unfolding put
+put-one s at n = simp (add-zero, div-one)
+
+pub put-next : (k : ℕ) (s : List ℕ) (at n : ℕ) {l : List ℕ} → l ≡ put k s at n → set l (at + k) (n / 256 ^ k % 256) ≡ put (suc k) s at n
+unfolding put
+put-next k s at n e = ap (λ (l : List ℕ). set l (at + k) (n / 256 ^ k % 256)) e
+
+pub put-past : (k : ℕ) (s : List ℕ) (at n : ℕ) → length s ≤ at → put k s at n ≡ s
+unfolding put
+put-past zero s at n h = refl
+put-past (suc k) s at n h = simp (put-past k s at n h) (set-out s (at + k) (n / 256 ^ k % 256) (omega arith))
+
+pub length-put : (k : ℕ) (s : List ℕ) (at n : ℕ) → length (put k s at n) ≡ length s
+unfolding put
+length-put zero s at n = refl
+length-put (suc k) s at n = length-set (put k s at n) (at + k) (n / 256 ^ k % 256) ∙ length-put k s at n
+
+-- the other places are as they were
+pub put-before : (k : ℕ) (s : List ℕ) (at n i : ℕ) → i < at → getD (put k s at n) i 0 ≡ getD s i 0
+unfolding put
+put-before zero s at n i h = refl
+put-before (suc k) s at n i h = getD-set-other (put k s at n) (at + k) i (n / 256 ^ k % 256) 0 (omega arith) ∙ put-before k s at n i h
+
+pub put-after : (k : ℕ) (s : List ℕ) (at n i : ℕ) → at + k ≤ i → getD (put k s at n) i 0 ≡ getD s i 0
+unfolding put
+put-after zero s at n i h = refl
+put-after (suc k) s at n i h = getD-set-other (put k s at n) (at + k) i (n / 256 ^ k % 256) 0 (omega arith) ∙ put-after k s at n i (omega arith)
+
+-- and the word that was put is read back
+pub put-read : (k : ℕ) (s : List ℕ) (at n : ℕ) → at + k ≤ length s → little k (put k s at n) at ≡ n % 256 ^ k
+unfolding put little
+put-read zero s at n h = simp (pow-zero, mod-one)
+put-read (suc k) s at n h =
+    let l = put k s at n in
+    let d = n / 256 ^ k % 256 in
+    let inside : at + k < length l = rw length-put (omega arith) in
+    ap₂ (λ (x y : ℕ). x + y * 256 ^ k)
+    (little-same k (set l (at + k) d) l at at (λ i m. getD-set-other l (at + k) (at + i) d 0 (omega arith)) ∙ put-read k s at n (omega arith))
+    (getD-set-same l (at + k) d 0 inside)
+    ∙ add-comm (n % 256 ^ k) (d * 256 ^ k)
+    ∙ sym (mod-mul n (zero-lt-suc 255) (pos256 k))
+    ∙ ap (λ (x : ℕ). n % x) (mul-comm 256 (256 ^ k) ∙ sym (pow-suc 256 k))
 
 -- ---- which patterns are a NaN's, over the format: twice the pattern without its sign is above twice the infinity's
 

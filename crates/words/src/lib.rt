@@ -125,3 +125,119 @@ pub fn f64_at(s: &[u8], at: usize) -> f64
 {
     f64_of(u64_at(s, at))
 }
+
+// ---- little-endian samples
+
+fn two_low(s: &[u8], at: usize) -> u16
+    requires { ⌜ at + 2 ≤ length (now s) ⌝ }
+    ensures { λ r. ⌜ r ≡ little 2 (now (s .entry)) at ⌝ }
+{
+    (wide(s[at]) + wide(s[at + 1]) * 256) as u16
+}
+
+fn four_low(s: &[u8], at: usize) -> u32
+    requires { ⌜ at + 4 ≤ length (now s) ⌝ }
+    ensures { λ r. ⌜ r ≡ little 4 (now (s .entry)) at ⌝ }
+{
+    (wide(s[at]) + wide(s[at + 1]) * 256 + wide(s[at + 2]) * 0x1_0000 + wide(s[at + 3]) * 0x100_0000) as u32
+}
+
+fn edge_low(s: &[u8], at: usize) -> u32
+    ensures { λ r. ⌜ r ≡ little 4 (now (s .entry)) at ⌝ }
+{
+    if at < s.len() {
+        (byte(s, at) + byte(s, at + 1) * 256 + byte(s, at + 2) * 0x1_0000 + byte(s, at + 3) * 0x100_0000) as u32
+    } else {
+        0
+    }
+}
+
+pub fn u16_from(s: &[u8], at: usize) -> u16
+    ensures { λ r. ⌜ r ≡ little 2 (now (s .entry)) at ⌝ }
+{
+    if at < less(s.len(), 1) { two_low(s, at) } else { (edge_low(&s[..], at) % 0x1_0000) as u16 }
+}
+
+fn u32_from(s: &[u8], at: usize) -> u32
+    ensures { λ r. ⌜ r ≡ little 4 (now (s .entry)) at ⌝ }
+{
+    if at < less(s.len(), 3) { four_low(s, at) } else { edge_low(&s[..], at) }
+}
+
+pub fn f32_from(s: &[u8], at: usize) -> f32
+    ensures { λ r. ⌜ r ≡ ofBits binary32 (little 4 (now (s .entry)) at) ⌝ }
+{
+    f32_of(u32_from(s, at))
+}
+
+fn put_two(s: &mut [u8], at: usize, n: u16)
+    requires { ⌜ at + 2 ≤ length (now s) ⌝ }
+    ensures { λ _. ⌜ now (s .exit) ≡ put 2 (now (s .entry)) at n ⌝ }
+{
+    s[at] = (n % 256) as u8;
+    s[at + 1] = (n / 256 % 256) as u8;
+}
+
+fn put_four(s: &mut [u8], at: usize, n: u32)
+    requires { ⌜ at + 4 ≤ length (now s) ⌝ }
+    ensures { λ _. ⌜ now (s .exit) ≡ put 4 (now (s .entry)) at n ⌝ }
+{
+    s[at] = (n % 256) as u8;
+    s[at + 1] = (n / 256 % 256) as u8;
+    s[at + 2] = (n / 0x1_0000 % 256) as u8;
+    s[at + 3] = (n / 0x100_0000 % 256) as u8;
+}
+
+fn put_byte(s: &mut [u8], at: usize, b: u8)
+    ensures { λ _. ⌜ now (s .exit) ≡ set (now (s .entry)) at b ⌝ }
+{
+    if at < s.len() {
+        s[at] = b;
+    }
+}
+
+fn edge_put_two(s: &mut [u8], at: usize, n: u16)
+    ensures { λ _. ⌜ now (s .exit) ≡ put 2 (now (s .entry)) at n ⌝ }
+{
+    if at < s.len() {
+        put_byte(s, at, (n % 256) as u8);
+        put_byte(s, at + 1, (n / 256 % 256) as u8);
+    }
+}
+
+fn edge_put_four(s: &mut [u8], at: usize, n: u32)
+    ensures { λ _. ⌜ now (s .exit) ≡ put 4 (now (s .entry)) at n ⌝ }
+{
+    if at < s.len() {
+        put_byte(s, at, (n % 256) as u8);
+        put_byte(s, at + 1, (n / 256 % 256) as u8);
+        put_byte(s, at + 2, (n / 0x1_0000 % 256) as u8);
+        put_byte(s, at + 3, (n / 0x100_0000 % 256) as u8);
+    }
+}
+
+pub fn put_u16(s: &mut [u8], at: usize, n: u16)
+    ensures { λ _. ⌜ now (s .exit) ≡ put 2 (now (s .entry)) at n ⌝ }
+{
+    if at < less(s.len(), 1) {
+        put_two(s, at, n);
+    } else {
+        edge_put_two(s, at, n);
+    }
+}
+
+fn put_u32(s: &mut [u8], at: usize, n: u32)
+    ensures { λ _. ⌜ now (s .exit) ≡ put 4 (now (s .entry)) at n ⌝ }
+{
+    if at < less(s.len(), 3) {
+        put_four(s, at, n);
+    } else {
+        edge_put_four(s, at, n);
+    }
+}
+
+pub fn put_f32(s: &mut [u8], at: usize, x: f32)
+    ensures { λ _. ⌜ now (s .exit) ≡ put 4 (now (s .entry)) at (toBits binary32 x) ⌝ }
+{
+    put_u32(s, at, bits_of(x));
+}
