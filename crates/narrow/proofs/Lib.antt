@@ -1,0 +1,4 @@
+pub mod Ties
+pub mod Patterns
+pub mod Rounding
+pub mod Cases
