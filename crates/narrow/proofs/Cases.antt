@@ -101,7 +101,7 @@ bit-same q m = omega arith
 div-more : (q m e : ℕ) → (q + m * 2 ^ 30 + 0x0fff_ffff + e) / 2 ^ 29 ≡ (q + 0x0fff_ffff + e) / 2 ^ 29 + m * 2
 div-more q m e = omega arith
 
-rounded-more : (q m : ℕ) → rounded (q + m * 2 ^ 30) ≡ m * 2 ^ 30 + rounded q
+pub rounded-more : (q m : ℕ) → rounded (q + m * 2 ^ 30) ≡ m * 2 ^ 30 + rounded q
 rounded-more q m =
     ap (λ (e : ℕ). (q + m * 2 ^ 30 + 0x0fff_ffff + e) / 2 ^ 29 * 2 ^ 29) (bit-same q m)
     ∙ ap (λ (z : ℕ). z * 2 ^ 29) (div-more q m (q / 2 ^ 29 % 2))

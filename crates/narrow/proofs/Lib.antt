@@ -2,3 +2,4 @@ pub mod Ties
 pub mod Patterns
 pub mod Rounding
 pub mod Cases
+pub mod Sign
