@@ -1,25 +1,20 @@
--- `narrow` by the f64's pattern a without its sign, in the four ranges that the code tells apart: to zero, to a subnormal f32, to a normal one, past the range.
-use mathlib.Core.Path.{_≡_, refl, sym, ap, _∙_, subst}
+-- `narrow` by the f64's pattern a without its sign, in the four ranges that the code tells apart: to zero, to a subnormal f32, to a normal
+-- one, past the range.
+use mathlib.Core.Path.{_≡_, sym, ap, _∙_, subst}
 use mathlib.Core.Logic.{_⊎_, inl, inr}
 use Prim.Native.Nat.{ℕ, zero, suc, _+_, _-_, _*_, _/_, _%_, _^_, _≤_, _<_}
-use native.Mathlib.Nat.{div-add-mod', eq-or-lt-of-le, le-of-eq, le-trans, mod-lt, mul-le-mul-right, pow-suc}
+use native.Mathlib.Nat.{div-add-mod', eq-or-lt-of-le, le-of-eq, le-trans, mod-lt, mul-le-mul-right}
 use native.Mathlib.Omega.{arith}
-use mathlib.Core.Bool.{Bool, true, false, cond}
-use lib.Dec.{lit<, lit≤}
+use mathlib.Core.Bool.{Bool}
+use lib.Dec.{lit<}
 use lib.Pow.{pow-pos, pow-mono}
-use lib.Ieee.{Float, inf, binary32, binary64, ofBits}
+use lib.Ieee.{inf}
 use lib.Ieee.Nearest.{closest}
 use Rattle.narrow.specs.Narrow.{narrow}
 use Rattle.narrow.proofs.Ties.{closest-is, closest-none}
-use Rattle.narrow.proofs.Patterns.{either, units-over, wide-pattern}
-use Rattle.narrow.proofs.Rounding.{narrow-sub, narrow-low, narrow-mid, narrow-over, narrow-units, narrow-inf, mid-lo, mid-hi, lead-lo, lead-hi}
-
--- the f64 and the f32 of a sign and a pattern without it
-abbrev pub from64 : Bool → ℕ → Float
-from64 s a = ofBits binary64 (cond s (2 ^ 63) 0 + a)
-
-abbrev pub from32 : Bool → ℕ → Float
-from32 s r = ofBits binary32 (cond s (2 ^ 31) 0 + r)
+use Rattle.narrow.proofs.Patterns.{either, from32, from64, units-over, wide-pattern}
+use Rattle.narrow.proofs.Rounding.{narrow-sub, narrow-low, narrow-mid, narrow-over, narrow-units, narrow-inf, mid-lo, mid-hi}
+use Rattle.narrow.proofs.Rounding.{lead-lo, lead-hi}
 
 -- r is the pattern of the f32 nearest to the f64 of the pattern a, whichever the sign
 abbrev pub Narrows : ℕ → ℕ → Type 0
@@ -33,7 +28,10 @@ digits a = mod-lt a (pow-pos 52)
 
 -- ---- up to half of the smallest f32, a tie to the even 0
 pub to-zero : (a : ℕ) → a ≤ 0x3690_0000_0000_0000 → Narrows a 0
-to-zero a h s = sym (ap (λ (z : ℕ). narrow (from64 s z)) (sym (cut a)) ∙ go (a / 2 ^ 52) (a % 2 ^ 52) (digits a) (subst (λ (z : ℕ). z ≤ 0x3690_0000_0000_0000) (sym (cut a)) h))
+to-zero a h s =
+    sym
+    (ap (λ (z : ℕ). narrow (from64 s z)) (sym (cut a))
+    ∙ go (a / 2 ^ 52) (a % 2 ^ 52) (digits a) (subst (λ (z : ℕ). z ≤ 0x3690_0000_0000_0000) (sym (cut a)) h))
   where
     step : (x : ℕ) → x ≤ 872 → x + (925 - x) ≡ 925
     step x h = omega arith
@@ -63,7 +61,8 @@ to-zero a h s = sym (ap (λ (z : ℕ). narrow (from64 s z)) (sym (cut a)) ∙ go
     go zero t T h = narrow-sub s t T
     go (suc x) t T h =
         let X = field x t h in
-        narrow-low s x t (925 - x) T (step x X) (drops x X) ∙ ap (λ (z : ℕ). from32 s z) (closest-none (2 ^ 52 + t) (2 ^ (925 - x)) (pow-pos (925 - x)) (half x t T h))
+        narrow-low s x t (925 - x) T (step x X) (drops x X)
+        ∙ ap (λ (z : ℕ). from32 s z) (closest-none (2 ^ 52 + t) (2 ^ (925 - x)) (pow-pos (925 - x)) (half x t T h))
 
 -- ---- to a subnormal f32, or up to the smallest normal one: 926 less the exponent's field of the significand's digits are dropped
 pub to-subnormal : (a : ℕ) → 2 ^ 52 ≤ a → a < 0x3810_0000_0000_0000 → Narrows a (closest (2 ^ 52 + a % 2 ^ 52) (2 ^ (926 - a / 2 ^ 52)))
@@ -141,7 +140,11 @@ module _ (a : ℕ) (lo : 0x3810_0000_0000_0000 ≤ a) (hi : a < 0x47ef_ffff_f000
   lead = omega arith
 
   again : (i + 896) * 2 ^ 52 + c * 2 ^ 29 ≡ rounded a
-  again = ap (λ (z : ℕ). (i + 896) * 2 ^ 52 + z * 2 ^ 29) c-is ∙ ap (λ (z : ℕ). z + rounded q) (spread i) ∙ sym (rounded-more q ((i + 896) * 2 ^ 22)) ∙ ap rounded lead
+  again =
+      ap (λ (z : ℕ). (i + 896) * 2 ^ 52 + z * 2 ^ 29) c-is
+      ∙ ap (λ (z : ℕ). z + rounded q) (spread i)
+      ∙ sym (rounded-more q ((i + 896) * 2 ^ 22))
+      ∙ ap rounded lead
     where
       spread : (i : ℕ) → (i + 896) * 2 ^ 52 ≡ (i + 896) * 2 ^ 22 * 2 ^ 30
       spread i = omega arith
@@ -152,7 +155,9 @@ module _ (a : ℕ) (lo : 0x3810_0000_0000_0000 ≤ a) (hi : a < 0x47ef_ffff_f000
 
   as64 : (s : Bool) → from64 s (rounded a) ≡ from32 s (i * 2 ^ 23 + c)
   unfolding c q
-  as64 s = ap (λ (z : ℕ). from64 s z) (sym again) ∙ wide-pattern s c i (mid-lo q (lead-lo (a % 2 ^ 52))) (mid-hi q (lead-hi (a % 2 ^ 52) (digits a))) places below
+  as64 s =
+      ap (λ (z : ℕ). from64 s z) (sym again)
+      ∙ wide-pattern s c i (mid-lo q (lead-lo (a % 2 ^ 52))) (mid-hi q (lead-hi (a % 2 ^ 52) (digits a))) places below
 
   pub to-normal : (s : Bool) → from64 s (rounded a) ≡ narrow (from64 s a)
   to-normal s = as64 s ∙ sym (as32 s)
@@ -188,7 +193,8 @@ to-infinity a lo hi s = go (eq-or-lt-of-le hi)
     carry : (q : ℕ) → 2 ^ 53 - 2 ^ 28 ≤ q → q < 2 ^ 53 → 2 ^ 24 ≤ closest q (2 ^ 29)
     carry q h k = le-trans (full q (q / 2 ^ 29 % 2) h (bit q h k)) (le-of-eq (sym (closest-is q (2 ^ 28) (lit< tt))))
 
-    finite : a < 0x7ff0_0000_0000_0000 → (a < 0x47f0_0000_0000_0000) ⊎ (0x47f0_0000_0000_0000 ≤ a) → narrow (from64 s ((a / 2 ^ 52 - 897 + 897) * 2 ^ 52 + t)) ≡ inf s
+    finite : a < 0x7ff0_0000_0000_0000 → (a < 0x47f0_0000_0000_0000) ⊎ (0x47f0_0000_0000_0000 ≤ a)
+        → narrow (from64 s ((a / 2 ^ 52 - 897 + 897) * 2 ^ 52 + t)) ≡ inf s
     finite l (inr h) = narrow-over s (a / 2 ^ 52 - 897) t (digits a) (high a h) (places a l)
     finite l (inl h) =
         narrow-units s (a / 2 ^ 52 - 897) t (digits a) (places a l)

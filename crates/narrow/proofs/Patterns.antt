@@ -1,8 +1,11 @@
--- Bit patterns and the numbers that they stand for: a pattern made of its fields, a count of the smallest f32 values as a pattern, and an f32 pattern as the f64 pattern of the same value.
+-- Bit patterns and the numbers that they stand for: a pattern made of its fields, a count of the smallest f32 values as a pattern, and an
+-- f32 pattern as the f64 pattern of the same value.
 use mathlib.Core.Path.{_≡_, refl, sym, ap, _∙_, subst}
 use mathlib.Core.Logic.{_⊎_, inl, inr}
 use Prim.Native.Nat.{ℕ, zero, suc, _+_, _-_, _*_, _/_, _%_, _^_, _≤_, _<_}
-use native.Mathlib.Nat.{add-mod-left, add-suc, add-zero, add-sub-of-le, div-div-eq-div-mul, div-lt-iff-lt-mul, eq-or-lt-of-le, le-add-right, le-of-suc-le-suc, lt-irrefl, lt-of-lt-of-le, lt-of-not-le, mod-eq-of-lt, mul-add-mod-self-left, mul-assoc, mul-comm, mul-div-cancel, mul-div-mul-right, mul-one, mul-pos, pow-suc, suc-add, suc-sub-suc, zero-add, zero-lt-suc, zero-mul}
+use native.Mathlib.Nat.{add-mod-left, add-suc, add-zero, add-sub-of-le, div-lt-iff-lt-mul, eq-or-lt-of-le, le-add-right, le-of-suc-le-suc}
+use native.Mathlib.Nat.{lt-irrefl, lt-of-lt-of-le, lt-of-not-le, mod-eq-of-lt, mul-add-mod-self-left, mul-comm, mul-div-mul-right, mul-one}
+use native.Mathlib.Nat.{mul-pos, pow-suc, suc-add, suc-sub-suc, zero-add, zero-lt-suc}
 use native.Mathlib.Decide.{decLt}
 use native.Mathlib.Omega.{arith}
 use mathlib.Core.Bool.{Bool, true, false, not, cond}
@@ -12,8 +15,15 @@ use lib.Arith.{digits-lt, digits-div, digits-mod, lt→nleb}
 use lib.Pow.{pow-add, pow-pos, pow-lt, pow-mono, shl-lt}
 use lib.Bits.{shifted-half, shifted-even}
 use lib.Count.{trailingZeros, under}
-use lib.Ieee.{Float, nan, inf, fin, Format, binary32, binary64, prec, emax, low, minus, odd, units, hid, ones, top, ofFields, ofBits}
+use lib.Ieee.{Float, nan, inf, fin, Format, binary32, binary64, prec, low, minus, odd, units, hid, ones, top, ofFields, ofBits}
 use lib.Ieee.Bits.{is-true, is-false, cond-no}
+
+-- the f64 and the f32 of a sign and a pattern without it
+abbrev pub from64 : Bool → ℕ → Float
+from64 s a = ofBits binary64 (cond s (2 ^ 63) 0 + a)
+
+abbrev pub from32 : Bool → ℕ → Float
+from32 s r = ofBits binary32 (cond s (2 ^ 31) 0 + r)
 
 pub either : (a b : ℕ) → (a < b) ⊎ (b ≤ a)
 either a b = go (decLt a b)
@@ -34,10 +44,12 @@ ofBits-is f b = refl
 small : (f : Format) (x t : ℕ) → x < suc (ones f) → t < hid f → x * hid f + t < top f
 small f x t X H = subst (λ (a : ℕ). x * hid f + t < a) (mul-comm (suc (ones f)) (hid f)) (digits-lt X H)
 
-pub fields : (f : Format) (s : Bool) (x t : ℕ) → x < suc (ones f) → t < hid f → ofBits f (cond s (top f) 0 + (x * hid f + t)) ≡ ofFields f s x t
+pub fields : (f : Format) (s : Bool) (x t : ℕ) → x < suc (ones f) → t < hid f
+    → ofBits f (cond s (top f) 0 + (x * hid f + t)) ≡ ofFields f s x t
 fields f true x t X H =
     ofBits-is f (top f + (x * hid f + t))
-    ∙ same f (is-true (leb (top f) (top f + (x * hid f + t))) (le→leb (top f) (top f + (x * hid f + t)) (le-add-right (top f) (x * hid f + t))))
+    ∙ same f
+    (is-true (leb (top f) (top f + (x * hid f + t))) (le→leb (top f) (top f + (x * hid f + t)) (le-add-right (top f) (x * hid f + t))))
     (ap (λ (a : ℕ). a / hid f) (add-mod-left (top f) (x * hid f + t) ∙ mod-eq-of-lt (small f x t X H)) ∙ digits-div x H)
     (mul-add-mod-self-left (hid f) (suc (ones f)) (x * hid f + t) ∙ digits-mod x H)
 fields f false x t X H =
@@ -56,14 +68,16 @@ at-zero f s t = refl
 
 under-ones : (f : Format) (s : Bool) (x t : ℕ) → suc x < ones f → ofFields f s (suc x) t ≡ odd (prec f) s (hid f + t) x (low f)
 unfolding ofFields
-under-ones f s x t h = cond-no (eqb (suc x) (ones f)) (cond (eqb t 0) (inf s) nan) (odd (prec f) s (hid f + t) x (low f)) (lt→neqb (suc x) (ones f) h)
+under-ones f s x t h =
+    cond-no (eqb (suc x) (ones f)) (cond (eqb t 0) (inf s) nan) (odd (prec f) s (hid f + t) x (low f)) (lt→neqb (suc x) (ones f) h)
 
 -- a field of 0: t smallest values
 pub low-fields : (f : Format) (s : Bool) (t : ℕ) → t < hid f → ofBits f (cond s (top f) 0 + (0 * hid f + t)) ≡ odd (prec f) s t 0 (low f)
 low-fields f s t H = fields f s 0 t (zero-lt-suc (ones f)) H ∙ at-zero f s t
 
 -- a field of x + 1 below the highest: (hid + t) * 2 ^ x smallest values
-pub mid-fields : (f : Format) (s : Bool) (x t : ℕ) → suc x < ones f → t < hid f → ofBits f (cond s (top f) 0 + (suc x * hid f + t)) ≡ odd (prec f) s (hid f + t) x (low f)
+pub mid-fields : (f : Format) (s : Bool) (x t : ℕ) → suc x < ones f → t < hid f
+    → ofBits f (cond s (top f) 0 + (suc x * hid f + t)) ≡ odd (prec f) s (hid f + t) x (low f)
 mid-fields f s x t X H = fields f s (suc x) t (more (suc x) (ones f) X) H ∙ under-ones f s x t X
   where
     more : (a b : ℕ) → a < b → a < suc b
@@ -77,12 +91,15 @@ tz-more zero q P h = absurd (none q P h)
   where
     none : (q : ℕ) → 0 < q → q < 1 → ⊥
     none q a b = omega arith
-tz-more (suc d) q P h = go (q % 2) refl (λ z. tz-more d (q / 2) (half-pos q P z) (div-lt-iff-lt-mul (zero-lt-suc 1) .1 (subst (λ (x : ℕ). q < x) (pow-suc 2 d) h)))
+tz-more (suc d) q P h =
+    let less : q / 2 < 2 ^ d = div-lt-iff-lt-mul (zero-lt-suc 1) .1 (subst (λ (x : ℕ). q < x) (pow-suc 2 d) h) in
+    go (q % 2) refl (λ z. tz-more d (q / 2) (half-pos q P z) less)
   where
     half-pos : (q : ℕ) → 0 < q → q % 2 ≡ 0 → 0 < q / 2
     half-pos q P z = omega arith
 
-    go : (r : ℕ) → q % 2 ≡ r → (q % 2 ≡ 0 → trailingZeros (suc d) (q / 2) ≡ trailingZeros d (q / 2)) → under r (trailingZeros (suc d) (q / 2)) ≡ under r (trailingZeros d (q / 2))
+    go : (r : ℕ) → q % 2 ≡ r → (q % 2 ≡ 0 → trailingZeros (suc d) (q / 2) ≡ trailingZeros d (q / 2))
+        → under r (trailingZeros (suc d) (q / 2)) ≡ under r (trailingZeros d (q / 2))
     go zero e ih = ap suc (ih e)
     go (suc r) e ih = refl
 
@@ -98,33 +115,38 @@ odd-more d s (suc q) k l h =
     ∙ ap (λ (t : ℕ). fin s (suc q / 2 ^ t) (minus (k + t) l)) (tz-more d (suc q) (zero-lt-suc q) h)
     ∙ sym (odd-pos d s (suc q) k l (zero-lt-suc q))
 
--- ---- q * 2 ^ k smallest f32 values, as `round` hands them on, are the pattern k * 2 ^ 23 + q: the leading digit of q adds one to the field.
+-- ---- q * 2 ^ k smallest f32 values, as `round` hands them on, are the pattern k * 2 ^ 23 + q: the leading digit of q adds one to the
+-- field.
 -- q = 2 ^ 24 carries into the next field, and at k = 253 that is the infinity
 
 units-in : (s : Bool) (q k : ℕ) → q * 2 ^ k < 2 ^ 277 → units binary32 s q k ≡ odd 25 s q k 149
 unfolding units
-units-in s q k h = ap (λ (b : Bool). cond b (odd 25 s q k 149) (inf s)) (is-true (ltb (q * 2 ^ k) (2 ^ 277)) (lt→ltb (q * 2 ^ k) (2 ^ 277) h))
+units-in s q k h =
+    ap (λ (b : Bool). cond b (odd 25 s q k 149) (inf s)) (is-true (ltb (q * 2 ^ k) (2 ^ 277)) (lt→ltb (q * 2 ^ k) (2 ^ 277) h))
 
 pub units-over : (s : Bool) (q k : ℕ) → 2 ^ 277 ≤ q * 2 ^ k → units binary32 s q k ≡ inf s
 unfolding units
-units-over s q k h = ap (λ (b : Bool). cond b (odd 25 s q k 149) (inf s)) (is-false (ltb (q * 2 ^ k) (2 ^ 277)) (lt→nleb (suc (q * 2 ^ k)) (2 ^ 277) (next (2 ^ 277) (q * 2 ^ k) h)))
+units-over s q k h =
+    ap (λ (b : Bool). cond b (odd 25 s q k 149) (inf s))
+    (is-false (ltb (q * 2 ^ k) (2 ^ 277)) (lt→nleb (suc (q * 2 ^ k)) (2 ^ 277) (next (2 ^ 277) (q * 2 ^ k) h)))
   where
     next : (a b : ℕ) → a ≤ b → a < suc b
     next a b h = omega arith
 
-as-low : (s : Bool) (q : ℕ) → q < 2 ^ 23 → units binary32 s q 0 ≡ ofBits binary32 (cond s (2 ^ 31) 0 + (0 * 2 ^ 23 + q))
+as-low : (s : Bool) (q : ℕ) → q < 2 ^ 23 → units binary32 s q 0 ≡ from32 s (0 * 2 ^ 23 + q)
 as-low s q h =
     units-in s q 0 (lt-of-lt-of-le (shl-lt 23 0 h) (pow-mono (lit≤ {m = 23} {n = 277} tt)))
     ∙ odd-more 24 s q 0 149 (lt-of-lt-of-le h (lit≤ tt))
     ∙ sym (low-fields binary32 s q h)
 
-as-mid : (s : Bool) (q k : ℕ) → 2 ^ 23 ≤ q → q < 2 ^ 24 → k ≤ 253 → units binary32 s q k ≡ ofBits binary32 (cond s (2 ^ 31) 0 + (k * 2 ^ 23 + q))
+as-mid : (s : Bool) (q k : ℕ) → 2 ^ 23 ≤ q → q < 2 ^ 24 → k ≤ 253
+    → units binary32 s q k ≡ from32 s (k * 2 ^ 23 + q)
 as-mid s q k lo hi K =
     units-in s q k (lt-of-lt-of-le (shl-lt 24 k hi) (pow-mono (room k K)))
     ∙ odd-more 24 s q k 149 hi
     ∙ ap (λ (x : ℕ). odd 24 s x k 149) (sym (add-sub-of-le lo))
     ∙ sym (mid-fields binary32 s k (q - 2 ^ 23) (under k K) (rest q lo hi))
-    ∙ ap (λ (x : ℕ). ofBits binary32 (cond s (2 ^ 31) 0 + x)) (carry q k lo)
+    ∙ ap (λ (x : ℕ). from32 s x) (carry q k lo)
   where
     room : (k : ℕ) → k ≤ 253 → 24 + k ≤ 277
     room k h = omega arith
@@ -146,13 +168,13 @@ odd-carry s k = ap (λ (x : ℕ). fin s 1 (minus x 149)) (shift k)
     shift : (k : ℕ) → k + 24 ≡ suc k + 23
     shift k = omega arith
 
-as-carry : (s : Bool) (k : ℕ) → k < 253 → units binary32 s (2 ^ 24) k ≡ ofBits binary32 (cond s (2 ^ 31) 0 + (k * 2 ^ 23 + 2 ^ 24))
+as-carry : (s : Bool) (k : ℕ) → k < 253 → units binary32 s (2 ^ 24) k ≡ from32 s (k * 2 ^ 23 + 2 ^ 24)
 as-carry s k K =
     units-in s (2 ^ 24) k (subst (λ (x : ℕ). x < 2 ^ 277) (pow-add 2 24 k) (pow-lt (room k K)))
     ∙ odd-carry s k
     ∙ ap (λ (x : ℕ). odd 24 s x (suc k) 149) (sym (add-zero (2 ^ 23)))
     ∙ sym (mid-fields binary32 s (suc k) 0 (under k K) (lit< tt))
-    ∙ ap (λ (x : ℕ). ofBits binary32 (cond s (2 ^ 31) 0 + x)) (carry k)
+    ∙ ap (λ (x : ℕ). from32 s x) (carry k)
   where
     room : (k : ℕ) → k < 253 → 24 + k < 277
     room k h = omega arith
@@ -163,19 +185,20 @@ as-carry s k K =
     carry : (k : ℕ) → suc (suc k) * 2 ^ 23 + 0 ≡ k * 2 ^ 23 + 2 ^ 24
     carry k = omega arith
 
-pub inf-bits : (s : Bool) → ofBits binary32 (cond s (2 ^ 31) 0 + 0x7f80_0000) ≡ inf s
+pub inf-bits : (s : Bool) → from32 s 0x7f80_0000 ≡ inf s
 unfolding ofBits
 inf-bits true = refl
 inf-bits false = refl
 
-as-top : (s : Bool) → units binary32 s (2 ^ 24) 253 ≡ ofBits binary32 (cond s (2 ^ 31) 0 + (253 * 2 ^ 23 + 2 ^ 24))
+as-top : (s : Bool) → units binary32 s (2 ^ 24) 253 ≡ from32 s (253 * 2 ^ 23 + 2 ^ 24)
 as-top s = units-over s (2 ^ 24) 253 (lit≤ tt) ∙ sym (inf-bits s)
 
-pub to-pattern : (s : Bool) (q k : ℕ) → (k ≡ 0) ⊎ (2 ^ 23 ≤ q) → q ≤ 2 ^ 24 → k ≤ 253 → units binary32 s q k ≡ ofBits binary32 (cond s (2 ^ 31) 0 + (k * 2 ^ 23 + q))
+pub to-pattern : (s : Bool) (q k : ℕ) → (k ≡ 0) ⊎ (2 ^ 23 ≤ q) → q ≤ 2 ^ 24 → k ≤ 253
+    → units binary32 s q k ≡ from32 s (k * 2 ^ 23 + q)
 to-pattern s q k d Q K = go d (eq-or-lt-of-le Q) (eq-or-lt-of-le K)
   where
     Goal : ℕ → ℕ → Type 0
-    Goal q k = units binary32 s q k ≡ ofBits binary32 (cond s (2 ^ 31) 0 + (k * 2 ^ 23 + q))
+    Goal q k = units binary32 s q k ≡ from32 s (k * 2 ^ 23 + q)
 
     high : 2 ^ 23 ≤ q → (q ≡ 2 ^ 24) ⊎ (q < 2 ^ 24) → (k ≡ 253) ⊎ (k < 253) → Goal q k
     high l (inr h) e = as-mid s q k l h K
@@ -193,7 +216,10 @@ to-pattern s q k d Q K = go d (eq-or-lt-of-le Q) (eq-or-lt-of-le K)
 
 tz-shift : (d q i : ℕ) → trailingZeros (i + d) (q * 2 ^ i) ≡ i + trailingZeros d q
 unfolding trailingZeros
-tz-shift d q zero = ap (λ (x : ℕ). trailingZeros x (q * 1)) (zero-add d) ∙ ap (trailingZeros d) (mul-one q) ∙ sym (zero-add (trailingZeros d q))
+tz-shift d q zero =
+    ap (λ (x : ℕ). trailingZeros x (q * 1)) (zero-add d)
+    ∙ ap (trailingZeros d) (mul-one q)
+    ∙ sym (zero-add (trailingZeros d q))
 tz-shift d q (suc i) =
     ap (λ (x : ℕ). trailingZeros x (q * 2 ^ suc i)) (suc-add i d)
     ∙ ap (λ (r : ℕ). under r (trailingZeros (i + d) (q * 2 ^ suc i / 2))) (shifted-even q i)
@@ -233,15 +259,15 @@ odd-scale d s q i j k l P =
     regroup k j i t = omega arith
 
 wide-mid : (s : Bool) (q k : ℕ) → 2 ^ 23 ≤ q → q < 2 ^ 24 → k ≤ 253
-    → ofBits binary64 (cond s (2 ^ 63) 0 + ((k + 896) * 2 ^ 52 + q * 2 ^ 29)) ≡ ofBits binary32 (cond s (2 ^ 31) 0 + (k * 2 ^ 23 + q))
+    → from64 s ((k + 896) * 2 ^ 52 + q * 2 ^ 29) ≡ from32 s (k * 2 ^ 23 + q)
 wide-mid s q k lo hi K =
-    ap (λ (x : ℕ). ofBits binary64 (cond s (2 ^ 63) 0 + x)) (carry64 q k lo)
+    ap (λ (x : ℕ). from64 s x) (carry64 q k lo)
     ∙ mid-fields binary64 s (k + 896) (q * 2 ^ 29 - 2 ^ 52) (under64 k K) (rest64 q lo hi)
     ∙ ap (λ (x : ℕ). odd 53 s x (k + 896) 1074) (add-sub-of-le (lead q lo))
     ∙ odd-scale 24 s q 29 896 k 149 (some q lo)
     ∙ ap (λ (x : ℕ). odd 24 s x k 149) (sym (add-sub-of-le lo))
     ∙ sym (mid-fields binary32 s k (q - 2 ^ 23) (under32 k K) (rest32 q lo hi))
-    ∙ ap (λ (x : ℕ). ofBits binary32 (cond s (2 ^ 31) 0 + x)) (carry32 q k lo)
+    ∙ ap (λ (x : ℕ). from32 s x) (carry32 q k lo)
   where
     some : (q : ℕ) → 2 ^ 23 ≤ q → 0 < q
     some q h = omega arith
@@ -269,15 +295,15 @@ wide-mid s q k lo hi K =
 
 -- every normal f32: the field k + 1, or k + 2 where q is 2 ^ 24
 pub wide-pattern : (s : Bool) (q k : ℕ) → 2 ^ 23 ≤ q → q ≤ 2 ^ 24 → k ≤ 253 → k * 2 ^ 23 + q < 0x7f80_0000
-    → ofBits binary64 (cond s (2 ^ 63) 0 + ((k + 896) * 2 ^ 52 + q * 2 ^ 29)) ≡ ofBits binary32 (cond s (2 ^ 31) 0 + (k * 2 ^ 23 + q))
+    → from64 s ((k + 896) * 2 ^ 52 + q * 2 ^ 29) ≡ from32 s (k * 2 ^ 23 + q)
 wide-pattern s q k lo hi K R = go (eq-or-lt-of-le hi)
   where
-    go : (q ≡ 2 ^ 24) ⊎ (q < 2 ^ 24) → ofBits binary64 (cond s (2 ^ 63) 0 + ((k + 896) * 2 ^ 52 + q * 2 ^ 29)) ≡ ofBits binary32 (cond s (2 ^ 31) 0 + (k * 2 ^ 23 + q))
+    go : (q ≡ 2 ^ 24) ⊎ (q < 2 ^ 24) → from64 s ((k + 896) * 2 ^ 52 + q * 2 ^ 29) ≡ from32 s (k * 2 ^ 23 + q)
     go (inr l) = wide-mid s q k lo l K
     go (inl e) =
-        ap (λ (x : ℕ). ofBits binary64 (cond s (2 ^ 63) 0 + x)) (carry64 q k e)
+        ap (λ (x : ℕ). from64 s x) (carry64 q k e)
         ∙ wide-mid s (2 ^ 23) (suc k) (lit≤ tt) (lit< tt) (fit q k e R)
-        ∙ ap (λ (x : ℕ). ofBits binary32 (cond s (2 ^ 31) 0 + x)) (carry32 q k e)
+        ∙ ap (λ (x : ℕ). from32 s x) (carry32 q k e)
       where
         fit : (q k : ℕ) → q ≡ 2 ^ 24 → k * 2 ^ 23 + q < 0x7f80_0000 → suc k ≤ 253
         fit q k e h = omega arith

@@ -1,16 +1,17 @@
 -- An f64 that is no NaN, by its bits b: a sign and a pattern without it, at most an infinity's; and what `narrow` gives of it, by the bits.
-use mathlib.Core.Path.{_≡_, refl, sym, ap, _∙_, subst}
+use mathlib.Core.Path.{_≡_, sym, ap, _∙_, subst}
 use Prim.Native.Nat.{ℕ, _+_, _*_, _/_, _%_, _^_, _≤_, _<_}
 use native.Mathlib.Nat.{zero-add}
 use native.Mathlib.Omega.{arith}
 use mathlib.Core.Bool.{Bool, true, false, not, _&&_, cond}
 use lib.Arith.{le→nltb}
-use lib.Dec.{T, leb, ltb, leb→le, nleb→lt, nltb→le}
+use lib.Dec.{T, leb, leb→le, nleb→lt, nltb→le}
 use lib.Ieee.{Float, nan, inf, fin, Format, binary32, binary64, up, down, hid, ones, top, fits, isNan, ne, nanBits, ofBits, toBits}
 use lib.Ieee.Bits.{ofBits-toBits, toBits-lt, nanBits-is, nanBits-above}
 use lib.Ieee.Fits.{and-i, inf-fits, nan-fits, round-fits}
 use Rattle.narrow.specs.Narrow.{narrow}
-use Rattle.narrow.proofs.Cases.{from32, from64, rounded, rounded-more, to-normal}
+use Rattle.narrow.proofs.Patterns.{from32, from64}
+use Rattle.narrow.proofs.Cases.{rounded, rounded-more, to-normal}
 
 pub not-nan : (x : Float) → ne x x ≡ false → T (not (isNan x))
 unfolding ne isNan
@@ -30,12 +31,16 @@ narrow-fits (fin s m e) = round-fits binary32 s (m * up e) (down e)
 
 -- b as the sign t and the rest; rounding leaves the sign alone
 abbrev Signed : ℕ → Bool → Type 0
-Signed b t = (cond t (2 ^ 63) 0 + b % 2 ^ 63 ≡ b) × (cond t (2 ^ 31) 0 ≡ b / 2 ^ 63 * 2 ^ 31) × (cond t (2 ^ 63) 0 + rounded (b % 2 ^ 63) ≡ rounded b)
+Signed b t =
+    (cond t (2 ^ 63) 0 + b % 2 ^ 63 ≡ b)
+    × (cond t (2 ^ 31) 0 ≡ b / 2 ^ 63 * 2 ^ 31)
+    × (cond t (2 ^ 63) 0 + rounded (b % 2 ^ 63) ≡ rounded b)
 
 signed : (b : ℕ) → b < 2 ^ 64 → Signed b (leb (2 ^ 63) b)
 signed b h = go (leb (2 ^ 63) b) (leb→le (2 ^ 63) b) (nleb→lt (2 ^ 63) b)
   where
-    high : (b : ℕ) → 2 ^ 63 ≤ b → b < 2 ^ 64 → (2 ^ 63 + b % 2 ^ 63 ≡ b) × (2 ^ 31 ≡ b / 2 ^ 63 * 2 ^ 31) × (b % 2 ^ 63 + 2 ^ 33 * 2 ^ 30 ≡ b)
+    high : (b : ℕ) → 2 ^ 63 ≤ b → b < 2 ^ 64
+        → (2 ^ 63 + b % 2 ^ 63 ≡ b) × (2 ^ 31 ≡ b / 2 ^ 63 * 2 ^ 31) × (b % 2 ^ 63 + 2 ^ 33 * 2 ^ 30 ≡ b)
     high b l h = omega arith
 
     less : (b : ℕ) → b < 2 ^ 63 → (0 + b % 2 ^ 63 ≡ b) × (0 ≡ b / 2 ^ 63 * 2 ^ 31) × (b % 2 ^ 63 ≡ b)
@@ -71,7 +76,8 @@ module _ (x : Float) (held : T (fits binary64 x)) (real : T (not (isNan x))) whe
   pub at-most : a ≤ 0x7ff0_0000_0000_0000
   at-most =
       nltb→le 0x7ff0_0000_0000_0000 a
-      (subst (λ (t : Bool). T (not t)) (sym (sym (nanBits-above binary64 b) ∙ nanBits-is binary64 b ∙ ap isNan (ofBits-toBits binary64 x held))) real)
+      (subst (λ (t : Bool). T (not t))
+      (sym (sym (nanBits-above binary64 b) ∙ nanBits-is binary64 b ∙ ap isNan (ofBits-toBits binary64 x held))) real)
 
   -- the pattern of an f32 without the sign, and the sign put back
   pub by-sign : (r : ℕ) → ((t : Bool) → from32 t r ≡ narrow (from64 t a)) → ofBits binary32 (b / 2 ^ 63 * 2 ^ 31 + r) ≡ narrow x
@@ -81,8 +87,9 @@ module _ (x : Float) (held : T (fits binary64 x)) (real : T (not (isNan x))) whe
     pub by-rounding : ofBits binary64 (rounded b) ≡ narrow x
     by-rounding = ap (ofBits binary64) (sym (parts .2)) ∙ to-normal a lo hi s ∙ ap narrow back
 
-    pub rounded-real : T (not (nanBits binary64 (rounded b)))
-    rounded-real = no-nan binary64 (rounded b) (subst (λ (z : ℕ). z % 2 ^ 63 ≤ 0x7ff0_0000_0000_0000) (parts .2) (rest s (rounded a) (under a hi)))
+    rounded-real : T (not (nanBits binary64 (rounded b)))
+    rounded-real =
+        no-nan binary64 (rounded b) (subst (λ (z : ℕ). z % 2 ^ 63 ≤ 0x7ff0_0000_0000_0000) (parts .2) (rest s (rounded a) (under a hi)))
       where
         under : (a : ℕ) → a < 0x47ef_ffff_f000_0000 → rounded a ≤ 0x7ff0_0000_0000_0000
         under a h = omega arith

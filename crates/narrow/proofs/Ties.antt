@@ -1,9 +1,10 @@
--- A quotient to the nearest whole number, a tie to the even one, as integer arithmetic computes it: add a half less one and the low bit, then divide.
+-- A quotient to the nearest whole number, a tie to the even one, as integer arithmetic computes it: add a half less one and the low bit,
+-- then divide.
 -- Nothing here is about floats.
 use mathlib.Core.Path.{_≡_, refl, sym, ap, _∙_, subst}
 use mathlib.Core.Logic.{_⊎_, inl, inr}
 use Prim.Native.Nat.{ℕ, zero, suc, _+_, _-_, _*_, _/_, _%_, _≤_, _<_, compare, Ordering, Ordering·lt, Ordering·eq, Ordering·gt}
-use native.Mathlib.Nat.{add-zero, add-mul, one-mul, suc-mul, zero-lt-suc, mod-lt, mod-eq-of-lt, div-eq-of-lt, div-add-mod', eq-or-lt-of-le}
+use native.Mathlib.Nat.{add-zero, suc-mul, zero-lt-suc, mod-lt, mod-eq-of-lt, div-eq-of-lt, div-add-mod'}
 use native.Mathlib.Omega.{arith}
 use mathlib.Core.Bool.{not}
 use lib.Dec.{T, isLe, isEq, eqb, leb→le, nleb→lt, eqb→eq, eqb-refl}
@@ -65,11 +66,9 @@ one-less (suc (suc e)) h = absurd (no e h)
     no : (e : ℕ) → suc (suc e) < 2 → ⊥
     no e h = omega arith
 
-next : (w u : ℕ) → (w + 1) * u ≡ w * u + u
-next w u = add-mul w 1 u ∙ ap (λ (x : ℕ). w * u + x) (one-mul u)
-
 up-one : (w u n : ℕ) → w * u + u ≤ n → n < w * u + u + u → n / u ≡ suc w
-up-one w u n lo hi = div-at (suc w) u n (subst (λ (x : ℕ). x ≤ n) (sym (suc-mul w u)) lo) (subst (λ (x : ℕ). n < x + u) (sym (suc-mul w u)) hi)
+up-one w u n lo hi =
+    div-at (suc w) u n (subst (λ (x : ℕ). x ≤ n) (sym (suc-mul w u)) lo) (subst (λ (x : ℕ). n < x + u) (sym (suc-mul w u)) hi)
 
 pub closest-is : (q h : ℕ) → 0 < h → closest q (2 * h) ≡ (q + (h - 1) + q / (2 * h) % 2) / (2 * h)
 closest-is q h H = go (compare (r * 2) u) (cmp (r * 2) u)
@@ -106,11 +105,15 @@ closest-is q h H = go (compare (r * 2) u) (cmp (r * 2) u)
         tie (inl e) =
             ap (λ (x : ℕ). w + x) e
             ∙ add-zero w
-            ∙ sym (ap (λ (x : ℕ). (q + (h - 1) + x) / u) e ∙ div-at w u (q + (h - 1) + 0) (floor-lo (w * u) q r h 0 cut) (even-hi (w * u) q r h cut c H))
+            ∙ sym
+            (ap (λ (x : ℕ). (q + (h - 1) + x) / u) e
+            ∙ div-at w u (q + (h - 1) + 0) (floor-lo (w * u) q r h 0 cut) (even-hi (w * u) q r h cut c H))
         tie (inr e) =
             ap (λ (x : ℕ). w + x) e
             ∙ next-is w
-            ∙ sym (ap (λ (x : ℕ). (q + (h - 1) + x) / u) e ∙ up-one w u (q + (h - 1) + 1) (odd-lo (w * u) q r h cut c H) (odd-hi (w * u) q r h cut c H))
+            ∙ sym
+            (ap (λ (x : ℕ). (q + (h - 1) + x) / u) e
+            ∙ up-one w u (q + (h - 1) + 1) (odd-lo (w * u) q r h cut c H) (odd-hi (w * u) q r h cut c H))
           where
             next-is : (w : ℕ) → w + 1 ≡ suc w
             next-is w = omega arith
@@ -118,7 +121,10 @@ closest-is q h H = go (compare (r * 2) u) (cmp (r * 2) u)
 
 -- ---- up to a half: 0
 pub closest-none : (q u : ℕ) → 0 < u → q * 2 ≤ u → closest q u ≡ 0
-closest-none q u U h = ap (λ (x : ℕ). nearest x (compare (q % u * 2) u)) (div-eq-of-lt l) ∙ ap (λ (x : ℕ). nearest 0 (compare (x * 2) u)) (mod-eq-of-lt l) ∙ go (compare (q * 2) u) (cmp (q * 2) u)
+closest-none q u U h =
+    ap (λ (x : ℕ). nearest x (compare (q % u * 2) u)) (div-eq-of-lt l)
+    ∙ ap (λ (x : ℕ). nearest 0 (compare (x * 2) u)) (mod-eq-of-lt l)
+    ∙ go (compare (q * 2) u) (cmp (q * 2) u)
   where
     half : (q u : ℕ) → 0 < u → q * 2 ≤ u → q < u
     half q u z h = omega arith

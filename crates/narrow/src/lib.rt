@@ -10,12 +10,10 @@ ghost use Rattle.narrow.specs.Narrow.{narrow};
 // and the unit's own low bit, round it to the nearest, a tie to the even one.
 fn small(a: u64) -> u32
     requires { ⌜ a < 0x3810_0000_0000_0000 ⌝ }
-    ensures {
-        λ r. ⌜
-            (r ≤ 0x80_0000)
-            × ((s : Bool) → ofBits binary32 (cond s 0x8000_0000 0 + r) ≡ narrow (ofBits binary64 (cond s 0x8000_0000_0000_0000 0 + a)))
-        ⌝
-    }
+    ensures { λ r. ⌜
+        (r ≤ 0x80_0000)
+        × ((s : Bool) → ofBits binary32 (cond s 0x8000_0000 0 + r) ≡ narrow (ofBits binary64 (cond s 0x8000_0000_0000_0000 0 + a)))
+        ⌝ }
 {
     if a <= 0x3690_0000_0000_0000 {
         return 0;
