@@ -1,0 +1,3 @@
+mod Scaled
+mod Sums
+mod Larger
