@@ -1,3 +1,4 @@
+pub mod Laws
 mod Scaled
 mod Sums
 mod Larger
