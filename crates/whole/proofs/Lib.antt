@@ -2,3 +2,4 @@ pub mod Laws
 mod Scaled
 mod Sums
 mod Larger
+mod Lower

@@ -58,18 +58,15 @@ pub struct Floored {
     pub rest: f64,
 }
 
-// w, or one less where it lies above f.
-fn lowered(f: f64, w: f64) -> f64 {
-    if f < w { w - 1.0 } else { w }
-}
-
-// f rounded down and held to 32 bits, and what is left of f. Adding 2^52 leaves f to the nearest whole number, at most one too many.
+// f rounded down and held to 32 bits, and what is left of f. With 2^52 added and taken off again f is rounded to the nearest whole
+// number, which is at most one too many. The last arm has a NaN, the zeros and what is negative.
 pub fn floor(f: f64) -> Floored
     ensures { λ r. ⌜ FloorIs f (r .index) (r .rest) ⌝ }
 {
     if f > 0.0 {
         if f < 4294967296.0 {
-            let w = lowered(f, (f + 4503599627370496.0) - 4503599627370496.0);
+            let near = (f + 4503599627370496.0) - 4503599627370496.0;
+            let w = if f < near { near - 1.0 } else { near };
             Floored {
                 index: w as u32,
                 rest: f - w,
