@@ -1,6 +1,5 @@
 // From a float to a whole number: rounded half away from zero and held, or rounded down with what is left.
 ghost use mathlib.Core.Path.{_≡_};
-ghost use Prim.Native.Nat.{_<_};
 ghost use lib.IntN.{pos};
 ghost use lib.Dec.{T};
 ghost use mathlib.Core.Bool.{false};
@@ -26,8 +25,8 @@ fn round_large(x: f32, last: u32) -> u32
     ensures { λ r. ⌜ r ≡ roundHeld last x ⌝ }
 {
     if x < 4294967296.0 {
-        let n = (x as f64) as u32;
-        if n < last { n } else { last }
+        let w = (x as f64) as u32;
+        if w < last { w } else { last }
     } else if x != x {
         0
     } else {
@@ -53,6 +52,7 @@ pub fn round_u16(x: f32) -> u16
     round_held(x, 65535) as u16
 }
 
+// A whole part and what is left.
 pub struct Floored {
     pub index: u32,
     pub rest: f64,

@@ -25,15 +25,19 @@ whole-part c =
 
 -- the index and the rest, from the whole part n
 parts : (f v : Float) (n : ℕ) → toUnsigned 32 f ≡ n → v ≡ ofInt binary64 (pos n) → FloorIs f n (sub binary64 f v)
-parts f v n e p = record { index-is = sym e; rest-is = ap (λ (z : Float). sub binary64 f z) (p ∙ ap (λ (k : ℕ). ofInt binary64 (pos k)) (sym e)) }
+parts f v n e p = record {
+  index-is = sym e;
+  rest-is = ap (λ (z : Float). sub binary64 f z) (p ∙ ap (λ (k : ℕ). ofInt binary64 (pos k)) (sym e));
+}
 
 float-to-int-t11 : tie.Need-float-to-int-t11
-float-to-int-t11 c = subst (λ (z : Float). T (inUnsigned binary64 32 z)) (sym (whole-part (c .before))) (part-back (c .before .before .before .before .args .f) .0)
+float-to-int-t11 c =
+    subst (λ (z : Float). T (inUnsigned binary64 32 z)) (sym (whole-part (c .before)))
+    (part-back (c .before .before .before .before .args .f) .0)
 
 returns : tie.Need-returns
 returns c =
     let f = c .before .before .before .before .args .f in
-    let w = c .before .if3 .w in
     record {
       index-is = ap (λ (z : Float). toUnsigned 32 z) (whole-part (c .before)) ∙ part-back f .1;
       rest-is = ap (λ (z : Float). sub binary64 f z) (whole-part (c .before));
@@ -43,7 +47,8 @@ returns-2 : tie.Need-returns-2
 unfolding ofBits ofInt
 returns-2 c =
     let f = c .before .before .args .f in
-    parts f (ofBits binary64 4751297606873776128) 4294967295 (floor-past f (subst T (sym (c .before .if1 .taken)) tt) (c .if2 .left)) refl
+    parts f (ofBits binary64 4751297606873776128) 4294967295
+    (floor-past f (subst T (sym (c .before .if1 .taken)) tt) (c .if2 .left)) refl
 
 returns-3 : tie.Need-returns-3
 unfolding ofBits ofInt
