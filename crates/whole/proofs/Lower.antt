@@ -2,7 +2,7 @@
 -- the whole part. Assumes nothing.
 use mathlib.Core.Path.{_≡_, refl, sym, ap, ap₂, _∙_}
 use Prim.Native.Nat.{ℕ, _+_, _-_, _*_, _/_, _^_, _≤_, _<_, min}
-use native.Mathlib.Nat.{le-trans, le-of-eq, le-of-lt, lt-of-lt-of-le, not-le-of-lt, mul-one, one-mul, mul-right-comm, mul-pos, mul-sub}
+use native.Mathlib.Nat.{le-trans, le-of-eq, le-of-lt, lt-of-lt-of-le, not-le-of-lt, mul-one, mul-right-comm, mul-pos, mul-sub}
 use native.Mathlib.Nat.{mul-le-mul-right, le-of-mul-le-mul-right, lt-of-mul-lt-mul-right, eq-of-mul-eq-mul-right, div-add-mod'}
 use native.Mathlib.Nat.{mod-lt, div-lt-iff-lt-mul, le-div-iff-mul-le, div-eq-of-lt, zero-min, min-eq-left, min-eq-right}
 use native.Mathlib.Omega.{arith}
@@ -29,7 +29,7 @@ in-ones (fin s m e) q l p v = (
   eq-of-mul-eq-mul-right l p (m * up e * 1) (q * down e) (ap (λ (z : ℕ). z * l) (mul-one (m * up e)) ∙ v .1 ∙ mul-right-comm q l (down e)),
 )
 
--- ---- a whole number less 2 ^ j
+-- ---- a whole number less another, a * 2 ^ j
 taken : (a b c : ℕ) → b ≤ a → sum binary64 false a true b c ≡ round binary64 false (a - b) c
 unfolding sum
 taken a b c h = go (ltb a b) (ltb→lt a b)
@@ -38,27 +38,25 @@ taken a b c h = go (ltb a b) (ltb→lt a b)
     go true k = absurd (not-le-of-lt (k tt) h)
     go false k = refl
 
-sub-opened : (m : ℕ) (e : ℤ) (j : ℕ)
-    → sub binary64 (fin false m e) (fin false 1 (pos j)) ≡ sum binary64 false (m * up e * 1) true (1 * 2 ^ j * down e) (down e * 1)
+sub-opened : (m : ℕ) (e : ℤ) (a j : ℕ)
+    → sub binary64 (fin false m e) (fin false a (pos j)) ≡ sum binary64 false (m * up e * 1) true (a * 2 ^ j * down e) (down e * 1)
 unfolding sub
-sub-opened m e j = refl
+sub-opened m e a j = refl
 
-less-pow : (x : Float) (q j : ℕ) → HasValue x false q 1 → 2 ^ j ≤ q
-    → sub binary64 x (fin false 1 (pos j)) ≡ round binary64 false (q - 2 ^ j) 1
-less-pow nan q j v h = absurd v
-less-pow (inf s) q j v h = absurd v
-less-pow (fin true m e) q j v h = absurd (true≢false (v .0))
-less-pow (fin false m e) q j v h =
+less : (x : Float) (q a j : ℕ) → HasValue x false q 1 → a * 2 ^ j ≤ q
+    → sub binary64 x (fin false a (pos j)) ≡ round binary64 false (q - a * 2 ^ j) 1
+less nan q a j v h = absurd v
+less (inf s) q a j v h = absurd v
+less (fin true m e) q a j v h = absurd (true≢false (v .0))
+less (fin false m e) q a j v h =
     let d = down e in
     let n = m * up e * 1 in
-    let b : 1 * 2 ^ j * d ≤ n =
-    le-trans (le-of-eq (ap (λ (z : ℕ). z * d) (one-mul (2 ^ j)))) (le-trans (mul-le-mul-right d h) (le-of-eq (sym (v .1)))) in
-    sub-opened m e j
-    ∙ taken n (1 * 2 ^ j * d) (d * 1) b
-    ∙ round-same binary64 false (n - 1 * 2 ^ j * d) (d * 1) (q - 2 ^ j) 1 (mul-pos (down-pos e) (lit< tt)) (lit< tt)
-    (cross n (2 ^ j) d q (v .1) h)
+    let p = a * 2 ^ j in
+    sub-opened m e a j
+    ∙ taken n (p * d) (d * 1) (le-trans (mul-le-mul-right d h) (le-of-eq (sym (v .1))))
+    ∙ round-same binary64 false (n - p * d) (d * 1) (q - p) 1 (mul-pos (down-pos e) (lit< tt)) (lit< tt) (cross n p d q (v .1) h)
   where
-    cross : (n p d q : ℕ) → n ≡ q * d → p ≤ q → (n - 1 * p * d) * 1 ≡ (q - p) * (d * 1)
+    cross : (n p d q : ℕ) → n ≡ q * d → p ≤ q → (n - p * d) * 1 ≡ (q - p) * (d * 1)
     cross n p d q e h = omega (arith, mul-sub d q p)
 
 -- ---- the sum f + 2 ^ 52
@@ -67,9 +65,12 @@ added : (m : ℕ) (e : ℤ)
 unfolding add
 added m e = ap₂ (λ (a c : ℕ). round binary64 false (a + 2 ^ 52 * down e) c) (mul-one (m * up e)) (mul-one (down e))
 
--- w, or one less where it lies above f
+-- how far w lies above f: 1, or 0 if it does not
+abbrev pub over : Bool → Float
+over b = cond b (fin false 1 (pos 0)) (fin false 0 (pos 0))
+
 abbrev pub lowered : Float → Float → Float
-lowered f w = cond (lt f w) (sub binary64 w (fin false 1 (pos 0))) w
+lowered f w = sub binary64 w (over (lt f w))
 
 abbrev pub near : Float → Float
 near f = sub binary64 (add binary64 f (fin false 1 (pos 52))) (fin false 1 (pos 52))
@@ -103,14 +104,13 @@ module _ (m : ℕ) (e : ℤ) (w : ℕ) (ge : m * up e / down e ≤ w) (le : w �
   value = round-whole binary64 false w small
 
   by-test : (b : Bool) → lt (fin false m e) (round binary64 false w 1) ≡ b
-      → cond b (sub binary64 (round binary64 false w 1) (fin false 1 (pos 0))) (round binary64 false w 1)
-      ≡ round binary64 false (m * up e / down e) 1
+      → sub binary64 (round binary64 false w 1) (over b) ≡ round binary64 false (m * up e / down e) 1
   by-test true t =
       let a : m * up e / down e < w = div-lt-iff-lt-mul (down-pos e) .1 (above m e (round binary64 false w 1) w value t) in
-      less-pow (round binary64 false w 1) w 0 value (omega arith) ∙ ap (λ (z : ℕ). round binary64 false z 1) (omega arith)
+      less (round binary64 false w 1) w 1 0 value (omega arith) ∙ ap (λ (z : ℕ). round binary64 false z 1) (omega arith)
   by-test false t =
       let a : w ≤ m * up e / down e = le-div-iff-mul-le (down-pos e) .1 (not-above m e (round binary64 false w 1) w value t) in
-      ap (λ (z : ℕ). round binary64 false z 1) (omega arith)
+      less (round binary64 false w 1) w 0 0 value (omega arith) ∙ ap (λ (z : ℕ). round binary64 false z 1) (omega arith)
 
 module _ (m : ℕ) (e : ℤ) (low : m * up e < 2 ^ 32 * down e) where
   part-lt : m * up e / down e < 2 ^ 32
@@ -141,7 +141,7 @@ module _ (m : ℕ) (e : ℤ) (low : m * up e < 2 ^ 32 * down e) where
       let is : add binary64 (fin false m e) (fin false 1 (pos 52)) ≡ x = added m e ∙ scaled (n + 2 ^ 52 * d) d 0 1074 refl D (r .0) (r .1) in
       let v : HasValue x false q 1 = in-ones x q (2 ^ 1074) (pow-pos 1074) (units-value q 1074 (lit≤ tt) (s .0)) in
       let y = round binary64 false (q - 2 ^ 52) 1 in
-      let w : near (fin false m e) ≡ y = ap (λ (z : Float). sub binary64 z (fin false 1 (pos 52))) is ∙ less-pow x q 52 v (s .1) in
+      let w : near (fin false m e) ≡ y = ap (λ (z : Float). sub binary64 z (fin false 1 (pos 52))) is ∙ less x q 1 52 v (s .1) in
       ap (λ (z : Float). lowered (fin false m e) z) w ∙ by-test m e (q - 2 ^ 52) (s .2) (s .3) (s .4) (lt (fin false m e) y) refl
 
 -- ---- below 2 ^ 32

@@ -66,11 +66,10 @@ pub fn floor(f: f64) -> Floored
     if f > 0.0 {
         if f < 4294967296.0 {
             let near = (f + 4503599627370496.0) - 4503599627370496.0;
-            let w = if f < near { near - 1.0 } else { near };
-            Floored {
-                index: w as u32,
-                rest: f - w,
-            }
+            let over = if f < near { 1.0 } else { 0.0 };
+            let w = near - over;
+            let index = w as u32;
+            Floored { index, rest: f - w }
         } else {
             Floored {
                 index: 4294967295,
