@@ -1,13 +1,14 @@
--- What callers need of `roundHeld` and `floorOf`: their ranges, their values at a fraction or a whole number, and that a second hold is a minimum.
--- Assumes nothing.
-use mathlib.Core.Path.{_≡_, refl, sym, ap, _∙_}
+-- What callers need of `roundHeld` and `floorOf`: their ranges, their values at a fraction or a whole number, and that a second hold is a
+-- minimum. Assumes nothing.
+use mathlib.Core.Path.{_≡_, sym, ap, _∙_}
 use Prim.Native.Nat.{ℕ, suc, zero-le, _+_, _*_, _/_, _^_, _≤_, _<_, min}
-use native.Mathlib.Nat.{min-le-left, min-le-right, le-refl, le-trans, le-of-eq, le-of-lt, le-of-suc-le-suc, mul-one, mul-pos, mul-right-comm, le-of-mul-le-mul-right, div-lt-iff-lt-mul}
+use native.Mathlib.Nat.{min-le-left, min-le-right, le-refl, le-trans, le-of-eq, le-of-lt, le-of-suc-le-suc, mul-one, mul-right-comm}
+use native.Mathlib.Nat.{le-of-mul-le-mul-right, div-lt-iff-lt-mul}
 use native.Mathlib.Omega.{arith}
 use mathlib.Core.Bool.{Bool, true, false, cond, true≢false}
-use lib.IntN.{ℤ, pos}
+use lib.IntN.{pos}
 use lib.Dec.{lit≤, le→leb}
-use lib.Ieee.{Float, nan, inf, fin, Format, binary32, binary64, prec, up, down, round, lt, ofInt, inFloat, toUnsigned}
+use lib.Ieee.{Float, nan, inf, fin, Format, binary64, prec, up, down, round, lt, ofInt, inFloat, toUnsigned}
 use lib.Ieee.Back.{round-whole, unsigned-back}
 use lib.Ieee.Casts.{toUnsigned-lt}
 use lib.Ieee.Exact.{HasValue}
@@ -26,7 +27,9 @@ pub round-le : (last : ℕ) (x : Float) → roundHeld last x ≤ last
 unfolding roundHeld
 round-le last nan = zero-le
 round-le last (inf s) = held-le s last last (le-refl last)
-round-le last (fin s m e) = held-le s (min ((2 * (m * up e) + down e) / (2 * down e)) last) last (min-le-right ((2 * (m * up e) + down e) / (2 * down e)) last)
+round-le last (fin s m e) =
+    let n = (2 * (m * up e) + down e) / (2 * down e) in
+    held-le s (min n last) last (min-le-right n last)
 
 again : (s : Bool) (n top last : ℕ) → last ≤ top → cond s 0 (min n last) ≡ min (cond s 0 (min n top)) last
 again true n top last h = omega arith
@@ -50,7 +53,9 @@ round-fraction last nan a c p v = absurd v
 round-fraction last (inf s) a c p v = absurd v
 round-fraction last (fin true m e) a c p v = absurd (true≢false (v .0))
 round-fraction last (fin false m e) a c p v =
-    ap (λ (z : ℕ). min z last) (div-same (2 * (m * up e) + down e) (2 * down e) (2 * a + c) (2 * c) (twice (down e) (down-pos e)) (twice c p) (cross (m * up e) (down e) a c (v .1)))
+    ap (λ (z : ℕ). min z last)
+    (div-same (2 * (m * up e) + down e) (2 * down e) (2 * a + c) (2 * c) (twice (down e) (down-pos e)) (twice c p)
+    (cross (m * up e) (down e) a c (v .1)))
   where
     twice : (d : ℕ) → 0 < d → 0 < 2 * d
     twice d h = omega arith
@@ -64,7 +69,8 @@ half n = omega arith
 -- at a whole number, of either format
 pub round-at-whole : (f : Format) (last n : ℕ) → n ≤ 2 ^ prec f → roundHeld last (ofInt f (pos n)) ≡ min n last
 unfolding ofInt
-round-at-whole f last n h = round-fraction last (round f false n 1) n 1 (lit≤ tt) (round-whole f false n h) ∙ ap (λ (z : ℕ). min z last) (half n)
+round-at-whole f last n h =
+    round-fraction last (round f false n 1) n 1 (lit≤ tt) (round-whole f false n h) ∙ ap (λ (z : ℕ). min z last) (half n)
 
 -- ---- rounded down
 -- a `u32`
@@ -87,11 +93,12 @@ under (fin false m e) nan n v t = absurd v
 under (fin false m e) (inf s) n v t = absurd v
 under (fin false m e) (fin true p g) n v t = absurd (true≢false (v .0))
 under (fin false m e) (fin false p g) n v t =
+    let y : p * up g * down e ≡ n * down e * down g =
+    ap (λ (z : ℕ). z * down e) (sym (mul-one (p * up g)) ∙ v .1) ∙ mul-right-comm n (down g) (down e) in
     let le : m * up e ≤ n * down e =
-    le-of-mul-le-mul-right
-    (le-trans (ltb-false (p * up g * down e) (m * up e * down g) t) (le-of-eq (ap (λ (z : ℕ). z * down e) (sym (mul-one (p * up g)) ∙ v .1) ∙ mul-right-comm n (down g) (down e))))
-    (down-pos g) in
-    le-trans (min-le-left (m * up e / down e) 4294967295) (le-of-suc-le-suc (div-lt-iff-lt-mul (down-pos e) .1 (next (m * up e) n (down e) (down-pos e) le)))
+    le-of-mul-le-mul-right (le-trans (ltb-false (p * up g * down e) (m * up e * down g) t) (le-of-eq y)) (down-pos g) in
+    le-trans (min-le-left (m * up e / down e) 4294967295)
+    (le-of-suc-le-suc (div-lt-iff-lt-mul (down-pos e) .1 (next (m * up e) n (down e) (down-pos e) le)))
   where
     next : (k n d : ℕ) → 0 < d → k ≤ n * d → k < suc n * d
     next k n d p h = omega arith

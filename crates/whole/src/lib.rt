@@ -1,6 +1,5 @@
 // From a float to a whole number: rounded half away from zero and held, or rounded down with what is left.
 ghost use mathlib.Core.Path.{_≡_};
-ghost use Prim.Native.Nat.{_<_};
 ghost use lib.IntN.{pos};
 ghost use lib.Dec.{T};
 ghost use mathlib.Core.Bool.{false};
@@ -26,8 +25,8 @@ fn round_large(x: f32, last: u32) -> u32
     ensures { λ r. ⌜ r ≡ roundHeld last x ⌝ }
 {
     if x < 4294967296.0 {
-        let n = (x as f64) as u32;
-        if n < last { n } else { last }
+        let w = (x as f64) as u32;
+        if w < last { w } else { last }
     } else if x != x {
         0
     } else {
@@ -53,6 +52,7 @@ pub fn round_u16(x: f32) -> u16
     round_held(x, 65535) as u16
 }
 
+// A whole part and what is left.
 pub struct Floored {
     pub index: u32,
     pub rest: f64,
@@ -66,11 +66,10 @@ pub fn floor(f: f64) -> Floored
     if f > 0.0 {
         if f < 4294967296.0 {
             let near = (f + 4503599627370496.0) - 4503599627370496.0;
-            let w = if f < near { near - 1.0 } else { near };
-            Floored {
-                index: w as u32,
-                rest: f - w,
-            }
+            let over = if f < near { 1.0 } else { 0.0 };
+            let w = near - over;
+            let index = w as u32;
+            Floored { index, rest: f - w }
         } else {
             Floored {
                 index: 4294967295,

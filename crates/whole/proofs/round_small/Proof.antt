@@ -1,5 +1,5 @@
 -- `whole::round_small` meets its contract: `Sums` says what the bits of the sum are, at x held from below by 0. Assumes nothing.
-use Prim.Native.Nat.{_/_, _%_, min}
+use Prim.Native.Nat.{ℕ, _/_, _%_, min}
 use native.Mathlib.Nat.{min-eq-left, min-eq-right, le-of-lt}
 use mathlib.Core.Path.{_≡_, sym, ap, _∙_, subst}
 use mathlib.Core.Logic.{⊎-elim}
@@ -7,7 +7,7 @@ use mathlib.Core.Bool.{Bool, false, cond, not}
 use borrow.Author.Needs.{needs}
 use lib.IntN.{pos}
 use lib.Dec.{T}
-use lib.Ieee.{Float, fin, binary32, binary64, lt, add, fits, isNan, ofBits, toBits}
+use lib.Ieee.{Float, fin, binary32, binary64, add, fits, isNan, ofBits, toBits}
 use lib.Ieee.Fits.{and-i, fits-widens}
 use Rattle.whole.specs.Whole.{roundHeld}
 use Rattle.whole.proofs.Sums.{from-zero, half-up, held-no-nan, added-no-nan, small-is}
@@ -33,22 +33,27 @@ float-to-float-bits c =
     let j = c .before in
     let h = j .if1 .h in
     and-i (fits binary64 h) (not (isNan h)) (fits-widens h (c .row-known .given))
-    (subst (λ (z : Float). T (not (isNan z))) (sym (from-zero-is j)) (held-no-nan (j .before .args .x) (held (j .before)) (j .before .pre)))
+    (subst (λ (z : Float). T (not (isNan z))) (sym (from-zero-is j))
+    (held-no-nan (j .before .args .x) (held (j .before)) (j .before .pre)))
 
 float-to-bits-bits : tie.Need-float-to-bits-bits
 unfolding ofBits
 float-to-bits-bits c =
     let j = c .before in
-    subst (λ (z : Float). T (not (isNan (add binary64 z half-up)))) (sym (from-zero-is j)) (added-no-nan (j .before .args .x) (held (j .before)) (j .before .pre))
+    subst (λ (z : Float). T (not (isNan (add binary64 z half-up)))) (sym (from-zero-is j))
+    (added-no-nan (j .before .args .x) (held (j .before)) (j .before .pre))
 
 -- the rounded number, held to last
+abbrev rounded : (c : tie.After-row-known) → ℕ
+rounded c = toBits binary64 (add binary64 (c .before .if1 .h) (ofBits binary64 4724276009145204736)) / 67108864 % 67108864
+
 min-is : (c : tie.After-row-known)
-    → min (toBits binary64 (add binary64 (c .before .if1 .h) (ofBits binary64 4724276009145204736)) / 67108864 % 67108864) (c .before .before .args .last)
-    ≡ roundHeld (c .before .before .args .last) (c .before .before .args .x)
+    → min (rounded c) (c .before .before .args .last) ≡ roundHeld (c .before .before .args .last) (c .before .before .args .x)
 unfolding ofBits
 min-is c =
     let s = c .before .before in
-    ap (λ (z : Float). min (toBits binary64 (add binary64 z half-up) / 67108864 % 67108864) (s .args .last)) (from-zero-is (c .before)) ∙ small-is (s .args .last) (s .args .x) (held s) (s .pre)
+    ap (λ (z : Float). min (toBits binary64 (add binary64 z half-up) / 67108864 % 67108864) (s .args .last)) (from-zero-is (c .before))
+    ∙ small-is (s .args .x) (held s) (s .pre) (s .args .last)
 
 cast-n : tie.Need-cast-n
 cast-n c = search needs
