@@ -41,12 +41,18 @@ one s at e = simp (zero-add, add-zero) e
 pub join : (a b : ℕ) (s : List ℕ) (at : ℕ) {x y : ℕ} → x ≡ big a s at → y ≡ big b s (at + a) → x * 256 ^ b + y ≡ big (a + b) s at
 join a b s at p q = ap₂ (λ (x y : ℕ). x * 256 ^ b + y) p q ∙ sym (split a b s at)
 
+pub next : (k : ℕ) (s : List ℕ) (at : ℕ) {x y : ℕ} → x ≡ big k s at → y ≡ getD s (at + k) 0 → x * 256 + y ≡ big (k + 1) s at
+next k s at p q = join k 1 s at p (one s (at + k) q)
+
 pub little-one : (s : List ℕ) (at : ℕ) {x : ℕ} → x ≡ getD s at 0 → x ≡ little 1 s at
 unfolding little
 little-one s at e = simp (zero-add, add-zero, mul-one) e
 
 pub little-join : (a b : ℕ) (s : List ℕ) (at : ℕ) {x y : ℕ} → x ≡ little a s at → y ≡ little b s (at + a) → x + y * 256 ^ a ≡ little (a + b) s at
 little-join a b s at p q = ap₂ (λ (x y : ℕ). x + y * 256 ^ a) p q ∙ sym (little-split a b s at)
+
+pub little-next : (k : ℕ) (s : List ℕ) (at : ℕ) {x y : ℕ} → x ≡ little k s at → y ≡ getD s (at + k) 0 → x + y * 256 ^ k ≡ little (k + 1) s at
+little-next k s at p q = little-join k 1 s at p (little-one s (at + k) q)
 
 -- ---- a word of k bytes is below 256 ^ k, so its parts come back by a quotient and a remainder
 

@@ -32,14 +32,20 @@ fn two(s: &[u8], at: usize) -> u16
     requires { ⌜ at + 2 ≤ length (now s) ⌝ }
     ensures { λ r. ⌜ r ≡ big 2 (now (s .entry)) at ⌝ }
 {
-    (wide(s[at]) * 256 + wide(s[at + 1])) as u16
+    let a = wide(s[at]);
+    let b = wide(s[at + 1]);
+    (a * 256 + b) as u16
 }
 
 fn four(s: &[u8], at: usize) -> u32
     requires { ⌜ at + 4 ≤ length (now s) ⌝ }
     ensures { λ r. ⌜ r ≡ big 4 (now (s .entry)) at ⌝ }
 {
-    (((wide(s[at]) * 256 + wide(s[at + 1])) * 256 + wide(s[at + 2])) * 256 + wide(s[at + 3])) as u32
+    let a = wide(s[at]);
+    let b = wide(s[at + 1]);
+    let c = wide(s[at + 2]);
+    let d = wide(s[at + 3]);
+    (((a * 256 + b) * 256 + c) * 256 + d) as u32
 }
 
 fn eight(s: &[u8], at: usize) -> u64
@@ -132,14 +138,20 @@ fn two_low(s: &[u8], at: usize) -> u16
     requires { ⌜ at + 2 ≤ length (now s) ⌝ }
     ensures { λ r. ⌜ r ≡ little 2 (now (s .entry)) at ⌝ }
 {
-    (wide(s[at]) + wide(s[at + 1]) * 256) as u16
+    let a = wide(s[at]);
+    let b = wide(s[at + 1]);
+    (a + b * 256) as u16
 }
 
 fn four_low(s: &[u8], at: usize) -> u32
     requires { ⌜ at + 4 ≤ length (now s) ⌝ }
     ensures { λ r. ⌜ r ≡ little 4 (now (s .entry)) at ⌝ }
 {
-    (wide(s[at]) + wide(s[at + 1]) * 256 + wide(s[at + 2]) * 0x1_0000 + wide(s[at + 3]) * 0x100_0000) as u32
+    let a = wide(s[at]);
+    let b = wide(s[at + 1]);
+    let c = wide(s[at + 2]);
+    let d = wide(s[at + 3]);
+    (a + b * 256 + c * 0x1_0000 + d * 0x100_0000) as u32
 }
 
 fn edge_low(s: &[u8], at: usize) -> u32

@@ -1,5 +1,5 @@
+use Rattle.words.proofs.Laws.{little-one, little-next, little-past}
 use mathlib.Core.Path.{sym}
-use Rattle.words.proofs.Laws.{little-join, little-one, little-past}
 use borrow.Author.Needs.{needs}
 use Rattle.words.proofs.edge_low.Statement.{statement}
 use Rattle.words.proofs.edge_low.Tie as tie
@@ -65,7 +65,11 @@ cast-result c = search needs
 
 -- src/lib.rt:145:1
 returns : tie.Need-returns
-returns c = little-join 3 1 _ _ (little-join 2 1 _ _ (little-join 1 1 _ _ (little-one _ _ (c .before .before .before .byte .ensures .0)) (little-one _ _ (c .before .before .byte2 .ensures .0))) (little-one _ _ (c .before .byte3 .ensures .0))) (little-one _ _ (c .byte4 .ensures .0))
+returns c =
+    let c₃ = c .before in
+    let c₂ = c₃ .before in
+    let c₁ = c₂ .before in
+    little-next 3 _ _ (little-next 2 _ _ (little-next 1 _ _ (little-one _ _ (c₁ .byte .ensures .0)) (c₂ .byte2 .ensures .0)) (c₃ .byte3 .ensures .0)) (c .byte4 .ensures .0)
 
 -- src/lib.rt:145:1
 returns-2 : tie.Need-returns-2

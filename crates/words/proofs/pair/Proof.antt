@@ -1,4 +1,4 @@
-use Rattle.words.proofs.Laws.{join, one}
+use Rattle.words.proofs.Laws.{one, next}
 use borrow.Author.Needs.{needs}
 use Rattle.words.proofs.pair.Statement.{statement}
 use Rattle.words.proofs.pair.Tie as tie
@@ -46,7 +46,7 @@ returns c = search needs
 
 -- src/lib.rt:54:1
 returns-2 : tie.Need-returns-2
-returns-2 c = join 1 1 _ _ (one _ _ (c .before .byte .ensures .0)) (one _ _ (c .byte2 .ensures .0))
+returns-2 c = next 1 _ _ (one _ _ (c .before .byte .ensures .0)) (c .byte2 .ensures .0)
 
 pub pair-spec : {M : Type 1} → statement M
 pair-spec =
