@@ -1,2 +1,4 @@
 pub mod Place
 pub mod Rows
+pub mod Fused
+pub mod Calls
