@@ -2,3 +2,5 @@ pub mod Place
 pub mod Rows
 pub mod Fused
 pub mod Calls
+pub mod Order
+pub mod Theorem
