@@ -4,3 +4,4 @@ pub mod Fused
 pub mod Calls
 pub mod Order
 pub mod Theorem
+pub mod Worked
