@@ -1,12 +1,11 @@
--- The two answers that the row form's theorem compares: a row call and the run, both on a list that the row form takes. Each answers 0, and its
--- samples are one rule, at each place of the row and of the window.
+-- The two answers that the row form's theorem compares: a row call and the run, both on a list that the row form takes.
+-- Each answers 0, and its samples are one rule, at each place of the row and of the window.
 use Prim.Native.Nat.{ℕ, _+_, _*_, _≤_, _<_}
-use mathlib.Core.Path.{_≡_, refl, sym, ap, ap₂, _∙_}
-use mathlib.Core.Bool.{Bool, true, false, _&&_, cond}
+use mathlib.Core.Path.{_≡_, ap, ap₂, _∙_}
+use mathlib.Core.Bool.{Bool, true, _&&_, cond}
 use mathlib.Core.List.{List}
 use native.Mathlib.Omega.{arith}
 use borrow.Author.Tests.{leb-true, le-leb}
-use lib.Dec.{leb}
 use lib.Ieee.{Float}
 use lib.ListN.{length}
 use Rattle.points.specs.Points.{each}
@@ -15,12 +14,14 @@ use Rattle.dng.specs.declared.RowWindow.{RowWindow}
 use Rattle.dng.specs.declared.Settings.{Settings}
 use Rattle.dng.specs.declared.Answer.the-variants as Ans
 use Rattle.dng.specs.declared.RowAnswer.the-variants as Row
+use Rattle.dng.specs.declared.Reading.{Reading}
 use Rattle.dng.specs.declared.Reading.the-variants as R
 use Rattle.dng.specs.List.{readingOf, itemsOf}
 use Rattle.dng.specs.Select.{Rule, onWindow, onRow}
 use Rattle.dng.specs.Value.{ruleOf}
-use Rattle.dng.specs.Run.{Kind, Room, namesOf, skipped, takesRows, f32Kind, Progress, going, performAll, rowOn}
-use Rattle.dng.specs.Answer.{inRange, rowInRange, Out, RowOut, unchanged, written, finished, ranOn, readOut, runOut, takesAll, frameOf, rowFrameOf, f32Out, rowRead, rowOut}
+use Rattle.dng.specs.Run.{Kind, Room, namesOf, skipped, takesRows, f32Kind, going, performAll, rowOn}
+use Rattle.dng.specs.Answer.{inRange, rowInRange, frameOf, rowFrameOf, RowOut, rowRead, rowOut}
+use Rattle.dng.specs.Answer.{Out, unchanged, written, finished, ranOn, readOut, runOut, takesAll, f32Out}
 use Rattle.rowform.specs.RowForm.{rowWindowOf}
 use Rattle.rowform.proofs.Fused.{allOf, both-true, perform-all, row-all, quiet}
 
@@ -83,40 +84,48 @@ row-ranged w period y n g high fits =
 
 -- ---- the answers
 
+-- a row call that is done, with what it leaves
+abbrev pub rowDone : List ℕ → List Float → RowOut
+rowDone list row = record { answer = Row.Done (length (namesOf skipped (itemsOf list))); row = row }
+
+-- a run that is done, with nothing repaired and nothing left
+abbrev pub runDone : List ℕ → (names : List ℕ) → List Float → Out Float
+runDone list names s =
+    record { answer = Ans.Done (length (namesOf skipped (itemsOf list))) 0 0; samples = s; names = written (namesOf skipped (itemsOf list)) names }
+
 -- a row call in range, on a list that is read whole and taken
 pub row-call : (rw : RowWindow) (scale : Float) (y : ℕ) (list : List ℕ) (row : List Float) (m : ℕ)
     → rowInRange rw y (length row) ≡ true → readingOf list ≡ R.Whole m → takesRows (itemsOf list) ≡ true
     → rowOut rw scale y list row
-    ≡ record { answer = Row.Done (length (namesOf skipped (itemsOf list))); row = each (onRow (rw .x0) (rw .planes) y (length row) (allOf (ruleOf (rowFrameOf rw scale)) list (itemsOf list))) row }
+    ≡ rowDone list (each (onRow (rw .x0) (rw .planes) y (length row) (allOf (ruleOf (rowFrameOf rw scale)) list (itemsOf list))) row)
 unfolding rowOut
 row-call rw scale y list row m ranges whole taken =
     ap (λ (b : Bool). cond b (rowRead rw scale y list row (readingOf list)) (record { answer = Row.Range; row = row })) ranges
     ∙ ap (rowRead rw scale y list row) whole
     ∙ ap (λ (b : Bool). cond b did (record { answer = Row.NotTaken; row = row })) taken
-    ∙ ap answered (row-all (rowFrameOf rw scale) (rw .x0) (rw .planes) y list (itemsOf list) row)
+    ∙ ap (rowDone list) (row-all (rowFrameOf rw scale) (rw .x0) (rw .planes) y list (itemsOf list) row)
   where
-    answered : List Float → RowOut
-    answered r = record { answer = Row.Done (length (namesOf skipped (itemsOf list))); row = r }
-
     did : RowOut
-    did = answered (rowOn (rowFrameOf rw scale) (rw .x0) (rw .planes) y list (itemsOf list) row)
+    did = rowDone list (rowOn (rowFrameOf rw scale) (rw .x0) (rw .planes) y list (itemsOf list) row)
 
 -- the run in range, on a list that is read whole and taken by the row form, with room for the names
 pub window-call : (w : Window) (set : Settings) (room : Room) (list : List ℕ) (s : List Float) (names : List ℕ) (m : ℕ)
     → inRange w (set .period) ≡ true → readingOf list ≡ R.Whole m → takesRows (itemsOf list) ≡ true
     → length (namesOf skipped (itemsOf list)) ≤ length names
-    → f32Out w set room list s names
-    ≡ record { answer = Ans.Done (length (namesOf skipped (itemsOf list))) 0 0; samples = each (onWindow w (length s) (rulesOf w (set .scale) list)) s; names = written (namesOf skipped (itemsOf list)) names }
+    → f32Out w set room list s names ≡ runDone list names (each (onWindow w (length s) (rulesOf w (set .scale) list)) s)
 unfolding runOut ranOn
 window-call w set room list s names m ranges whole taken roomy =
-    ap (λ (b : Bool). cond b (readOut kind takesAll skipped w (set .period) room list s names (readingOf list)) (unchanged Ans.Range s names)) ranges
-    ∙ ap (readOut kind takesAll skipped w (set .period) room list s names) whole
+    ap (λ (b : Bool). cond b (read (readingOf list)) (unchanged Ans.Range s names)) ranges
+    ∙ ap read whole
     ∙ ap (λ (b : Bool). cond b did (unchanged Ans.Names s names)) (le-leb _ _ roomy)
     ∙ ap (finished (namesOf skipped (itemsOf list)) names)
     (perform-all kind w (set .period) room list (quiet (frameOf w (set .scale))) (itemsOf list) 0 s 0 0 taken)
   where
     kind : Kind Float
     kind = f32Kind (frameOf w (set .scale))
+
+    read : Reading → Out Float
+    read r = readOut kind takesAll skipped w (set .period) room list s names r
 
     did : Out Float
     did = finished (namesOf skipped (itemsOf list)) names (performAll kind w (set .period) room list 0 (itemsOf list) (going s 0 0))

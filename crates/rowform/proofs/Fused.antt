@@ -1,6 +1,6 @@
 -- A list with no repair and no empty table is one rule: its opcodes one after another at a place. The run is that rule over the window,
 -- with the totals as they were, and a row goes through that rule on its own. Over any sample kind whose unapplied opcodes change nothing.
-use Prim.Native.Nat.{ℕ, suc, _+_, _≤_, _<_}
+use Prim.Native.Nat.{ℕ, suc}
 use mathlib.Core.Path.{_≡_, refl, sym, ap, subst, _∙_}
 use mathlib.Core.Bool.{Bool, true, false, _&&_, cond, false≢true}
 use mathlib.Core.List.{List, [], _∷_}
@@ -15,7 +15,8 @@ use Rattle.dng.specs.declared.Opcode.the-variants.{WarpRectilinear, WarpFisheye
 use Rattle.dng.specs.List.{Item, bodyOf}
 use Rattle.dng.specs.Select.{Rule, onWindow, onRow}
 use Rattle.dng.specs.Value.{Frame, ruleOf}
-use Rattle.dng.specs.Run.{Class, table, empty, local, repair, unapplied, classOf, rowTakes, takesRows, Kind, f32Kind, Progress, going, Room, performOn, perform, performAll, rowOn}
+use Rattle.dng.specs.Run.{Class, table, empty, local, repair, unapplied, classOf, rowTakes, takesRows}
+use Rattle.dng.specs.Run.{Kind, going, Room, performOn, perform, performAll, rowOn}
 use Rattle.rowform.proofs.Place.{on-window-both, on-window-none}
 
 -- the opcodes of a list at one place, in list order

@@ -1,13 +1,13 @@
--- Rows in any order: a rule run on the rows ys, one after another, is run at a place as often as its row stands in ys; with every row of the window
--- there exactly once, that is the rule on the window. Over any sample kind A. Assumes nothing.
+-- Rows in any order: a rule run on the rows ys, one after another, is run at a place as often as its row stands in ys.
+-- With every row of the window there exactly once, that is the rule on the window. Over any sample kind A. Assumes nothing.
 use Prim.Native.Nat.{ℕ, zero, suc, _+_, _≤_, _<_}
-use mathlib.Core.Path.{_≡_, refl, sym, ap, subst, _∙_}
+use mathlib.Core.Path.{_≡_, refl, sym, ap, _∙_}
 use mathlib.Core.Bool.{Bool, true, false, cond}
 use mathlib.Core.List.{List, [], _∷_}
 use native.Mathlib.Nat.{zero-add}
 use native.Mathlib.Omega.{arith}
 use borrow.Author.Tests.{lt-ltb, le-ltb, eq-eqb}
-use lib.Dec.{ltb, eqb}
+use lib.Dec.{eqb}
 use lib.ListN.{length}
 use Rattle.points.specs.Points.{each}
 use Rattle.points.proofs.Each.{below-or, each-agree, each-none, each-each}
@@ -19,7 +19,8 @@ use Rattle.rowform.proofs.Rows.{onlyRow}
 
 -- every y that stands in ys is below h
 pub once-below : (h : ℕ) (ys : List ℕ) → Once h ys → (y : ℕ) → 1 ≤ occurs y ys → y < h
-once-below h ys once y some = below-or y h (λ q. q) (λ q. absurd (omega (arith, once y, ap {B = ℕ} (λ (b : Bool). cond b 1 0) (le-ltb y h q))))
+once-below h ys once y some =
+    below-or y h (λ q. q) (λ q. absurd (omega (arith, once y, ap {B = ℕ} (λ (b : Bool). cond b 1 0) (le-ltb y h q))))
 
 pub occurs-head : (y : ℕ) (ys : List ℕ) → 1 ≤ occurs y (y ∷ ys)
 unfolding occurs

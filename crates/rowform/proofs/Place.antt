@@ -1,12 +1,12 @@
--- Where a place of the lent samples lies in a window, and what a rule does there: inside, below the last row, and in the gap right of the width.
--- Over any sample kind A. Assumes nothing.
-use Prim.Native.Nat.{ℕ, suc, _+_, _-_, _*_, _/_, _%_, _≤_, _<_}
-use mathlib.Core.Path.{_≡_, refl, sym, ap, ap₂, _∙_}
+-- Where a place of the lent samples lies in a window, and what a rule does there: inside, below the last row, and in the gap
+-- right of the width. Over any sample kind A. Assumes nothing.
+use Prim.Native.Nat.{ℕ, _+_, _*_, _/_, _≤_, _<_}
+use mathlib.Core.Path.{_≡_, refl, ap, ap₂, _∙_}
 use mathlib.Core.Bool.{Bool, true, false, _&&_, cond, and-false}
 use native.Mathlib.Nat.{div-add-mod', mod-lt}
 use native.Mathlib.Omega.{arith}
-use borrow.Author.Tests.{lt-ltb, le-ltb, le-leb, lt-leb}
-use lib.Dec.{leb, ltb}
+use borrow.Author.Tests.{lt-ltb, le-ltb, le-leb}
+use lib.Dec.{ltb}
 use Rattle.dng.specs.declared.Window.{Window}
 use Rattle.dng.specs.Select.{Rule, planeOf, columnOf, rowOf, active, inWindow, wholePixel, onWindow}
 

@@ -1,8 +1,9 @@
--- A rule run on one lent row of a window and put back is that rule on the row alone; row after row from the first on, it is the rule on the window.
--- Rows that the data does not reach are empty, and a row may end in the middle of a pixel. Over any sample kind A and any rule. Assumes nothing.
-use Prim.Native.Nat.{ℕ, suc, _+_, _-_, _*_, _/_, _%_, _≤_, _<_, min}
-use mathlib.Core.Path.{_≡_, refl, sym, ap, ap₂, _∙_}
-use mathlib.Core.Bool.{Bool, true, false, _&&_, cond}
+-- A rule run on one lent row of a window and put back is that rule on the row alone; row after row, it is the rule on the window.
+-- Rows that the data does not reach are empty, and a row may end in the middle of a pixel. Over any sample kind A and any rule.
+-- Assumes nothing.
+use Prim.Native.Nat.{ℕ, _+_, _-_, _*_, _/_, _%_, _≤_, _<_}
+use mathlib.Core.Path.{_≡_, sym, ap, ap₂, _∙_}
+use mathlib.Core.Bool.{Bool, false, _&&_, cond}
 use mathlib.Core.List.{List, [], _∷_, _++_, append-nil}
 use native.Mathlib.Nat.{div-add-mod', mul-le-mul-right, not-suc-le-zero}
 use native.Mathlib.Omega.{arith}
@@ -51,7 +52,8 @@ whole-same w l n y j here c =
   where
     pixel : (j / w .planes + 1) * w .planes ≡ rowStart w y + (columnOf w j + 1) * w .planes
     pixel =
-        omega (arith, ap (λ (m : ℕ). m * w .planes) (div-add-mod' (j / w .planes) (w .stride)), ap (λ (m : ℕ). m * (w .stride * w .planes)) here)
+        omega
+        (arith, ap (λ (m : ℕ). m * w .planes) (div-add-mod' (j / w .planes) (w .stride)), ap (λ (m : ℕ). m * (w .stride * w .planes)) here)
 
     inside : (columnOf w j + 1) * w .planes ≤ w .width * w .planes
     inside = mul-le-mul-right (w .planes) (omega arith)
@@ -109,7 +111,9 @@ module _ {A : Type 0} where
       ≡ onlyRow w n y f j v
   row-at w l n y f high j v below =
       below-or (rowOf w j) y
-      (λ q. between-low a (a + k) g j v (omega (arith, at, inRow, mul-le-mul-right (w .stride * w .planes) q)) ∙ sym (only-other w n y f j v (λ z. omega arith)))
+      (λ q.
+      between-low a (a + k) g j v (omega (arith, at, inRow, mul-le-mul-right (w .stride * w .planes) q))
+      ∙ sym (only-other w n y f j v (λ z. omega arith)))
       (λ q.
       below-or y (rowOf w j)
       (λ r.
@@ -161,10 +165,13 @@ module _ {A : Type 0} where
       ≡ each (onlyRow w (length s) y f) s
   row-run w l y high f s =
       ap (λ (m : ℕ). rowPut w y (each (onRow (w .x0) (w .planes) (w .y0 + y) m f) (rowPart w y s)) s) (row-length w y s)
-      ∙ part-within (onRow (w .x0) (w .planes) (w .y0 + y) (rowLength w (length s) y) f) (rowStart w y) (rowLength w (length s) y) s (omega arith)
+      ∙ part-within (onRow (w .x0) (w .planes) (w .y0 + y) k f) (rowStart w y) k s (omega arith)
       ∙ each-agree _ _ s (row-at w l (length s) y f high)
+    where
+      k : ℕ
+      k = rowLength w (length s) y
 
-  -- The same as a lent part comes back: k samples from a on, where a and k are known only to be the row's start and length.
+  -- The same as a lent part comes back, `putMid a k s row` in a goal: k samples from a on, a and k known to be the row's start and length.
   pub row-put : (w : Window) → Laid w → (y : ℕ) → y < w .height → (a k : ℕ) (f : Rule A) (s row : List A) → a ≡ rowStart w y
       → k ≡ rowLength w (length s) y
       → row ≡ each (onRow (w .x0) (w .planes) (w .y0 + y) (length (take k (drop a s))) f) (take k (drop a s))
@@ -222,9 +229,9 @@ module _ {A : Type 0} where
           (λ r. rows-out w n y f j v r ∙ sym (on-window-out w n f j v (row-outside w j (omega arith))))
 
   -- and so it is once the next row starts past the data
-  pub rows-past : (w : Window) → Laid w → (n y : ℕ) (f : Rule A) (s : List A) → length s ≤ rowStart w y
+  pub rows-past : (w : Window) (n y : ℕ) (f : Rule A) (s : List A) → length s ≤ rowStart w y
       → each (rowsBefore w n y f) s ≡ each (onWindow w n f) s
-  rows-past w l n y f s h =
+  rows-past w n y f s h =
       each-agree _ _ s
       (λ j v q.
       below-or (rowOf w j) y (rows-in w n y f j v)

@@ -9,15 +9,12 @@ use Rattle.points.specs.Points.{each}
 use Rattle.points.proofs.Each.{length-each}
 use Rattle.dng.specs.declared.Window.{Window}
 use Rattle.dng.specs.declared.Settings.{Settings}
-use Rattle.dng.specs.declared.RowAnswer.the-variants as Row
-use Rattle.dng.specs.List.{itemsOf}
 use Rattle.dng.specs.Select.{onRow}
-use Rattle.dng.specs.Run.{Room, namesOf, skipped}
-use Rattle.dng.specs.Answer.{Out, RowOut, f32Out, rowOut}
-use Rattle.rowform.specs.RowForm.{occurs, rowPart, rowPut, rowWindowOf, oneRow, allRows, RowForm, RowForm·if, Row-form}
+use Rattle.dng.specs.Answer.{Out, RowOut, rowOut}
+use Rattle.rowform.specs.RowForm.{occurs, rowPart, rowPut, rowWindowOf, oneRow, allRows, RowForm·if, Row-form}
 use Rattle.rowform.proofs.Place.{Laid}
 use Rattle.rowform.proofs.Rows.{onlyRow, row-length, row-run}
-use Rattle.rowform.proofs.Calls.{rulesOf, ranged, row-ranged, row-call, window-call}
+use Rattle.rowform.proofs.Calls.{rulesOf, rowDone, ranged, row-ranged, row-call, window-call}
 use Rattle.rowform.proofs.Order.{onRows, on-rows-once, once-below, occurs-head, occurs-tail}
 
 module _ (w : Window) (set : Settings) (list names ys : List ℕ) (h : RowForm·if w set list names ys) where
@@ -27,7 +24,7 @@ module _ (w : Window) (set : Settings) (list names ys : List ℕ) (h : RowForm·
   -- what a row call gives on a row of the window
   pub on-row-y : (y : ℕ) (t : List Float) → y < w .height
       → rowOut (rowWindowOf w) (set .scale) (w .y0 + y) list (rowPart w y t)
-      ≡ record { answer = Row.Done (length (namesOf skipped (itemsOf list))); row = each (onRow (w .x0) (w .planes) (w .y0 + y) (length (rowPart w y t)) (rulesOf w (set .scale) list)) (rowPart w y t) }
+      ≡ rowDone list (each (onRow (w .x0) (w .planes) (w .y0 + y) (length (rowPart w y t)) (rulesOf w (set .scale) list)) (rowPart w y t))
   on-row-y y t high =
       row-call (rowWindowOf w) (set .scale) (w .y0 + y) list (rowPart w y t) (h .opcodes)
       (row-ranged w (set .period) y (length (rowPart w y t)) (ranged w (set .period) (h .ranges)) high (omega (arith, row-length w y t)))

@@ -1,13 +1,13 @@
--- A worked instance: the image's rows 1 and 2 of a window with two pixels of two planes in a row and a gap of one pixel, the second row cut in the
--- middle of its second pixel, the second row called first, and a list that is one ScalePerRow of three values. `by list i` is its i-th scale.
+-- A worked instance: rows 1 and 2 of an image, two pixels of two planes each and a gap of one pixel, the second row cut in the middle of
+-- its second pixel and called first, and any list that is read as one ScalePerRow of three values.
 -- The theorem's hypotheses hold there, and the samples it speaks of are these, by computing, from the rows and from the run.
-use Prim.Native.Nat.{ℕ, zero, suc, _+_, _*_}
+use Prim.Native.Nat.{ℕ, zero, suc, _+_}
 use mathlib.Core.Path.{_≡_, refl, sym, ap, ap₂, _∙_}
 use mathlib.Core.Bool.{Bool, true, false, _&&_, cond}
 use mathlib.Core.List.{List, [], _∷_}
 use native.Mathlib.Omega.{arith}
 use borrow.Author.Tests.{le-ltb, ne-eqb, eqb-true}
-use lib.Dec.{ltb, eqb}
+use lib.Dec.{eqb}
 use lib.Ieee.{Float}
 use lib.ListN.{length}
 use Rattle.points.specs.Points.{each}
@@ -17,7 +17,6 @@ use Rattle.dng.specs.declared.Entry.{Entry}
 use Rattle.dng.specs.declared.Opcode.the-variants.{ScalePerRow}
 use Rattle.dng.specs.declared.Window.{Window}
 use Rattle.dng.specs.declared.Settings.{Settings}
-use Rattle.dng.specs.declared.Reading.{Reading}
 use Rattle.dng.specs.declared.Reading.the-variants as R
 use Rattle.dng.specs.declared.Answer.the-variants as Ans
 use Rattle.dng.specs.List.{Item, u32At, bodyOf, readingOf, itemsOf, counted}
@@ -49,7 +48,9 @@ unfolding occurs
 once zero = refl
 once (suc zero) = refl
 once (suc (suc y)) =
-    ap₂ (λ (b c : Bool). cond b 1 0 + (cond c 1 0 + 0)) (ne-eqb (suc (suc y)) 1 (λ z. omega arith)) (ne-eqb (suc (suc y)) 0 (λ z. omega arith))
+    ap₂ (λ (b c : Bool). cond b 1 0 + (cond c 1 0 + 0))
+    (ne-eqb (suc (suc y)) 1 (λ z. omega arith))
+    (ne-eqb (suc (suc y)) 0 (λ z. omega arith))
     ∙ sym (ap (λ (b : Bool). cond b 1 0) (le-ltb (suc (suc y)) 2 (omega arith)))
 
 -- a list that is read as one ScalePerRow
@@ -74,6 +75,7 @@ module _ (list : List ℕ) (settings : Settings) (period : settings .period ≡ 
         once = once;
       }
 
+  -- times the list's i-th scale
   abbrev by : ℕ → Float → Float
   by i v = scaled (nth 3 (bodyOf list (l .entry)) one i) v
 
