@@ -1,2 +1,4 @@
 pub mod Values
 pub mod Near
+pub mod Pairs
+pub mod Marks
