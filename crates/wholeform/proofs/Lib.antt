@@ -4,3 +4,6 @@ pub mod Pairs
 pub mod Marks
 pub mod Mean
 pub mod Rules
+pub mod Run
+pub mod Names
+pub mod Theorem

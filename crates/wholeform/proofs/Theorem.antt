@@ -1,0 +1,2 @@
+-- Demand 3 for the whole-number form, proved.
+use Prim.Native.Nat.{ℕ}
