@@ -1,7 +1,7 @@
 -- Both runs mark the same positions of the window, count the same totals, and have room for any marks. Assumes nothing.
-use Prim.Native.Nat.{ℕ, zero, suc, _+_, _-_, _*_, _/_, _%_, _≤_, _<_, max}
-use mathlib.Core.Path.{_≡_, refl, sym, ap, ap₂, subst, _∙_}
-use mathlib.Core.Bool.{Bool, true, false, not, _&&_, _||_, cond, true≢false, false≢true}
+use Prim.Native.Nat.{ℕ, zero, suc, _+_, _-_, _*_, _/_, _%_, _≤_, _<_}
+use mathlib.Core.Path.{_≡_, refl, ap, ap₂, subst, _∙_}
+use mathlib.Core.Bool.{Bool, true, false, not, _&&_, cond, false≢true}
 use mathlib.Core.List.{List, [], _∷_}
 use native.Mathlib.Nat.{lt-of-lt-of-le, mul-le-mul-right, mul-comm, mod-lt, div-lt-iff-lt-mul}
 use native.Mathlib.Omega.{arith}
@@ -10,7 +10,7 @@ use lib.Arith.{digits-lt}
 use lib.Dec.{leb, ltb, eqb}
 use lib.IntN.{ℤ}
 use lib.Ieee.{Float, nan, binary32, div, eq}
-use lib.ListN.{length, getD}
+use lib.ListN.{length}
 use Rattle.convert.specs.Convert.{wholeIn}
 use Rattle.dng.specs.declared.Window.{Window}
 use Rattle.dng.specs.declared.Opcode.{Opcode}
@@ -18,7 +18,8 @@ use Rattle.dng.specs.declared.Opcode.the-variants.{WarpRectilinear, WarpFisheye
 use Rattle.dng.specs.Select.{active}
 use Rattle.dng.specs.Value.{one}
 use Rattle.dng.specs.Repair.{countBelow, positions, complete, sampleAt, badValue, marksOn, marksOf, moved, sound, soundOn, soundAt, stepOf, steps, markedIn, repairedIn, leftIn}
-use Rattle.wholeform.proofs.Near.{Exact, constant-is}
+use Rattle.wholeform.proofs.Wholes.{constant-is}
+use Rattle.wholeform.proofs.Near.{Exact, gapless}
 use Rattle.wholeform.proofs.Pairs.{Pairs}
 
 -- ---- Boolean cases
@@ -87,7 +88,7 @@ abbrev pub Agree : Window → (ℕ → Bool) → (ℕ → Bool) → Type 0
 Agree w bad bad′ = (q : ℕ) → q < positions w → bad q ≡ bad′ q
 
 exact-bad : (c a : ℕ) (v : Float) → Exact a v → bad32 c v ≡ bad16 c a
-exact-bad c a v e = ap (λ (z : Float). bad32 c z) (e .same) ∙ constant-is a c (e .small)
+exact-bad c a v e = ap (λ (z : Float). bad32 c z) (e .same) ∙ constant-is binary32 a c (gapless a (e .small))
 
 module _ (w : Window) (s : List ℕ) (t : List Float) (p : Pairs Exact s t) (planes : 0 < w .planes) where
   value-same : (c q : ℕ) → complete w (length s) ≡ true → q < positions w → badValue nan w (bad32 c) t q ≡ badValue 0 w (bad16 c) s q

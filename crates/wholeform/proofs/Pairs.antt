@@ -1,19 +1,17 @@
 -- u16 samples and f32 samples, place by place: the relation that both runs keep. Widened samples are pairs, and what is narrowed from near ones are the
 -- u16 samples. Assumes nothing.
-use Prim.Native.Nat.{ℕ, zero, suc, _+_, _≤_, _<_}
-use mathlib.Core.Path.{_≡_, refl, sym, ap, subst, _∙_}
+use Prim.Native.Nat.{ℕ, zero, suc, _<_}
+use mathlib.Core.Path.{_≡_, refl, sym, subst, _∙_}
 use mathlib.Core.List.{List, [], _∷_, map}
 use native.Mathlib.Nat.{le-of-suc-le-suc, not-suc-le-zero}
 use native.Mathlib.Omega.{arith}
-use lib.Ieee.{Float, nan, binary32}
+use lib.Ieee.{Float, nan}
 use lib.ListN.{length, getD, length-map}
 use lib.Seq.{ext-getD}
 use Rattle.points.specs.Points.{each}
 use Rattle.points.proofs.Each.{length-each, getD-each}
-use Rattle.whole.specs.Whole.{roundHeld}
-use Rattle.convert.specs.Convert.{wholeIn}
 use Rattle.wholeform.specs.WholeForm.{Below, widened, narrowed}
-use Rattle.wholeform.proofs.Near.{Exact, Near, near-narrowed}
+use Rattle.wholeform.proofs.Near.{Exact, Near, near-held}
 
 -- as long, and R at each place
 pub record Pairs (R : ℕ → Float → Type 0) (s : List ℕ) (t : List Float) : Type 0 where
@@ -28,16 +26,15 @@ getD-map-in f (x ∷ xs) (suc i) d e h = getD-map-in f xs i d e (le-of-suc-le-su
 pub pairs-widened : (s : List ℕ) → Below 65536 s → Pairs Exact s (widened s)
 pairs-widened s h =
     record {
-      long = length-map s (λ (v : ℕ). wholeIn binary32 v);
-      at = λ i q. record { small = h i q; same = getD-map-in (λ (v : ℕ). wholeIn binary32 v) s i 0 nan q };
+      long = length-map s _;
+      at = λ i q. record { small = h i q; same = getD-map-in _ s i 0 nan q };
     }
 
 pub pairs-narrowed : (s : List ℕ) (t : List Float) → Pairs Near s t → s ≡ narrowed t
 pairs-narrowed s t p =
-    ext-getD 0 s (narrowed t) (sym (p .long) ∙ sym (length-map t (λ (v : Float). roundHeld 65535 v)))
+    ext-getD 0 s (narrowed t) (sym (p .long) ∙ sym (length-map t _))
     (λ i q.
-    sym (near-narrowed (p .at i q))
-    ∙ sym (getD-map-in (λ (v : Float). roundHeld 65535 v) t i nan 0 (subst (λ (n : ℕ). i < n) (sym (p .long)) q)))
+    sym (getD-map-in _ t i nan 0 (subst (λ (n : ℕ). i < n) (sym (p .long)) q) ∙ near-held _ (p .at i q) ∙ omega (arith, p .at i q .small)))
 
 module _ {R Q : ℕ → Float → Type 0} where
   pub pairs-weaken : {s : List ℕ} {t : List Float} → ((a : ℕ) (v : Float) → R a v → Q a v) → Pairs R s t → Pairs Q s t

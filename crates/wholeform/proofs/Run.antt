@@ -1,13 +1,12 @@
 -- Both runs, opcode by opcode: samples are exact until the one repair and near after it, and both go on to the end with the same totals.
 -- Assumes nothing.
-use Prim.Native.Nat.{ℕ, zero, suc, _+_, _*_, _≤_, _<_}
+use Prim.Native.Nat.{ℕ, suc, _+_, _*_, _<_}
 use mathlib.Core.Path.{_≡_, refl, sym, ap, ap₂, subst, _∙_}
 use mathlib.Core.Bool.{Bool, true, false, _&&_, cond, false≢true}
 use mathlib.Core.List.{List, [], _∷_}
 use native.Mathlib.Nat.{le-trans, mul-le-mul-left}
-use native.Mathlib.Omega.{arith}
 use borrow.Author.Tests.{le-leb}
-use lib.Dec.{leb, eqb}
+use lib.Dec.{eqb}
 use lib.Ieee.{Float, nan, binary32}
 use lib.ListN.{length, getD}
 use Rattle.points.specs.Points.{each}
@@ -18,17 +17,17 @@ use Rattle.dng.specs.declared.Window.{Window}
 use Rattle.dng.specs.declared.Opcode.{Opcode}
 use Rattle.dng.specs.declared.Opcode.the-variants.{WarpRectilinear, WarpFisheye, FixVignetteRadial, FixBadPixelsConstant, FixBadPixelsList, TrimBounds, MapTable, MapPolynomial, GainMap, DeltaPerRow, DeltaPerColumn, ScalePerRow, ScalePerColumn, Other}
 use Rattle.dng.specs.List.{Item, bodyOf}
-use Rattle.dng.specs.Select.{onRegion, onWindow}
+use Rattle.dng.specs.Select.{onWindow}
 use Rattle.dng.specs.Value.{one, tableAt, mapTable, mapTable16, ruleOf, rule16Of}
-use Rattle.dng.specs.Repair.{positions, marksOf, markedIn, repairedIn, leftIn, repairAt}
-use Rattle.dng.specs.Run.{Class, table, empty, repair, classOf, takes16On, takes16From, Kind, f32Kind, u16Kind, Progress, going, Room, repairOn, performOn, perform, performAll}
+use Rattle.dng.specs.Repair.{marksOf, markedIn, repairedIn, leftIn, repairAt}
+use Rattle.dng.specs.Run.{table, empty, repair, classOf, takes16On, takes16From, Kind, f32Kind, u16Kind, Progress, going, Room, repairOn, performOn, perform, performAll}
 use Rattle.dng.specs.Answer.{frameOf}
 use Rattle.wholeform.specs.WholeForm.{Below, Enough}
 use Rattle.wholeform.proofs.Near.{Exact, Near, exact-near}
 use Rattle.wholeform.proofs.Pairs.{Pairs, pairs-weaken, pairs-each}
-use Rattle.wholeform.proofs.Marks.{and-first, and-second, bad16, bad32, marks-same, repaired-same, left-same, marked-le, repaired-le}
-use Rattle.wholeform.proofs.Mean.{repair-near}
-use Rattle.wholeform.proofs.Rules.{Kept, body-entry, region-pair, window-pair, table-pair}
+use Rattle.wholeform.proofs.Marks.{bad16, bad32, marks-same, repaired-same, left-same, marked-le, repaired-le}
+use Rattle.wholeform.proofs.Repairs.{repair-near}
+use Rattle.wholeform.proofs.Tables.{Kept, body-entry, region-pair, window-pair, table-pair}
 
 -- how the samples stand: exact while a repair may still come, near after it
 abbrev pub Rel : Bool → ℕ → Float → Type 0

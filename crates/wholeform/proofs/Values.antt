@@ -2,12 +2,12 @@
 -- comes back from `round`, the half-away rounding and the comparison go by the fraction. Assumes nothing.
 use Prim.Native.Nat.{ℕ, zero, suc, _+_, _-_, _*_, _/_, _%_, _^_, _≤_, _<_, min}
 use mathlib.Core.Path.{_≡_, refl, sym, ap, ap₂, subst, _∙_}
-use mathlib.Core.Bool.{Bool, true, false, not, _&&_, _||_, cond, true≢false, and-true}
-use native.Mathlib.Nat.{le-of-suc-le-suc, lt-of-not-le, not-le-of-lt, zero-lt-suc, lt-irrefl, mul-pos, mul-one, one-mul, zero-mul, mul-comm, mul-assoc, mul-left-comm, mul-right-comm, add-mul, mul-add, eq-of-mul-eq-mul-right, le-trans, le-of-eq, le-of-lt, lt-of-lt-of-le, lt-of-le-of-lt, mul-le-mul-right, mul-lt-mul-of-pos-right, lt-of-mul-lt-mul-right}
+use mathlib.Core.Bool.{Bool, true, false, _&&_, _||_, cond, true≢false, and-true}
+use native.Mathlib.Nat.{le-of-suc-le-suc, lt-of-not-le, not-le-of-lt, zero-lt-suc, lt-irrefl, mul-pos, mul-one, one-mul, zero-mul, mul-comm, mul-assoc, mul-left-comm, mul-right-comm, add-mul, eq-of-mul-eq-mul-right, le-trans, le-of-eq, le-of-lt, lt-of-lt-of-le, lt-of-le-of-lt, mul-le-mul-right, mul-lt-mul-of-pos-right, lt-of-mul-lt-mul-right}
 use native.Mathlib.Omega.{arith}
 use borrow.Author.Tests.{ltb-true, eqb-true, eqb-false, eq-eqb, ne-eqb}
 use lib.IntN.{ℤ, pos, negsuc}
-use lib.Dec.{T, leb, ltb, eqb, ltb→lt, leb→le, eqb→eq, eqb-refl}
+use lib.Dec.{T, leb, ltb, eqb, ltb→lt, leb→le, eqb→eq}
 use lib.Pow.{pow-add, pow-pos, pow-lt}
 use lib.Ieee.{Float, Format, nan, inf, fin, prec, emax, low, up, down, odd, units, round, add, mul, div, eq, le, fits}
 use lib.Ieee.Fits.{round-is, up-pos, down-pos, and-l, and-r}
@@ -178,15 +178,6 @@ div-one-value f x y a c C t v w =
     subst (λ (z : Float). HasValue z false a c)
     (sym (div-at f x y a c 1 1 C (zero-lt-suc 0) (zero-lt-suc 0) v w ∙ ap₂ (round f false) (mul-one a) (mul-one c)))
     (kept-value f x false a c C t v)
-
--- ---- a sum of whole numbers that the format counts without a gap
-
-pub add-whole : (f : Format) (x y : Float) (a b : ℕ) → a + b ≤ 2 ^ prec f → HasValue x false a 1 → HasValue y false b 1
-    → HasValue (add f x y) false (a + b) 1
-add-whole f x y a b h v w =
-    subst (λ (z : Float). HasValue z false (a + b) 1)
-    (sym (add-at f x y a 1 b 1 (zero-lt-suc 0) (zero-lt-suc 0) v w ∙ ap (λ (z : ℕ). round f false z 1) (ap₂ _+_ (mul-one a) (mul-one b))))
-    (round-whole f false (a + b) h)
 
 -- ---- rounded half away from zero, by any fraction that the value equals
 

@@ -1,14 +1,14 @@
 -- The repair of both runs, sample by sample: from exact samples the tallies are the same, their sums are exact, and the means are near. Assumes nothing.
-use Prim.Native.Nat.{ℕ, zero, suc, _+_, _-_, _*_, _/_, _%_, _≤_, _<_}
-use mathlib.Core.Path.{_≡_, refl, sym, ap, ap₂, subst, _∙_}
+use Prim.Native.Nat.{ℕ, suc, _+_, _*_, _≤_, _<_}
+use mathlib.Core.Path.{_≡_, refl, sym, ap, subst, _∙_}
 use mathlib.Core.Bool.{Bool, true, false, _&&_, cond}
 use mathlib.Core.List.{List, [], _∷_}
-use native.Mathlib.Nat.{zero-lt-suc, add-zero, add-suc, suc-add, le-trans, mod-lt}
+use native.Mathlib.Nat.{le-trans, mod-lt}
 use native.Mathlib.Omega.{arith}
 use borrow.Author.Tests.{ltb-true, eqb-false}
 use lib.Dec.{eqb, ltb, lit≤}
-use lib.IntN.{ℤ, pos}
-use lib.Ieee.{Float, nan, binary32, add, div}
+use lib.IntN.{ℤ}
+use lib.Ieee.{Float, nan, binary32, add}
 use lib.Ieee.Exact.{HasValue}
 use lib.ListN.{length, getD}
 use Rattle.whole.specs.Whole.{roundHeld}
@@ -18,8 +18,8 @@ use Rattle.dng.specs.declared.Opcode.{Opcode}
 use Rattle.dng.specs.Select.{active, inWindow, rowOf, columnOf, planeOf}
 use Rattle.dng.specs.Value.{nought}
 use Rattle.dng.specs.Repair.{positions, Tally, complete, sampleAt, marksOn, marksOf, sound, steps, tallyOn, tallyAt, meanOf, stepOf, repairAt}
-use Rattle.wholeform.proofs.Values.{add-whole}
-use Rattle.wholeform.proofs.Near.{Exact, Near, exact-near, exact-value, mean-near}
+use Rattle.wholeform.proofs.Wholes.{add-whole}
+use Rattle.wholeform.proofs.Near.{Exact, Near, exact-near, sample-value, mean-near}
 use Rattle.wholeform.proofs.Pairs.{Pairs}
 use Rattle.wholeform.proofs.Marks.{Agree, and-first, and-second, bad16, bad32, marks-same, place-in, position-in, sound-any, sound-same}
 
@@ -176,4 +176,4 @@ module _ (w : Window) (period : ℕ) (s : List ℕ) (t : List Float) (p : Pairs 
       inside i = in-window w j i
 
       whole16 : {a : ℕ} {v : Float} → Exact a v → Whole16 (wholeIn binary32 a)
-      whole16 {a} {v} e = record { number = a; small = e .small; value = exact-value (record { small = e .small; same = refl }) }
+      whole16 {a} {v} e = record { number = a; small = e .small; value = sample-value a (e .small) }
