@@ -39,8 +39,11 @@ fn in_bytes(bits: u64) -> u64 {
     s[6] = (bits / 256 % 256) as u8;
     s[7] = (bits % 256) as u8;
     let at = (bits % 11) as usize;
-    let big = words::u16_at(&s, at) as u64 + words::u32_at(&s, at) as u64 + words::u64_at(&s, at) % 0x1_0000_0000;
-    let floats = words::bits_of(words::f32_at(&s, at)) as u64 + words::bits_of(narrow::to_f32(words::f64_at(&s, at))) as u64;
+    let big = words::u16_at(&s, at) as u64
+        + words::u32_at(&s, at) as u64
+        + words::u64_at(&s, at) % 0x1_0000_0000;
+    let floats = words::bits_of(words::f32_at(&s, at)) as u64
+        + words::bits_of(narrow::to_f32(words::f64_at(&s, at))) as u64;
     let low = words::u16_from(&s, at) as u64 + words::bits_of(words::f32_from(&s, at)) as u64;
     words::put_u16(&mut s, at, 0x1234);
     words::put_f32(&mut s, (at + 5) % 11, 1.5);
