@@ -1,4 +1,4 @@
--- The conditions of the theorem can be met: a list of four entries (an empty table, a repair of the value 0, a trim, a table of two entries)
+-- The conditions of the theorem can be met: a list of four entries (an empty table, a repair of the value 0, a trim, a table with two)
 -- on a window of 3 by 1 with the values 10, 0, 19. The f32 run names 7 and 6, the whole-number form 6 alone. Assumes nothing.
 use Prim.Native.Nat.{ℕ, zero, suc}
 use mathlib.Core.Path.{refl}
