@@ -11,3 +11,5 @@ pub mod Names
 -- the two runs side by side, and the theorem
 pub mod Run
 pub mod Theorem
+-- its conditions can be met
+pub mod Worked

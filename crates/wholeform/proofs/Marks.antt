@@ -63,16 +63,16 @@ pub place-in : (w : Window) (n x y k : ℕ) → complete w n ≡ true → x < w 
 unfolding complete
 place-in w n x y k e h p q =
     let row : y * w .stride ≤ (w .height - 1) * w .stride = mul-le-mul-right (w .stride) (omega arith) in
-    let full : ((w .height - 1) * w .stride + w .width) * w .planes ≤ n =
-    leb-true (((w .height - 1) * w .stride + w .width) * w .planes) n
-    (and-second (leb 1 (w .height)) (leb (((w .height - 1) * w .stride + w .width) * w .planes) n)
-    (and-second (active w) (leb 1 (w .height) && leb (((w .height - 1) * w .stride + w .width) * w .planes) n) e)) in
-    lt-of-lt-of-le (digits-lt {q = y * w .stride + x} {m = (w .height - 1) * w .stride + w .width} (omega arith) q) full
+    let pixels : ℕ = (w .height - 1) * w .stride + w .width in
+    let full : pixels * w .planes ≤ n =
+    leb-true (pixels * w .planes) n (and-second (leb 1 (w .height)) (leb (pixels * w .planes) n) (and-second (active w) _ e)) in
+    lt-of-lt-of-le (digits-lt {q = y * w .stride + x} {m = pixels} (omega arith) q) full
 
 pub complete-wide : (w : Window) (n : ℕ) → complete w n ≡ true → 0 < w .width
 unfolding complete active
 complete-wide w n e =
-    leb-true 1 (w .width) (and-first (leb 1 (w .width)) (leb (w .width) (w .stride)) (and-first (leb 1 (w .width) && leb (w .width) (w .stride)) (leb 1 (w .height) && leb (((w .height - 1) * w .stride + w .width) * w .planes) n) e))
+    leb-true 1 (w .width)
+    (and-first (leb 1 (w .width)) (leb (w .width) (w .stride)) (and-first (leb 1 (w .width) && leb (w .width) (w .stride)) _ e))
 
 -- ---- the marks
 
@@ -149,14 +149,16 @@ module _ {B : Type 0} (w : Window) (period : ℕ) where
   sound-same bad bad′ same x y d f g t u h k =
       let xx : ℕ = moved x (d .0) period (w .width) in
       let yy : ℕ = moved y (d .1) period (w .height) in
-      go xx yy (ltb xx (w .width)) (ltb yy (w .height)) (bad (yy * w .width + xx)) (bad′ (yy * w .width + xx)) (ltb-true xx (w .width)) (ltb-true yy (w .height))
-      (λ p q. same (yy * w .width + xx) (position-in w xx yy p q))
+      let q : ℕ = yy * w .width + xx in
+      go xx yy (ltb xx (w .width)) (ltb yy (w .height)) (bad q) (bad′ q) (ltb-true xx (w .width)) (ltb-true yy (w .height))
+      (λ h k. same q (position-in w xx yy h k))
     where
       either : (c : Bool) (xx yy : ℕ) → xx < w .width → yy < w .height → cond (not c) (f xx yy) t ≡ cond (not c) (g xx yy) u
       either true xx yy p q = k
       either false xx yy p q = h xx yy p q
 
-      go : (xx yy : ℕ) (a b c e : Bool) → (a ≡ true → xx < w .width) → (b ≡ true → yy < w .height) → (xx < w .width → yy < w .height → c ≡ e)
+      go : (xx yy : ℕ) (a b c e : Bool) → (a ≡ true → xx < w .width) → (b ≡ true → yy < w .height)
+          → (xx < w .width → yy < w .height → c ≡ e)
           → cond (a && (b && not c)) (f xx yy) t ≡ cond (a && (b && not e)) (g xx yy) u
       go xx yy true true c e p q r = either c xx yy (p refl) (q refl) ∙ ap (λ (z : Bool). cond (not z) (g xx yy) u) (r (p refl) (q refl))
       go xx yy true false c e p q r = k
@@ -170,7 +172,8 @@ module _ (w : Window) (period : ℕ) (bad bad′ : ℕ → Bool) (same : Agree w
   unfolding soundOn
   sound-on-same x y [] = refl
   sound-on-same x y (d ∷ ds) =
-      ap₂ _+_ (sound-same w (stepOf period) bad bad′ same x y d (λ xx yy. 1) (λ xx yy. 1) 0 0 (λ xx yy p q. refl) refl) (sound-on-same x y ds)
+      ap₂ _+_ (sound-same w (stepOf period) bad bad′ same x y d (λ xx yy. 1) (λ xx yy. 1) 0 0 (λ xx yy p q. refl) refl)
+      (sound-on-same x y ds)
 
   sound-at-same : (q : ℕ) → soundAt w period bad q ≡ soundAt w period bad′ q
   sound-at-same q = sound-on-same (q % w .width) (q / w .width) steps

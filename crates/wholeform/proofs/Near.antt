@@ -1,5 +1,5 @@
--- A u16 sample as f32, and an f32 that rounds to a u16 sample: narrowed it is the sample, a table at scale 1 makes it exact, and a mean is near.
--- Assumes nothing.
+-- A u16 sample as f32, and an f32 that rounds to a u16 sample: narrowed it is the sample, a table at scale 1 makes it exact,
+-- and a mean is near. Assumes nothing.
 use Prim.Native.Nat.{ℕ, _-_, _*_, _^_, _≤_, _<_, min}
 use mathlib.Core.Path.{_≡_, sym, ap, subst, _∙_}
 use mathlib.Core.Bool.{false}
@@ -81,7 +81,8 @@ table-exact {a} {v} n b entries h =
 pub mean-near : (x : Float) (s n : ℕ) → 0 < n → n ≤ 16777216 → s ≤ 65535 * n → HasValue x false s 1
     → Near (roundHeld 65535 (div binary32 x (wholeIn binary32 n))) (div binary32 x (wholeIn binary32 n))
 mean-near x s n N few h v =
-    let m : Mean binary32 65535 (div binary32 x (wholeIn binary32 n)) = mean-whole binary32 x s n 65535 N few (lit≤ {m = 65535} {n = 16777216} tt) h v in
+    let m : Mean binary32 65535 (div binary32 x (wholeIn binary32 n)) =
+    mean-whole binary32 x s n 65535 N few (lit≤ {m = 65535} {n = 16777216} tt) h v in
     let held : roundHeld 65535 (div binary32 x (wholeIn binary32 n)) ≡ halfUp (m .units) (2 ^ low binary32) =
     held-at 65535 (div binary32 x (wholeIn binary32 n)) (m .units) (2 ^ low binary32) (pow-pos (low binary32)) (m .value)
     ∙ least (halfUp (m .units) (2 ^ low binary32)) (m .upto) in

@@ -1,5 +1,5 @@
--- u16 samples and f32 samples, place by place: the relation that both runs keep. Widened samples are pairs, and what is narrowed from near ones are the
--- u16 samples. Assumes nothing.
+-- u16 samples and f32 samples, place by place: the relation that both runs keep. Widened samples are pairs, and near pairs,
+-- narrowed, are the u16 samples. Assumes nothing.
 use Prim.Native.Nat.{ℕ, zero, suc, _<_}
 use mathlib.Core.Path.{_≡_, refl, sym, subst, _∙_}
 use mathlib.Core.List.{List, [], _∷_, map}
@@ -49,6 +49,7 @@ module _ {R Q : ℕ → Float → Type 0} where
         long = length-each g t ∙ p .long ∙ sym (length-each f s);
         at = λ i q.
             let r : i < length s = subst (λ (n : ℕ). i < n) (length-each f s) q in
+            let r′ : i < length t = subst (λ (n : ℕ). i < n) (sym (p .long)) r in
             subst (λ (a : ℕ). Q a (getD (each g t) i nan)) (sym (getD-each f s i 0 r))
-            (subst (λ (v : Float). Q (f i (getD s i 0)) v) (sym (getD-each g t i nan (subst (λ (n : ℕ). i < n) (sym (p .long)) r))) (h i r (p .at i r)));
+            (subst (λ (v : Float). Q (f i (getD s i 0)) v) (sym (getD-each g t i nan r′)) (h i r (p .at i r)));
       }

@@ -1,4 +1,5 @@
--- The repair of both runs, sample by sample: from exact samples the tallies are the same, their sums are exact, and the means are near. Assumes nothing.
+-- The repair of both runs, sample by sample: from exact samples the tallies are the same, their sums are exact,
+-- and the means are near. Assumes nothing.
 use Prim.Native.Nat.{ℕ, suc, _+_, _*_, _≤_, _<_}
 use mathlib.Core.Path.{_≡_, refl, sym, ap, subst, _∙_}
 use mathlib.Core.Bool.{Bool, true, false, _&&_, cond}
@@ -88,7 +89,8 @@ module _ (w : Window) (period : ℕ) where
 
 mean-of : (t : Tally) → Sum t 8 → eqb (t .n) 0 ≡ false → Near (roundHeld 65535 (meanOf t)) (meanOf t)
 mean-of t s e =
-    mean-near (t .sum) (s .total) (t .n) (above (t .n) (eqb-false (t .n) 0 e)) (le-trans (s .few) (lit≤ {m = 8} {n = 16777216} tt)) (s .bound) (s .value)
+    mean-near (t .sum) (s .total) (t .n) (above (t .n) (eqb-false (t .n) 0 e)) (le-trans (s .few) (lit≤ {m = 8} {n = 16777216} tt))
+    (s .bound) (s .value)
   where
     above : (n : ℕ) → (n ≡ 0 → ⊥) → 0 < n
     above n h = omega arith
@@ -120,7 +122,15 @@ choose true c true u v t t′ marks tallies near =
     go true e = near
     go false e = mean-of t′ (tallies refl refl .1) e
 
-module _ (w : Window) (period : ℕ) (s : List ℕ) (t : List Float) (p : Pairs Exact s t) (planes : 0 < w .planes) (op : Opcode) (b : List ℕ) where
+-- what a repair with the marks `bad` makes of the sample at a place, in either run
+abbrev pub mend16 : Window → (period : ℕ) → (ℕ → Bool) → List ℕ → ℕ → ℕ → ℕ
+mend16 w period bad s = repairAt 0 (λ (v : ℕ). wholeIn binary32 v) (λ (v : Float). roundHeld 65535 v) w period bad s
+
+abbrev pub mend32 : Window → (period : ℕ) → (ℕ → Bool) → List Float → ℕ → Float → Float
+mend32 w period bad t = repairAt nan (λ (v : Float). v) (λ (v : Float). v) w period bad t
+
+module _ (w : Window) (period : ℕ) (s : List ℕ) (t : List Float) (p : Pairs Exact s t) (planes : 0 < w .planes) (op : Opcode)
+    (b : List ℕ) where
   marked-complete : (q : ℕ) → marksOf 0 w bad16 op b s q ≡ true → complete w (length s) ≡ true
   unfolding marksOf
   marked-complete q e = and-first (complete w (length s)) (marksOn 0 w bad16 op b s q) e
@@ -130,8 +140,7 @@ module _ (w : Window) (period : ℕ) (s : List ℕ) (t : List Float) (p : Pairs 
   sample-exact full k h xx yy m n = p .at ((yy * w .stride + xx) * w .planes + k) (place-in w (length s) xx yy k full m n h)
 
   pub repair-near : (j : ℕ) → j < length s
-      → Near (repairAt 0 (λ (v : ℕ). wholeIn binary32 v) (λ (v : Float). roundHeld 65535 v) w period (marksOf 0 w bad16 op b s) s j (getD s j 0))
-      (repairAt nan (λ (v : Float). v) (λ (v : Float). v) w period (marksOf nan w bad32 op b t) t j (getD t j nan))
+      → Near (mend16 w period (marksOf 0 w bad16 op b s) s j (getD s j 0)) (mend32 w period (marksOf nan w bad32 op b t) t j (getD t j nan))
   unfolding repairAt
   repair-near j h =
       choose (inWindow w j) (bad here) (bad′ here) (getD s j 0) (getD t j nan)

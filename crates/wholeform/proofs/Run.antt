@@ -7,11 +7,9 @@ use mathlib.Core.List.{List, [], _∷_}
 use native.Mathlib.Nat.{le-trans, mul-le-mul-left}
 use borrow.Author.Tests.{le-leb}
 use lib.Dec.{eqb}
-use lib.Ieee.{Float, nan, binary32}
+use lib.Ieee.{Float, nan}
 use lib.ListN.{length, getD}
 use Rattle.points.specs.Points.{each}
-use Rattle.whole.specs.Whole.{roundHeld}
-use Rattle.convert.specs.Convert.{wholeIn}
 use Rattle.dng.specs.declared.Region.{Region}
 use Rattle.dng.specs.declared.Window.{Window}
 use Rattle.dng.specs.declared.Opcode.{Opcode}
@@ -25,9 +23,13 @@ use Rattle.dng.specs.Answer.{frameOf}
 use Rattle.wholeform.specs.WholeForm.{Below, Enough}
 use Rattle.wholeform.proofs.Near.{Exact, Near, exact-near}
 use Rattle.wholeform.proofs.Pairs.{Pairs, pairs-weaken, pairs-each}
-use Rattle.wholeform.proofs.Marks.{bad16, bad32, marks-same, repaired-same, left-same, marked-le, repaired-le}
-use Rattle.wholeform.proofs.Repairs.{repair-near}
+use Rattle.wholeform.proofs.Marks.{Agree, bad16, bad32, marks-same, repaired-same, left-same, marked-le, repaired-le}
+use Rattle.wholeform.proofs.Repairs.{mend16, mend32, repair-near}
 use Rattle.wholeform.proofs.Tables.{Kept, body-entry, region-pair, window-pair, table-pair}
+
+-- the f32 samples of a run at scale 1
+abbrev pub kind32 : Window → Kind Float
+kind32 w = f32Kind (frameOf w one)
 
 -- how the samples stand: exact while a repair may still come, near after it
 abbrev pub Rel : Bool → ℕ → Float → Type 0
@@ -64,7 +66,8 @@ pub record Ends (p : Progress ℕ) (q : Progress Float) : Type 0 where
 repair-done : {A : Type 0} (kind : Kind A) (w : Window) (period : ℕ) (room : Room) → Enough w room
     → (bad : ℕ → Bool) (k : ℕ) (s : List A) (r l : ℕ)
     → repairOn kind w period room bad k s r l
-    ≡ going (each (repairAt (kind .none) (kind .toFloat) (kind .ofMean) w period bad s) s) (r + repairedIn w period bad) (l + leftIn w period bad)
+    ≡ going (each (repairAt (kind .none) (kind .toFloat) (kind .ofMean) w period bad s) s)
+    (r + repairedIn w period bad) (l + leftIn w period bad)
 unfolding repairOn
 repair-done {A} kind w period room enough bad k s r l =
     ap₂ (λ (a b : Bool). cond a (cond b done (Progress.valuesFull s k)) (Progress.marksFull s k))
@@ -73,14 +76,16 @@ repair-done {A} kind w period room enough bad k s r l =
     (le-trans (mul-le-mul-left (w .planes) (repaired-le w period bad)) (enough .values)))
   where
     done : Progress A
-    done = going (each (repairAt (kind .none) (kind .toFloat) (kind .ofMean) w period bad s) s) (r + repairedIn w period bad) (l + leftIn w period bad)
+    done =
+        going (each (repairAt (kind .none) (kind .toFloat) (kind .ofMean) w period bad s) s)
+        (r + repairedIn w period bad) (l + leftIn w period bad)
 
 module _ (w : Window) (period : ℕ) (room room′ : Room) (planes : 0 < w .planes) (enough : Enough w room) (enough′ : Enough w room′) where
   table-step : (free : Bool) (rest : Bool → Bool) (reg : Region) (n : ℕ) (b : List ℕ) → ((i : ℕ) → tableAt b i < 65536)
-      → (k : ℕ) (s : List ℕ) (t : List Float) (r l : ℕ) → rest free ≡ true → Pairs (Rel free) s t
+      → (s : List ℕ) (t : List Float) (r l : ℕ) → rest free ≡ true → Pairs (Rel free) s t
       → Step rest (going (each (onWindow w (length s) (rule16Of (MapTable reg n) b)) s) r l)
       (going (each (onWindow w (length t) (ruleOf (frameOf w one) (MapTable reg n) b)) t) r l)
-  table-step free rest reg n b entries k s t r l e p =
+  table-step free rest reg n b entries s t r l e p =
       record {
         free = free;
         goes = e;
@@ -108,23 +113,20 @@ module _ (w : Window) (period : ℕ) (room room′ : Room) (planes : 0 < w .plan
   repair-step : (rest : Bool → Bool) (op : Opcode) (b : List ℕ) (k : ℕ) (s : List ℕ) (t : List Float) (r l : ℕ)
       → rest false ≡ true → Pairs Exact s t
       → Step rest (repairOn u16Kind w period room (marksOf 0 w bad16 op b s) k s r l)
-      (repairOn (f32Kind (frameOf w one)) w period room′ (marksOf nan w bad32 op b t) k t r l)
+      (repairOn (kind32 w) w period room′ (marksOf nan w bad32 op b t) k t r l)
   repair-step rest op b k s t r l e p =
       record {
         free = false;
         goes = e;
-        samples16 = each (repairAt 0 (λ (v : ℕ). wholeIn binary32 v) (λ (v : Float). roundHeld 65535 v) w period bad′ s) s;
-        samples32 = each (repairAt nan (λ (v : Float). v) (λ (v : Float). v) w period bad t) t;
+        samples16 = each (mend16 w period bad′ s) s;
+        samples32 = each (mend32 w period bad t) t;
         repaired = r + repairedIn w period bad′;
         left = l + leftIn w period bad′;
         is16 = repair-done u16Kind w period room enough bad′ k s r l;
-        is32 = repair-done (f32Kind (frameOf w one)) w period room′ enough′ bad k t r l
-            ∙ ap₂ (λ (m n : ℕ). going (each (repairAt nan (λ (v : Float). v) (λ (v : Float). v) w period bad t) t) (r + m) (l + n))
-            (repaired-same w period bad bad′ (marks-same w s t p planes op b)) (left-same w period bad bad′ (marks-same w s t p planes op b));
-        pairs = pairs-each
-            (repairAt 0 (λ (v : ℕ). wholeIn binary32 v) (λ (v : Float). roundHeld 65535 v) w period bad′ s)
-            (repairAt nan (λ (v : Float). v) (λ (v : Float). v) w period bad t) s t p
-            (λ i q a. repair-near w period s t p planes op b i q);
+        is32 = repair-done (kind32 w) w period room′ enough′ bad k t r l
+            ∙ ap₂ (λ (m n : ℕ). going (each (mend32 w period bad t) t) (r + m) (l + n))
+            (repaired-same w period bad bad′ same) (left-same w period bad bad′ same);
+        pairs = pairs-each (mend16 w period bad′ s) (mend32 w period bad t) s t p (λ i q a. repair-near w period s t p planes op b i q);
       }
     where
       bad : ℕ → Bool
@@ -133,6 +135,10 @@ module _ (w : Window) (period : ℕ) (room room′ : Room) (planes : 0 < w .plan
       bad′ : ℕ → Bool
       bad′ = marksOf 0 w bad16 op b s
 
+      same : Agree w bad bad′
+      same = marks-same w s t p planes op b
+
+  -- what is never applied, and an empty table
   stay : (free : Bool) (rest : Bool → Bool) (s : List ℕ) (t : List Float) (r l : ℕ) → rest free ≡ true → Pairs (Rel free) s t
       → Step rest (going s r l) (going t r l)
   stay free rest s t r l e p =
@@ -142,13 +148,14 @@ module _ (w : Window) (period : ℕ) (room room′ : Room) (planes : 0 < w .plan
   repair-taken : (free : Bool) (rest : Bool → Bool) (op : Opcode) (b : List ℕ) (k : ℕ) (s : List ℕ) (t : List Float) (r l : ℕ)
       → (free && rest false) ≡ true → Pairs (Rel free) s t
       → Step rest (repairOn u16Kind w period room (marksOf 0 w bad16 op b s) k s r l)
-      (repairOn (f32Kind (frameOf w one)) w period room′ (marksOf nan w bad32 op b t) k t r l)
+      (repairOn (kind32 w) w period room′ (marksOf nan w bad32 op b t) k t r l)
   repair-taken true rest op b k s t r l e p = repair-step rest op b k s t r l e p
   repair-taken false rest op b k s t r l e p = absurd (false≢true e)
 
   step : (free : Bool) (rest : Bool → Bool) (op : Opcode) (b : List ℕ) → ((i : ℕ) → tableAt b i < 65536)
       → (k : ℕ) (s : List ℕ) (t : List Float) (r l : ℕ) → takes16On (classOf op) free rest ≡ true → Pairs (Rel free) s t
-      → Step rest (performOn u16Kind w period room (classOf op) op b k s r l) (performOn (f32Kind (frameOf w one)) w period room′ (classOf op) op b k t r l)
+      → Step rest (performOn u16Kind w period room (classOf op) op b k s r l)
+      (performOn (kind32 w) w period room′ (classOf op) op b k t r l)
   unfolding takes16On
   step free rest (WarpRectilinear n cx cy) b entries k s t r l e p = stay free rest s t r l e p
   step free rest WarpFisheye b entries k s t r l e p = stay free rest s t r l e p
@@ -160,9 +167,9 @@ module _ (w : Window) (period : ℕ) (room room′ : Room) (planes : 0 < w .plan
     where
       go : (z : Bool) → takes16On (cond z empty table) free rest ≡ true
           → Step rest (performOn u16Kind w period room (cond z empty table) (MapTable reg n) b k s r l)
-          (performOn (f32Kind (frameOf w one)) w period room′ (cond z empty table) (MapTable reg n) b k t r l)
+          (performOn (kind32 w) w period room′ (cond z empty table) (MapTable reg n) b k t r l)
       go true h = stay free rest s t r l h p
-      go false h = table-step free rest reg n b entries k s t r l h p
+      go false h = table-step free rest reg n b entries s t r l h p
   step free rest (MapPolynomial reg d) b entries k s t r l e p = absurd (false≢true e)
   step free rest (GainMap reg pv ph g mp) b entries k s t r l e p = absurd (false≢true e)
   step free rest (DeltaPerRow reg n) b entries k s t r l e p = absurd (false≢true e)
@@ -174,20 +181,24 @@ module _ (w : Window) (period : ℕ) (room room′ : Room) (planes : 0 < w .plan
   -- all opcodes, from any number, any totals and any samples that stand in the relation
   pub runs : (list : List ℕ) → Below 256 list → (free : Bool) (is : List Item) (k : ℕ) (s : List ℕ) (t : List Float) (r l : ℕ)
       → takes16From free is ≡ true → Pairs (Rel free) s t
-      → Ends (performAll u16Kind w period room list k is (going s r l)) (performAll (f32Kind (frameOf w one)) w period room′ list k is (going t r l))
+      → Ends (performAll u16Kind w period room list k is (going s r l)) (performAll (kind32 w) w period room′ list k is (going t r l))
   unfolding performAll takes16From
   runs list bytes free [] k s t r l e p =
       record { samples16 = s; samples32 = t; repaired = r; left = l; is16 = refl; is32 = refl; pairs = pairs-weaken (rel-kept free .to) p }
   runs list bytes free (i ∷ is) k s t r l e p =
-      let first : Step (λ (f : Bool). takes16From f is) (perform u16Kind w period room list i k (going s r l)) (perform (f32Kind (frameOf w one)) w period room′ list i k (going t r l)) =
-      step free (λ (f : Bool). takes16From f is) (i .op) (bodyOf list (i .entry)) (body-entry list bytes (i .entry .len) (i .entry .at)) k s t r l e p in
-      let rest = runs list bytes (first .free) is (suc k) (first .samples16) (first .samples32) (first .repaired) (first .left) (first .goes) (first .pairs) in
+      let first : Step (λ (f : Bool). takes16From f is) (perform u16Kind w period room list i k (going s r l))
+      (perform (kind32 w) w period room′ list i k (going t r l)) =
+      step free (λ (f : Bool). takes16From f is) (i .op) (bodyOf list (i .entry)) (body-entry list bytes (i .entry .len) (i .entry .at))
+      k s t r l e p in
+      let rest =
+      runs list bytes (first .free) is (suc k) (first .samples16) (first .samples32) (first .repaired) (first .left)
+      (first .goes) (first .pairs) in
       record {
         samples16 = rest .samples16;
         samples32 = rest .samples32;
         repaired = rest .repaired;
         left = rest .left;
         is16 = ap (performAll u16Kind w period room list (suc k) is) (first .is16) ∙ rest .is16;
-        is32 = ap (performAll (f32Kind (frameOf w one)) w period room′ list (suc k) is) (first .is32) ∙ rest .is32;
+        is32 = ap (performAll (kind32 w) w period room′ list (suc k) is) (first .is32) ∙ rest .is32;
         pairs = rest .pairs;
       }

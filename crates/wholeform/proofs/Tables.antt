@@ -51,7 +51,8 @@ module _ (R : ℕ → Float → Type 0) where
 
   -- two rules that agree on a pair agree on it where a region and a window select
   pub region-pair : (r : Region) (f : ℕ → ℕ → ℕ → ℕ → ℕ) (g : ℕ → ℕ → ℕ → Float → Float) (a : ℕ) (v : Float)
-      → ((y x k : ℕ) → R (f y x k a) (g y x k v)) → R a v → (whole : Bool) (y x k : ℕ) → R (onRegion r f whole y x k a) (onRegion r g whole y x k v)
+      → ((y x k : ℕ) → R (f y x k a) (g y x k v)) → R a v → (whole : Bool) (y x k : ℕ)
+      → R (onRegion r f whole y x k a) (onRegion r g whole y x k v)
   unfolding onRegion onColumns
   region-pair r f g a v h p whole y x k =
       either (selects (r .top) (r .bottom) (r .«row_pitch») y)

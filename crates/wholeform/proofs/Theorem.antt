@@ -18,7 +18,7 @@ use Rattle.dng.specs.Answer.{Out, inRange, unchanged, finished, ranOn, readOut,
 use Rattle.wholeform.specs.WholeForm.{Whole-form, widened, narrowed, atOne}
 use Rattle.wholeform.proofs.Pairs.{pairs-widened, pairs-narrowed}
 use Rattle.wholeform.proofs.Marks.{and-first, and-second}
-use Rattle.wholeform.proofs.Run.{runs}
+use Rattle.wholeform.proofs.Run.{kind32, runs}
 use Rattle.wholeform.proofs.Names.{names-without}
 
 some-planes : (w : Window) (period : ℕ) → inRange w period ≡ true → 0 < w .planes
@@ -40,7 +40,8 @@ run-is : {A : Type 0} (kind : Kind A) (takes : List Item → Bool) (skip : Class
     ≡ finished (namesOf skip (itemsOf list)) names (performAll kind w period room list 0 (itemsOf list) (going s 0 0))
 unfolding runOut ranOn
 run-is {A} kind takes skip w period room list s names n ranges whole taken roomy =
-    ap₂ (λ (z : Bool) (r : Reading). cond z (readOut kind takes skip w period room list s names r) (unchanged Ans.Range s names)) ranges whole
+    ap₂ (λ (z : Bool) (r : Reading). cond z (readOut kind takes skip w period room list s names r) (unchanged Ans.Range s names))
+    ranges whole
     ∙ ap₂ (λ (y z : Bool). cond y (cond z done (unchanged Ans.Names s names)) (unchanged Ans.NotTaken s names))
     taken (le-leb (length (namesOf skip (itemsOf list))) (length names) roomy)
   where
@@ -49,8 +50,9 @@ run-is {A} kind takes skip w period room list s names n ranges whole taken roomy
 
 pub whole-form : Whole-form
 whole-form w period room room′ list s names names′ h =
-    let ends = runs w period room room′ (some-planes w period (h .ranges)) (h .enough) (h .enough′) list (h .bytes) true (itemsOf list) 0 s (widened s) 0 0
-    (h .taken) (pairs-widened s (h .words)) in
+    let ends =
+    runs w period room room′ (some-planes w period (h .ranges)) (h .enough) (h .enough′) list (h .bytes) true (itemsOf list) 0
+    s (widened s) 0 0 (h .taken) (pairs-widened s (h .words)) in
     let out16 : runOut u16Kind takes16 skipped16 w period room list s names
     ≡ finished (namesOf skipped16 (itemsOf list)) names (going (ends .samples16) (ends .repaired) (ends .left)) =
     run-is u16Kind takes16 skipped16 w period room list s names (h .opcodes) (h .ranges) (h .whole) (h .taken) (h .roomy)
@@ -58,7 +60,7 @@ whole-form w period room room′ list s names names′ h =
     let out32 : runOut (f32Kind (frameOf w (atOne period .scale))) takesAll skipped w period room′ list (widened s) names′
     ≡ finished (namesOf skipped (itemsOf list)) names′ (going (ends .samples32) (ends .repaired) (ends .left)) =
     ap (λ (z : Float). runOut (f32Kind (frameOf w z)) takesAll skipped w period room′ list (widened s) names′) (at-one period)
-    ∙ run-is (f32Kind (frameOf w one)) takesAll skipped w period room′ list (widened s) names′ (h .opcodes) (h .ranges) (h .whole) refl (h .roomy′)
+    ∙ run-is (kind32 w) takesAll skipped w period room′ list (widened s) names′ (h .opcodes) (h .ranges) (h .whole) refl (h .roomy′)
     ∙ ap (finished (namesOf skipped (itemsOf list)) names′) (ends .is32) in
     record {
       repaired = ends .repaired;

@@ -1,5 +1,5 @@
--- Floats by the fractions that they equal, in either format: sums, products and quotients of values that are not negative, a value that fits
--- comes back from `round`, the half-away rounding and the comparison go by the fraction. Assumes nothing.
+-- Floats by the fractions that they equal, in either format: sums, products and quotients of values that are not negative; a value
+-- that fits comes back from `round`; the rounding half away from zero, the comparison and the order go by the fraction. Assumes nothing.
 use Prim.Native.Nat.{ℕ, zero, suc, _+_, _-_, _*_, _/_, _%_, _^_, _≤_, _<_, min}
 use mathlib.Core.Path.{_≡_, refl, sym, ap, ap₂, subst, _∙_}
 use mathlib.Core.Bool.{Bool, true, false, _&&_, _||_, cond, true≢false, and-true}
@@ -25,20 +25,30 @@ use Rattle.whole.specs.Whole.{roundHeld}
 pub same-value : (x : Float) (s : Bool) (a c b d : ℕ) → 0 < c → a * d ≡ b * c → HasValue x s a c → HasValue x s b d
 same-value nan s a c b d C h v = v
 same-value (inf t) s a c b d C h v = v
-same-value (fin t m e) s a c b d C h v = (v .0, eq-of-mul-eq-mul-right c C (m * up e * d) (b * down e) (mul-right-comm (m * up e) d c ∙ ap (λ (z : ℕ). z * d) (v .1) ∙ mul-right-comm a (down e) d ∙ ap (λ (z : ℕ). z * down e) h ∙ mul-right-comm b c (down e)))
+same-value (fin t m e) s a c b d C h v = (
+  v .0,
+  eq-of-mul-eq-mul-right c C (m * up e * d) (b * down e)
+      (mul-right-comm (m * up e) d c
+      ∙ ap (λ (z : ℕ). z * d) (v .1)
+      ∙ mul-right-comm a (down e) d
+      ∙ ap (λ (z : ℕ). z * down e) h
+      ∙ mul-right-comm b c (down e)),
+)
 
 -- ---- operations by the fractions that the operands equal
 
+ruleset sorted = (mul-assoc, mul-comm, mul-left-comm)
+
 sum-same : (x y p q a c b d : ℕ) → x * c ≡ a * p → y * d ≡ b * q → (x * q + y * p) * (c * d) ≡ (a * d + b * c) * (p * q)
 sum-same x y p q a c b d h k =
-    let l : x * q * (c * d) ≡ a * d * (p * q) = simp (mul-assoc, mul-comm, mul-left-comm) (simp (mul-assoc, mul-comm, mul-left-comm) at (ap (λ (z : ℕ). z * (q * d)) h)) in
-    let r : y * p * (c * d) ≡ b * c * (p * q) = simp (mul-assoc, mul-comm, mul-left-comm) (simp (mul-assoc, mul-comm, mul-left-comm) at (ap (λ (z : ℕ). z * (p * c)) k)) in
+    let l : x * q * (c * d) ≡ a * d * (p * q) = simp sorted (simp sorted at (ap (λ (z : ℕ). z * (q * d)) h)) in
+    let r : y * p * (c * d) ≡ b * c * (p * q) = simp sorted (simp sorted at (ap (λ (z : ℕ). z * (p * c)) k)) in
     add-mul (x * q) (y * p) (c * d) ∙ ap₂ _+_ l r ∙ sym (add-mul (a * d) (b * c) (p * q))
 
 product-same : (x y p q a c b d : ℕ) → x * c ≡ a * p → y * d ≡ b * q → x * y * (c * d) ≡ a * b * (p * q)
 product-same x y p q a c b d h k =
     let l : x * y * (c * d) ≡ x * c * (y * d) = simp (mul-assoc, mul-left-comm) in
-    let r : a * p * (b * q) ≡ a * b * (p * q) = simp (mul-assoc, mul-comm, mul-left-comm) in
+    let r : a * p * (b * q) ≡ a * b * (p * q) = simp sorted in
     l ∙ ap₂ _*_ h k ∙ r
 
 pub add-at : (f : Format) (x y : Float) (a c b d : ℕ) → 0 < c → 0 < d → HasValue x false a c → HasValue y false b d
@@ -51,7 +61,8 @@ add-at f (fin s m e) (inf t) a c b d C D v w = absurd w
 add-at f (fin true m e) (fin t n g) a c b d C D v w = absurd (true≢false (v .0))
 add-at f (fin false m e) (fin true n g) a c b d C D v w = absurd (true≢false (w .0))
 add-at f (fin false m e) (fin false n g) a c b d C D v w =
-    round-same f false (m * up e * down g + n * up g * down e) (down e * down g) (a * d + b * c) (c * d) (mul-pos (down-pos e) (down-pos g)) (mul-pos C D)
+    round-same f false (m * up e * down g + n * up g * down e) (down e * down g) (a * d + b * c) (c * d)
+    (mul-pos (down-pos e) (down-pos g)) (mul-pos C D)
     (sum-same (m * up e) (n * up g) (down e) (down g) a c b d (v .1) (w .1))
 
 pub mul-at : (f : Format) (x y : Float) (a c b d : ℕ) → 0 < c → 0 < d → HasValue x false a c → HasValue y false b d
@@ -91,8 +102,8 @@ div-at f (fin false m e) (fin false n g) a c b d C D B v w =
 
     cross : m * up e * down g * (c * b) ≡ a * d * (n * up g * down e)
     cross =
-        let l : m * up e * down g * (c * b) ≡ m * up e * c * (b * down g) = simp (mul-assoc, mul-comm, mul-left-comm) in
-        let r : a * down e * (n * up g * d) ≡ a * d * (n * up g * down e) = simp (mul-assoc, mul-comm, mul-left-comm) in
+        let l : m * up e * down g * (c * b) ≡ m * up e * c * (b * down g) = simp sorted in
+        let r : a * down e * (n * up g * d) ≡ a * d * (n * up g * down e) = simp sorted in
         l ∙ ap₂ _*_ (v .1) (sym (w .1)) ∙ r
 
 -- ---- what `fits` says of a value other than 0
@@ -139,10 +150,14 @@ fraction-kept f s m (pos k) h =
     grows = ap (λ (z : ℕ). m * z) (pow-add 2 k (low f)) ∙ sym (mul-assoc m (2 ^ k) (2 ^ low f))
 
     bound : 2 ^ suc (emax f) * 1 * 2 ^ low f ≡ 2 ^ (low f + suc (emax f))
-    bound = ap (λ (z : ℕ). z * 2 ^ low f) (mul-one (2 ^ suc (emax f))) ∙ mul-comm (2 ^ suc (emax f)) (2 ^ low f) ∙ sym (pow-add 2 (low f) (suc (emax f)))
+    bound =
+        ap (λ (z : ℕ). z * 2 ^ low f) (mul-one (2 ^ suc (emax f)))
+        ∙ mul-comm (2 ^ suc (emax f)) (2 ^ low f)
+        ∙ sym (pow-add 2 (low f) (suc (emax f)))
 fraction-kept f s m (negsuc k) h =
     round-exact f s (m * 1) (2 ^ suc k) m (low f - suc k) (pow-pos (suc k)) (h .short)
-    (lt-of-mul-lt-mul-right (2 ^ suc k) (lt-of-le-of-lt (le-of-eq (sym shrinks)) (lt-of-lt-of-le (mul-lt-mul-of-pos-right (h .small) (pow-pos (low f))) (le-of-eq bound))))
+    (lt-of-mul-lt-mul-right (2 ^ suc k)
+    (lt-of-le-of-lt (le-of-eq (sym shrinks)) (lt-of-lt-of-le (mul-lt-mul-of-pos-right (h .small) (pow-pos (low f))) (le-of-eq bound))))
     shrinks
   where
     place : low f - suc k + suc k ≡ low f
@@ -154,7 +169,10 @@ fraction-kept f s m (negsuc k) h =
         ∙ ap (λ (z : ℕ). z * 2 ^ suc k) (mul-comm (2 ^ suc (emax f)) (2 ^ low f) ∙ sym (pow-add 2 (low f) (suc (emax f))))
 
     shrinks : m * 1 * 2 ^ low f ≡ m * 2 ^ (low f - suc k) * 2 ^ suc k
-    shrinks = ap (λ (z : ℕ). z * 2 ^ low f) (mul-one m) ∙ ap (λ (z : ℕ). m * z) (ap (λ (z : ℕ). 2 ^ z) (sym place) ∙ pow-add 2 (low f - suc k) (suc k)) ∙ sym (mul-assoc m (2 ^ (low f - suc k)) (2 ^ suc k))
+    shrinks =
+        ap (λ (z : ℕ). z * 2 ^ low f) (mul-one m)
+        ∙ ap (λ (z : ℕ). m * z) (ap (λ (z : ℕ). 2 ^ z) (sym place) ∙ pow-add 2 (low f - suc k) (suc k))
+        ∙ sym (mul-assoc m (2 ^ (low f - suc k)) (2 ^ suc k))
 
 pub kept-value : (f : Format) (x : Float) (s : Bool) (a c : ℕ) → 0 < c → T (fits f x) → HasValue x s a c → HasValue (round f s a c) s a c
 kept-value f nan s a c C t v = absurd v
@@ -224,13 +242,13 @@ cross x y p q a b c d C D v w h =
     one = simp (mul-assoc, mul-left-comm)
 
     two : a * p * (q * d) ≡ a * d * (p * q)
-    two = simp (mul-assoc, mul-comm, mul-left-comm)
+    two = simp sorted
 
     three : b * c * (p * q) ≡ b * q * (c * p)
-    three = simp (mul-assoc, mul-comm, mul-left-comm)
+    three = simp sorted
 
     four : y * d * (c * p) ≡ y * p * (c * d)
-    four = simp (mul-assoc, mul-comm, mul-left-comm)
+    four = simp sorted
 
 pub eq-at : (x y : Float) (a c b d : ℕ) → 0 < c → 0 < d → HasValue x false a c → HasValue y false b d → eq x y ≡ eqb (a * d) (b * c)
 unfolding eq
@@ -280,7 +298,8 @@ no-infinity nan b d w h = absurd w
 no-infinity (inf t) b d w h = absurd w
 no-infinity (fin t n g) b d w h = absurd h
 
-units-finite : (f : Format) (q k : ℕ) (y : Float) (b d : ℕ) → HasValue y false b d → T (le (units f false q k) y) → T (finite (units f false q k))
+units-finite : (f : Format) (q k : ℕ) (y : Float) (b d : ℕ) → HasValue y false b d → T (le (units f false q k) y)
+    → T (finite (units f false q k))
 unfolding units
 units-finite f q k y b d w = go (ltb (q * 2 ^ k) (overflow f))
   where

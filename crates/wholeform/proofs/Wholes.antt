@@ -1,5 +1,5 @@
--- Whole numbers as floats, in either format: their value, their order, a sum and a mean of them, a whole number over 1, and the comparison with
--- one over 1. Assumes nothing.
+-- Whole numbers as floats, in either format: their value, their order, a sum and a mean of them, a whole number over 1,
+-- and the comparison with one over 1. Assumes nothing.
 use Prim.Native.Nat.{ℕ, suc, _+_, _*_, _^_, _≤_, _<_}
 use mathlib.Core.Path.{_≡_, refl, sym, ap, ap₂, subst, _∙_}
 use mathlib.Core.Bool.{true, false}
@@ -110,5 +110,6 @@ constant-is f a c h = below-or (2 ^ prec f) c away near
         let y : Float = wholeIn f (2 ^ prec f) in
         let w : HasValue y false (2 ^ prec f) 1 = whole-value f (2 ^ prec f) (omega arith) in
         let q : T (le y x) = whole-mono f (2 ^ prec f) c (omega arith) in
-        far f x y (wholeIn f a) a (2 ^ prec f) h (ofInt-fits f (pos c)) v w (above-of-le y x (positive-of-value y (2 ^ prec f) 1 w (pow-pos (prec f))) q) q
+        far f x y (wholeIn f a) a (2 ^ prec f) h (ofInt-fits f (pos c)) v w
+        (above-of-le y x (positive-of-value y (2 ^ prec f) 1 w (pow-pos (prec f))) q) q
         ∙ sym (ne-eqb a c (λ z. omega arith))
