@@ -1,0 +1,2 @@
+pub mod Occ
+pub mod Chosen
