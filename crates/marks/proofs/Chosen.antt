@@ -11,8 +11,8 @@ use lib.Dec.{leb, ltb, eqb}
 use lib.ListN.{length, length-append}
 use Rattle.dng.specs.Repair.{countBelow}
 use Rattle.marks.specs.Marks.{chosen}
-use Rattle.marks.specs.Scratch.{same, occ, has, Rises}
-use Rattle.marks.proofs.Occ.{by-cases, below-or, equal-or, same-self, same-other, same-is, has-true, has-false, some-has, none-has, has-same, rises-low, rises-less}
+use Rattle.marks.specs.Scratch.{alike, occ, has, Rises}
+use Rattle.marks.proofs.Occ.{by-cases, below-or, equal-or, alike-self, alike-other, alike-is, has-true, has-false, some-has, none-has, has-same, rises-low, rises-less}
 
 -- the two values of a test are apart
 pub both : {C : Type 0} {b : Bool} → b ≡ true → b ≡ false → C
@@ -62,7 +62,7 @@ chosen-in m a zero q h = absurd (not-suc-le-zero h)
 chosen-in m a (suc n) q h =
     by-cases (m a)
     (λ e. equal-or a q (λ d. (omega arith, subst (λ (x : ℕ). m x ≡ true) d e))
-        (λ d. let r = chosen-in m (suc a) n q (omega (arith, same-other a q d, rw e at h)) in (omega (arith, r .0), r .1)))
+        (λ d. let r = chosen-in m (suc a) n q (omega (arith, alike-other a q d, rw e at h)) in (omega (arith, r .0), r .1)))
     (λ e. let r = chosen-in m (suc a) n q (rw e at h) in (omega (arith, r .0), r .1))
 
 -- what is marked stands there
@@ -70,7 +70,7 @@ pub chosen-all : (m : ℕ → Bool) (a n q : ℕ) → a ≤ q → q < a + n → 
 unfolding chosen occ
 chosen-all m a zero q h k t = absurd (omega arith)
 chosen-all m a (suc n) q h k t =
-    equal-or a q (λ d. rw (subst (λ (x : ℕ). m x ≡ true) (sym d) t) (omega (arith, subst (λ (x : ℕ). same a x ≡ 1) d (same-self a))))
+    equal-or a q (λ d. rw (subst (λ (x : ℕ). m x ≡ true) (sym d) t) (omega (arith, subst (λ (x : ℕ). alike a x ≡ 1) d (alike-self a))))
     (λ d.
         let r : 1 ≤ occ (chosen m (suc a) n) q = chosen-all m (suc a) n q (omega arith) (omega arith) t in
         by-cases (m a) (λ e. rw e (omega arith)) (λ e. rw e r))
@@ -121,22 +121,22 @@ pub is-chosen : (m : ℕ → Bool) (a n : ℕ) (l : List ℕ) → Rises a l → 
     → ((q : ℕ) → a ≤ q → q < a + n → m q ≡ true → 1 ≤ occ l q) → l ≡ chosen m a n
 unfolding chosen Rises occ
 is-chosen m a zero [] r f g = refl
-is-chosen m a zero (x ∷ l) r f g = absurd (omega (arith, r .0, f x (omega (arith, same-self x)) .0))
+is-chosen m a zero (x ∷ l) r f g = absurd (omega (arith, r .0, f x (omega (arith, alike-self x)) .0))
 is-chosen m a (suc n) [] r f g =
     by-cases (m a) (λ e. absurd (not-suc-le-zero (g a (omega arith) (omega arith) e)))
     (λ e. rw e (is-chosen m (suc a) n [] r (λ q h. absurd (not-suc-le-zero h)) (λ q h k t. g q (omega arith) (omega arith) t)))
 is-chosen m a (suc n) (x ∷ l) r f g =
     equal-or x a
     (λ d.
-        let t : m a ≡ true = subst (λ (y : ℕ). m y ≡ true) d (f x (omega (arith, same-self x)) .1) in
+        let t : m a ≡ true = subst (λ (y : ℕ). m y ≡ true) d (f x (omega (arith, alike-self x)) .1) in
         let rest : l ≡ chosen m (suc a) n =
             is-chosen m (suc a) n l (subst (λ (y : ℕ). Rises (suc y) l) d (r .1))
             (λ q h. let k = f q (omega arith) in (omega (arith, k .0), k .1))
-            (λ q h k e. omega (arith, g q (omega arith) (omega arith) e, same-other x q (λ z. omega arith))) in
+            (λ q h k e. omega (arith, g q (omega arith) (omega arith) e, alike-other x q (λ z. omega arith))) in
         rw (t, d, rest) refl)
     (λ d.
         by-cases (m a)
-        (λ t. absurd (omega (arith, r .0, rises-low (suc x) l a (r .1) (omega (arith, g a (omega arith) (omega arith) t, same-other x a d)))))
+        (λ t. absurd (omega (arith, r .0, rises-low (suc x) l a (r .1) (omega (arith, g a (omega arith) (omega arith) t, alike-other x a d)))))
         (λ t. rw t
             (is-chosen m (suc a) n (x ∷ l) (omega (arith, r .0), r .1) (λ q h. let k = f q h in (omega (arith, k .0), k .1))
             (λ q h k e. g q (omega arith) (omega arith) e))))

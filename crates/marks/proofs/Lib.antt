@@ -1,2 +1,4 @@
 pub mod Occ
 pub mod Chosen
+pub mod Sorting
+pub mod Searching
