@@ -2,3 +2,4 @@ pub mod Occ
 pub mod Chosen
 pub mod Sorting
 pub mod Searching
+pub mod Filling
