@@ -3,3 +3,4 @@ pub mod Chosen
 pub mod Sorting
 pub mod Searching
 pub mod Filling
+pub mod Joining
