@@ -4,3 +4,4 @@ pub mod Sorting
 pub mod Searching
 pub mod Filling
 pub mod Joining
+pub mod Listing
