@@ -20,7 +20,7 @@ use Rattle.marks.specs.declared.Kept.the-variants as K
 use Rattle.marks.specs.Marks.{chosen, Holds, listedAt, Fits}
 use Rattle.marks.specs.Scratch.{occ, has, Rises, Front, Packed, Gains, Joined, span, block, Inside, inImage, atPoint, inRect}
 use Rattle.marks.proofs.Occ.{by-cases, below-or, equal-or, none-has}
-use Rattle.marks.proofs.Chosen.{both, count-same, chosen-count, is-chosen-has}
+use Rattle.marks.proofs.Chosen.{both, count-le, count-same, chosen-count, is-chosen-has}
 use Rattle.marks.proofs.Joining.{iff-eq, or-cases, or-left, or-right, and-both, and-of, span-of, span-is, gains-held, joined-next, joined-as}
 
 -- ---- rows
@@ -205,3 +205,36 @@ pub listed-both : (w : Window) (b : List ℕ) (np nr : ℕ) (q : ℕ)
     → listedAt w b np nr q ≡ (anyBelow np (λ i. atPoint w b i q) || anyBelow nr (λ i. inRect w b np i q))
 unfolding listed
 listed-both w b np nr q = refl
+
+pub held-front : (top : ℕ) (m : ℕ → Bool) (s : List ℕ) (t₀ : ℕ) (s₁ : List ℕ) (r : Kept) (n t : ℕ) → r ≡ K.Held n t → Joined top m s t₀ s₁ r → Gains top m s t₀ s₁ n t
+held-front top m s t₀ s₁ r n t e j = subst (λ (x : Kept). Joined top m s t₀ s₁ x) e j
+
+module _ (w : Window) (b : List ℕ) (np nr : ℕ) (s s₁ : List ℕ) (r : Kept) (j : Joined (positions w) (λ q. anyBelow np (λ i. atPoint w b i q)) s 0 s₁ r) where
+  -- the points alone are too many
+  pub points-over : r ≡ K.Full → length s < countBelow (positions w) (listedAt w b np nr)
+  points-over e =
+      let h : length s < countBelow (positions w) (λ q. anyBelow np (λ i. atPoint w b i q)) =
+          listed-over (positions w) (λ q. anyBelow np (λ i. atPoint w b i q)) s
+          (subst (λ (x : Kept). Joined (positions w) (λ q. anyBelow np (λ i. atPoint w b i q)) s 0 s₁ x) e j) in
+      let k : countBelow (positions w) (λ q. anyBelow np (λ i. atPoint w b i q)) ≤ countBelow (positions w) (listedAt w b np nr) =
+          count-le (positions w) (λ q. anyBelow np (λ i. atPoint w b i q)) (listedAt w b np nr)
+          (λ q l d. listed-both w b np nr q ∙ or-left _ (anyBelow nr (λ i. inRect w b np i q)) d) in
+      omega arith
+
+  module _ (n t : ℕ) (e : r ≡ K.Held n t) (long : length s₁ ≡ length s) (s₂ : List ℕ) (r₂ : Kept)
+      (j₂ : Joined (positions w) (λ q. anyBelow nr (λ i. inRect w b np i q)) s₁ t s₂ r₂) where
+    both-joined : Joined (positions w) (listedAt w b np nr) s 0 s₂ r₂
+    both-joined =
+        joined-next (positions w) (λ q. anyBelow np (λ i. atPoint w b i q)) (λ q. anyBelow nr (λ i. inRect w b np i q)) (listedAt w b np nr) s 0 s₁ n t s₂ r₂
+        (held-front (positions w) (λ q. anyBelow np (λ i. atPoint w b i q)) s 0 s₁ r n t e j) long (λ q l. listed-both w b np nr q) j₂
+
+    -- with the rectangles they are too many
+    pub rects-over : r₂ ≡ K.Full → length s < countBelow (positions w) (listedAt w b np nr)
+    rects-over e₂ =
+        listed-over (positions w) (listedAt w b np nr) s (subst (λ (x : Kept). Joined (positions w) (listedAt w b np nr) s 0 s₂ x) e₂ both-joined)
+
+    pub list-done : (k u : ℕ) → r₂ ≡ K.Held k u → length s₂ ≡ length s₁ → (s₃ : List ℕ) (m : ℕ) → Packed (positions w) s₂ u s₃ m → length s₃ ≡ length s₂
+        → Holds (positions w) (listedAt w b np nr) s s₃ m
+    list-done k u e₂ d s₃ m v l =
+        listed-all (positions w) (listedAt w b np nr) s s₂ k u s₃ m
+        (held-front (positions w) (listedAt w b np nr) s 0 s₂ r₂ k u e₂ both-joined) v (d ∙ long) l
