@@ -15,8 +15,9 @@ use Rattle.dng.specs.Repair.{countBelow}
 use Rattle.marks.specs.declared.Kept.{Kept}
 use Rattle.marks.specs.declared.Kept.the-variants as K
 use Rattle.marks.specs.Marks.{chosen}
-use Rattle.marks.specs.Scratch.{occ, has, Rises, Cut, Front, Packed, Gains, Joined, span}
-use Rattle.marks.proofs.Occ.{by-cases, below-or, equal-or, occ-parts, occ-some, has-true, some-has, rises-take, rises-drop, rises-from}
+use Rattle.sorts.specs.Sorts.{occ, has, Rises, Cut}
+use Rattle.marks.specs.Scratch.{Front, Packed, Gains, Joined, span}
+use Rattle.sorts.proofs.Occ.{by-cases, below-or, equal-or, occ-parts, occ-some, has-true, some-has, rises-take, rises-drop, rises-from}
 use Rattle.marks.proofs.Filling.{has-more}
 use Rattle.marks.proofs.Chosen.{both, count-le, count-same, chosen-full, is-chosen}
 

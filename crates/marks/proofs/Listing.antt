@@ -18,8 +18,9 @@ use Rattle.dng.specs.Repair.{countBelow, anyBelow, positions, pointAt, rectAt, 
 use Rattle.marks.specs.declared.Kept.{Kept}
 use Rattle.marks.specs.declared.Kept.the-variants as K
 use Rattle.marks.specs.Marks.{chosen, Holds, listedAt, Fits}
-use Rattle.marks.specs.Scratch.{occ, has, Rises, Front, Packed, Gains, Joined, span, block, Inside, inImage, atPoint, inRect}
-use Rattle.marks.proofs.Occ.{by-cases, below-or, equal-or, none-has}
+use Rattle.sorts.specs.Sorts.{occ, has, Rises}
+use Rattle.marks.specs.Scratch.{Front, Packed, Gains, Joined, span, block, Inside, inImage, atPoint, inRect}
+use Rattle.sorts.proofs.Occ.{by-cases, below-or, equal-or, none-has}
 use Rattle.marks.proofs.Chosen.{both, count-le, count-same, chosen-count, is-chosen-has}
 use Rattle.marks.proofs.Joining.{iff-eq, or-cases, or-left, or-right, and-both, and-of, span-of, span-is, gains-held, joined-next, joined-as}
 

@@ -11,7 +11,7 @@ use Rattle.marks.proofs.covers.Statement.{statement}
 use Rattle.marks.proofs.covers.Tie as tie
 use Rattle.marks.proofs.covers.Reads as reads
 use Rattle.marks.proofs.covers.Lts as lts
-use Rattle.marks.proofs.lower.Reads as lower-reads
+use Rattle.sorts.proofs.lower.Reads as lower-reads
 
 -- src/lib.rt:201:9
 returns : tie.Need-returns

@@ -6,7 +6,7 @@ use Rattle.marks.proofs.place.Statement.{statement}
 use Rattle.marks.proofs.place.Tie as tie
 use Rattle.marks.proofs.place.Reads as reads
 use Rattle.marks.proofs.place.Lts as lts
-use Rattle.marks.proofs.find.Reads as find-reads
+use Rattle.sorts.proofs.find.Reads as find-reads
 use Rattle.marks.proofs.grown.Reads as grown-reads
 
 -- src/lib.rt:171:8
