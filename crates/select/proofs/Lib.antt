@@ -1,0 +1,2 @@
+pub mod RoundUp
+pub mod Worked
