@@ -1,0 +1,111 @@
+use Rattle.words.proofs.Laws.{little-one, little-next}
+use borrow.Author.Needs.{needs}
+use Rattle.words.proofs.four_low.Statement.{statement}
+use Rattle.words.proofs.four_low.Tie as tie
+use Rattle.words.proofs.four_low.Reads as reads
+use Rattle.words.proofs.four_low.Lts as lts
+use Rattle.words.proofs.wide.Reads as wide-reads
+
+-- src/lib.rt:150:18
+shared-slice-read-wide : tie.Need-shared-slice-read-wide
+shared-slice-read-wide c = search needs
+
+-- src/lib.rt:150:9
+wide-requires : tie.Need-wide-requires
+wide-requires c κs = search needs
+
+-- src/lib.rt:151:20
+add-wide : tie.Need-add-wide
+add-wide c = search needs
+
+-- src/lib.rt:151:18
+shared-slice-read-wide-2 : tie.Need-shared-slice-read-wide-2
+shared-slice-read-wide-2 c = search needs
+
+-- src/lib.rt:151:9
+wide-requires-2 : tie.Need-wide-requires-2
+wide-requires-2 c κs = search needs
+
+-- src/lib.rt:152:20
+add-wide-2 : tie.Need-add-wide-2
+add-wide-2 c = search needs
+
+-- src/lib.rt:152:18
+shared-slice-read-wide-3 : tie.Need-shared-slice-read-wide-3
+shared-slice-read-wide-3 c = search needs
+
+-- src/lib.rt:152:9
+wide-requires-3 : tie.Need-wide-requires-3
+wide-requires-3 c κs = search needs
+
+-- src/lib.rt:153:20
+add-wide-3 : tie.Need-add-wide-3
+add-wide-3 c = search needs
+
+-- src/lib.rt:153:18
+shared-slice-read-wide-4 : tie.Need-shared-slice-read-wide-4
+shared-slice-read-wide-4 c = search needs
+
+-- src/lib.rt:153:9
+wide-requires-4 : tie.Need-wide-requires-4
+wide-requires-4 c κs = search needs
+
+-- src/lib.rt:154:10
+mul-result : tie.Need-mul-result
+mul-result c = search needs
+
+-- src/lib.rt:154:6
+add-result : tie.Need-add-result
+add-result c = search needs
+
+-- src/lib.rt:154:20
+mul-result-2 : tie.Need-mul-result-2
+mul-result-2 c = search needs
+
+-- src/lib.rt:154:6
+add-result-2 : tie.Need-add-result-2
+add-result-2 c = search needs
+
+-- src/lib.rt:154:35
+mul-result-3 : tie.Need-mul-result-3
+mul-result-3 c = search needs
+
+-- src/lib.rt:154:6
+add-result-3 : tie.Need-add-result-3
+add-result-3 c = search needs
+
+-- src/lib.rt:154:5
+cast-result : tie.Need-cast-result
+cast-result c = search needs
+
+-- src/lib.rt:146:1
+returns : tie.Need-returns
+returns c =
+    let c₃ = c .before .before in
+    let c₂ = c₃ .before .before in
+    let c₁ = c₂ .before .before in
+    little-next 3 _ _ (little-next 2 _ _ (little-next 1 _ _ (little-one _ _ (c₁ .wide .ensures .0)) (c₂ .wide2 .ensures .0)) (c₃ .wide3 .ensures .0)) (c .wide4 .ensures .0)
+
+pub four-low-spec : {M : Type 1} → statement M
+four-low-spec =
+    tie.close
+    (tie.spec
+    shared-slice-read-wide
+    wide-requires
+    add-wide
+    shared-slice-read-wide-2
+    wide-requires-2
+    add-wide-2
+    shared-slice-read-wide-3
+    wide-requires-3
+    add-wide-3
+    shared-slice-read-wide-4
+    wide-requires-4
+    mul-result
+    add-result
+    mul-result-2
+    add-result-2
+    mul-result-3
+    add-result-3
+    cast-result
+    returns)
