@@ -1,6 +1,6 @@
 -- What stands at a place of `each f l`, and when two lists made so are equal. Over any kind A; `d` is what `getD` gives past the end.
 -- Assumes nothing.
-use Prim.Native.Nat.{ℕ, zero, suc, _+_, _-_, _≤_, _<_}
+use Prim.Native.Nat.{ℕ, zero, suc, _+_, _≤_, _<_}
 use mathlib.Core.Path.{_≡_, refl, sym, ap, ap₂, subst, _∙_}
 use mathlib.Core.List.{List, [], _∷_, _++_}
 use native.Mathlib.Nat.{zero-add, add-zero, add-suc, suc-add, le-of-suc-le-suc, not-suc-le-zero}
@@ -95,7 +95,9 @@ module _ {A : Type 0} where
   pub each-append : (f : ℕ → A → A) (s t : List A) → each f (s ++ t) ≡ each f s ++ each (λ i. f (length s + i)) t
   unfolding each
   each-append f s t =
-      from-append f 0 s t ∙ ap (λ (j : ℕ). eachFrom f 0 s ++ eachFrom f j t) (omega arith) ∙ ap (_++_ (eachFrom f 0 s)) (from-shift f (length s) 0 t)
+      from-append f 0 s t
+      ∙ ap (λ (j : ℕ). eachFrom f 0 s ++ eachFrom f j t) (omega arith)
+      ∙ ap (_++_ (eachFrom f 0 s)) (from-shift f (length s) 0 t)
 
   from-take : (f : ℕ → A → A) (k n : ℕ) (l : List A) → take n (eachFrom f k l) ≡ eachFrom f k (take n l)
   from-take f k zero l = refl

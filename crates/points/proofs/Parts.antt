@@ -1,13 +1,13 @@
 -- Runs that stop short: the cases of `before` and `between`, a run taken further, a part run by itself, one store.
 -- Over any kind A; `d` is what `getD` gives past the end. Assumes nothing.
-use Prim.Native.Nat.{ℕ, zero, suc, _+_, _-_, _≤_, _<_}
+use Prim.Native.Nat.{ℕ, _+_, _-_, _≤_, _<_}
 use mathlib.Core.Path.{_≡_, refl, sym, ap, ap₂, subst, _∙_}
 use mathlib.Core.Bool.{Bool, true, false, cond}
-use mathlib.Core.List.{List, [], _∷_, _++_}
+use mathlib.Core.List.{List, _++_}
 use native.Mathlib.Omega.{arith}
 use borrow.Author.Tests.{lt-ltb, le-ltb, le-leb, lt-leb}
 use lib.Dec.{leb, ltb}
-use lib.ListN.{length, getD, take, drop, set, length-take, length-drop, length-set, take-append-drop}
+use lib.ListN.{length, getD, take, drop, set, length-drop, length-set, take-append-drop}
 use lib.Seq.{getD-set-same, getD-set-other, length-take-le}
 use Rattle.points.specs.Points.{each, before, between}
 use Rattle.points.proofs.Each.{below-or, length-each, getD-each, is-each, each-ext, each-agree, each-none, each-each, each-append}

@@ -2,29 +2,33 @@
 -- every plane is taken. Over any kind A; `d` is what `getD` gives past the end. Assumes nothing.
 use Prim.Native.Nat.{ℕ, zero, suc, _+_, _-_, _*_, _/_, _%_, _≤_, _<_, min, max}
 use mathlib.Core.Path.{_≡_, refl, sym, ap, ap₂, subst, _∙_}
-use mathlib.Core.Bool.{Bool, true, false, cond}
+use mathlib.Core.Bool.{true, false}
 use mathlib.Core.List.{List}
-use native.Mathlib.Nat.{add-mul, one-mul, suc-mul, mul-le-mul-right, lt-of-mul-lt-mul-right, mod-lt, div-add-mod', div-mul-le-self, lt-div-mul-add, le-div-iff-mul-le, div-lt-iff-lt-mul}
+use native.Mathlib.Nat.{add-mul, suc-mul, mul-one, mul-le-mul-left, mul-le-mul-right, lt-of-mul-lt-mul-right}
+use native.Mathlib.Nat.{mod-lt, div-add-mod', div-mul-le-self, le-div-iff-mul-le, div-lt-iff-lt-mul}
 use native.Mathlib.Omega.{arith}
 use lib.Arith.{digits-div, digits-mod}
 use lib.ListN.{length, getD, set, length-set}
 use Rattle.points.specs.Points.{each, before, between}
 use Rattle.points.specs.Select.{selects, inRow, onColumns, First}
-use Rattle.points.proofs.Each.{below-or, length-each, each-agree, each-none, each-each}
+use Rattle.points.proofs.Each.{below-or, each-agree, each-none, each-each}
 use Rattle.points.proofs.Parts.{before-in, before-out, between-in, between-low, between-high, each-between-empty, advance-at, store}
-use Rattle.points.proofs.Select.{selects-at, selects-low, selects-high, selects-gap, selects-number, on-plane, on-in, on-unselected, on-below, on-above}
+use Rattle.points.proofs.Select.{selects-at, selects-low, selects-high, selects-gap, selects-number}
+use Rattle.points.proofs.Select.{on-plane, on-in, on-unselected, on-below, on-above}
 
+-- it is, if it is lo itself or less than a step from the row's start
 pub first-near : (lo pitch x0 col n : ℕ) → x0 + col ≡ lo + n * max pitch 1 → (0 < n → col < max pitch 1) → First lo pitch x0 col n
 first-near lo pitch x0 col zero e near = record { here = e; none = λ hi x a b. selects-low lo hi pitch x (omega arith) }
 first-near lo pitch x0 col (suc m) e near =
     record {
       here = e;
       none = λ hi x a b.
-          below-or x lo (λ q. selects-low lo hi pitch x q)
-          (λ q. selects-gap lo hi pitch x m (omega (arith, suc-mul m (max pitch 1), near (omega arith))) (omega (arith, suc-mul m (max pitch 1))));
+          let step : suc m * max pitch 1 ≡ m * max pitch 1 + max pitch 1 = suc-mul m (max pitch 1) in
+          let close : col < max pitch 1 = near (omega arith) in
+          below-or x lo (λ q. selects-low lo hi pitch x q) (λ q. selects-gap lo hi pitch x m (omega arith) (omega arith));
     }
 
--- a first column that is not lo itself is less than a step away
+-- and only then
 pub first-close : (lo pitch x0 col n : ℕ) → First lo pitch x0 col n → 0 < n → col < max pitch 1
 first-close lo pitch x0 col zero f h = omega arith
 first-close lo pitch x0 col (suc m) f h =
@@ -40,6 +44,11 @@ first-close lo pitch x0 col (suc m) f h =
         let z : _≡_ {A = ℕ} 0 1 = cc in
         omega arith
 
+-- so it is at most lo or a step from the row's start
+pub first-bound : (lo pitch x0 col n : ℕ) → First lo pitch x0 col n → col ≤ max lo (max pitch 1)
+first-bound lo pitch x0 col zero f = omega (arith, f .here)
+first-bound lo pitch x0 col (suc m) f = omega (arith, first-close lo pitch x0 col (suc m) f (omega arith))
+
 -- there is one first column
 pub first-unique : (lo pitch x0 col n col′ n′ : ℕ) → First lo pitch x0 col n → First lo pitch x0 col′ n′ → col ≡ col′
 first-unique lo pitch x0 col n col′ n′ f f′ =
@@ -53,28 +62,32 @@ first-unique lo pitch x0 col n col′ n′ f f′ =
         let z : _≡_ {A = ℕ} 0 1 = cc in
         omega arith
 
--- the number of the first column
+-- the number of the first column, worked out from the column
 pub first-number : (lo pitch x0 col n : ℕ) → First lo pitch x0 col n → n ≡ (x0 + col - lo) / max pitch 1
 first-number lo pitch x0 col n f = sym (selects-number lo pitch (x0 + col) n (f .here))
 
--- the first column where the row starts at or before lo, on a selected column, and between two
+pub first-numbered : (lo pitch x0 col n : ℕ) → First lo pitch x0 col n → First lo pitch x0 col ((x0 + col - lo) / max pitch 1)
+first-numbered lo pitch x0 col n f = subst (λ (m : ℕ). First lo pitch x0 col m) (first-number lo pitch x0 col n f) f
+
+-- the first column where the row starts at or before lo, on a selected column, and between two; q is the step
 pub first-left : (lo pitch x0 : ℕ) → x0 ≤ lo → First lo pitch x0 (lo - x0) 0
-first-left lo pitch x0 h = first-near lo pitch x0 (lo - x0) 0 (omega arith) (λ q. omega arith)
+first-left lo pitch x0 h = first-near lo pitch x0 (lo - x0) 0 (omega arith) (λ k. omega arith)
 
-pub first-on : (lo pitch x0 : ℕ) → lo ≤ x0 → (x0 - lo) % max pitch 1 ≡ 0 → First lo pitch x0 0 ((x0 - lo) / max pitch 1)
-first-on lo pitch x0 h z =
-    first-near lo pitch x0 0 ((x0 - lo) / max pitch 1) (omega (arith, div-add-mod' (x0 - lo) (max pitch 1))) (λ q. omega arith)
+pub first-on : (lo pitch x0 q : ℕ) → q ≡ max pitch 1 → lo ≤ x0 → (x0 - lo) % q ≡ 0 → First lo pitch x0 0 ((x0 - lo) / q)
+first-on lo pitch x0 q e h z =
+    first-near lo pitch x0 0 ((x0 - lo) / q) (rw (← e) (omega (arith, div-add-mod' (x0 - lo) q))) (λ k. omega arith)
 
-pub first-off : (lo pitch x0 : ℕ) → lo ≤ x0 → 0 < (x0 - lo) % max pitch 1
-    → First lo pitch x0 (max pitch 1 - (x0 - lo) % max pitch 1) ((x0 - lo) / max pitch 1 + 1)
-first-off lo pitch x0 h z =
-    let below : (x0 - lo) % max pitch 1 < max pitch 1 = mod-lt (x0 - lo) (omega arith) in
-    first-near lo pitch x0 (max pitch 1 - (x0 - lo) % max pitch 1) ((x0 - lo) / max pitch 1 + 1)
-    (omega (arith, div-add-mod' (x0 - lo) (max pitch 1), add-mul ((x0 - lo) / max pitch 1) 1 (max pitch 1)))
-    (λ q. omega arith)
+pub first-off : (lo pitch x0 q : ℕ) → q ≡ max pitch 1 → lo ≤ x0 → 0 < (x0 - lo) % q
+    → First lo pitch x0 (q - (x0 - lo) % q) ((x0 - lo) / q + 1)
+first-off lo pitch x0 q e h z =
+    let below : (x0 - lo) % q < q = mod-lt (x0 - lo) (omega arith) in
+    first-near lo pitch x0 (q - (x0 - lo) % q) ((x0 - lo) / q + 1)
+    (rw (← e) (omega (arith, div-add-mod' (x0 - lo) q, add-mul ((x0 - lo) / q) 1 q)))
+    (λ k. omega arith)
 
 module _ {A : Type 0} where
-  in-row : (x0 p : ℕ) (f : ℕ → ℕ → A → A) (i : ℕ) (v : A) → inRow x0 p f i v ≡ f (x0 + i / p) (i % p) v
+  -- what a row's sample is, by its definition
+  pub in-row : (x0 p : ℕ) (f : ℕ → ℕ → A → A) (i : ℕ) (v : A) → inRow x0 p f i v ≡ f (x0 + i / p) (i % p) v
   unfolding inRow
   in-row x0 p f i v = refl
 
@@ -92,6 +105,7 @@ module _ {A : Type 0} where
     pub place : i ≡ c * p + plane
     pub same : length row ≡ length l
 
+  -- the walk begins at the first column
   pub upto-begin : {lo hi pitch plane x0 p : ℕ} {g : ℕ → ℕ → A → A} {l : List A} {col n : ℕ} → 0 < p → First lo pitch x0 col n
       → Upto lo hi pitch plane x0 p g l l col (col * p + plane)
   upto-begin {lo} {hi} {pitch} {plane} {x0} {p} {g} {l} {col} {n} pos f =
@@ -112,13 +126,20 @@ module _ {A : Type 0} where
           before-in (col * p) F i v h ∙ in-row x0 p (onColumns lo hi pitch plane 1 g) i v
           ∙ on-unselected lo hi pitch plane 1 g (x0 + i / p) (i % p) v (f .none hi (x0 + i / p) (omega arith) (omega arith))
 
+  -- the column's number in the row is at most the sample's
+  pub upto-le : {lo hi pitch plane x0 p : ℕ} {g : ℕ → ℕ → A → A} {l row : List A} {c i : ℕ} → 0 < p
+      → Upto lo hi pitch plane x0 p g l row c i → c ≤ i
+  upto-le {c = c} pos u = omega (arith, u .place, mul-le-mul-left c pos, mul-one c)
+
   -- one plane: what a sample of another plane, or of a column that is not selected, is left as
   other-plane : (lo hi pitch plane x0 p : ℕ) (g : ℕ → ℕ → A → A) (j : ℕ) (v : A) → (j % p ≡ plane → ⊥)
       → inRow x0 p (onColumns lo hi pitch plane 1 g) j v ≡ v
   other-plane lo hi pitch plane x0 p g j v h =
       in-row x0 p (onColumns lo hi pitch plane 1 g) j v
       ∙ below-or (j % p) plane (on-below lo hi pitch plane 1 g (x0 + j / p) (j % p) v)
-      (λ q. below-or plane (j % p) (λ r. on-above lo hi pitch plane 1 g (x0 + j / p) (j % p) v (omega arith)) (λ r. absurd (h (omega arith))))
+      (λ q.
+      below-or plane (j % p) (λ r. on-above lo hi pitch plane 1 g (x0 + j / p) (j % p) v (omega arith))
+      (λ r. absurd (h (omega arith))))
 
   other-column : (lo hi pitch plane planes x0 p : ℕ) (g : ℕ → ℕ → A → A) (j : ℕ) (v : A) → selects lo hi pitch (x0 + j / p) ≡ false
       → inRow x0 p (onColumns lo hi pitch plane planes g) j v ≡ v
@@ -170,8 +191,8 @@ module _ {A : Type 0} where
       record {
         done = stored
             ∙ ap (each (between i (i + 1) (inRow x0 p g))) (u .done)
-            ∙ advance-at d F (inRow x0 p g) (c * p) ((c + max pitch 1) * p) i (i + 1) l (omega (arith, u .place)) (omega (arith, u .place, step, wide))
-            (omega (arith, step))
+            ∙ advance-at d F (inRow x0 p g) (c * p) ((c + max pitch 1) * p) i (i + 1) l
+            (omega (arith, u .place)) (omega (arith, u .place, step, wide)) (omega (arith, step))
             (λ j a b q. step-at lo hi pitch plane x0 p g c i (u .number) pl (u .here) (u .place) in-hi j (getD l j d) a b);
         number = u .number + 1;
         here = omega (arith, u .here, add-mul (u .number) 1 (max pitch 1));
@@ -208,7 +229,9 @@ module _ {A : Type 0} where
       → Upto lo hi pitch plane x0 p g l row c i → min (length l) ((hi - x0) * p) ≤ i
       → row ≡ each (inRow x0 p (onColumns lo hi pitch plane 1 g)) l
   upto-end {lo} {hi} {pitch} {plane} {x0} {p} {g} {l} {row} {c} {i} pl u past =
-      u .done ∙ each-agree (before (c * p) F) F l (λ j v h. below-or j (c * p) (before-in (c * p) F j v) (λ q. before-out (c * p) F j v q ∙ sym (left j v h q)))
+      u .done
+      ∙ each-agree (before (c * p) F) F l
+      (λ j v h. below-or j (c * p) (before-in (c * p) F j v) (λ q. before-out (c * p) F j v q ∙ sym (left j v h q)))
     where
       F : ℕ → A → A
       F = inRow x0 p (onColumns lo hi pitch plane 1 g)
@@ -236,6 +259,7 @@ module _ {A : Type 0} where
       ∙ below-or (i % p) plane (on-below lo hi pitch plane 0 g (x0 + i / p) (i % p) v)
       (λ q. on-above lo hi pitch plane 0 g (x0 + i / p) (i % p) v (omega arith)))
 
+  -- one plane more, at a sample
   one-more : (lo hi pitch plane n : ℕ) (g : ℕ → ℕ → A → A) (x k : ℕ) (v : A)
       → onColumns lo hi pitch (plane + n) 1 g x k (onColumns lo hi pitch plane n g x k v) ≡ onColumns lo hi pitch plane (n + 1) g x k v
   one-more lo hi pitch plane n g x k v =
@@ -287,6 +311,7 @@ module _ {A : Type 0} where
       (λ q. ap (λ (n : ℕ). each (inRow x0 p (onColumns lo hi pitch plane n g)) l) (omega arith))
       (λ q. planes-past lo hi pitch plane (min (plane + planes) p - plane) planes x0 p g l pos (omega arith) q)
 
+  -- a first plane past the window's selects nothing
   pub planes-outside : (lo hi pitch plane planes x0 p : ℕ) (g : ℕ → ℕ → A → A) (l : List A) → 0 < p → p ≤ plane
       → each (inRow x0 p (onColumns lo hi pitch plane planes g)) l ≡ l
   planes-outside lo hi pitch plane planes x0 p g l pos out =
@@ -321,7 +346,8 @@ module _ {A : Type 0} where
           (λ t.
           let u : i < (hi - x0) * p = div-lt-iff-lt-mul pos .0 (omega arith) in
           between-in a e (inRow x0 p g) i v s (omega arith)
-          ∙ sym (on-in lo hi pitch plane planes g x k v (selects-at lo hi pitch x (x - lo) (rw one (omega arith)) t) (omega arith) (omega arith)))
+          ∙ sym
+          (on-in lo hi pitch plane planes g x k v (selects-at lo hi pitch x (x - lo) (rw one (omega arith)) t) (omega arith) (omega arith)))
           (λ t.
           let u : (hi - x0) * p ≤ i = le-div-iff-mul-le pos .0 (omega arith) in
           between-high a e (inRow x0 p g) i v (omega arith)

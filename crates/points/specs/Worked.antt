@@ -1,8 +1,8 @@
 -- Worked values of the definitions, each by computing: P3 and P4 of document 01, 'Bench frames', and the ends of each run.
-use Prim.Native.Nat.{ℕ, _+_, _*_}
+use Prim.Native.Nat.{_+_, _*_}
 use mathlib.Core.Path.{_≡_, refl}
-use mathlib.Core.Bool.{Bool, true, false}
-use mathlib.Core.List.{List, [], _∷_, map}
+use mathlib.Core.Bool.{true, false}
+use mathlib.Core.List.{[], _∷_, map}
 use Rattle.points.specs.Points.{each, before, between}
 use Rattle.points.specs.Select.{selects, inRow, onColumns}
 

@@ -1,5 +1,6 @@
 -- From a float to a whole number.
 use Prim.Native.Nat.{ℕ, _+_, _*_, _/_, min}
+use mathlib.Core.Path.{_≡_}
 use mathlib.Core.Bool.{cond}
 use lib.IntN.{pos}
 use lib.Ieee.{Float, nan, inf, fin, binary64, up, down, toUnsigned, ofInt, sub}
@@ -19,3 +20,8 @@ floorOf f = toUnsigned 32 f
 -- what is left of f, in f64. Document 01, GainMap: "t = f − i0"
 abbrev pub restOf : Float → Float
 restOf f = sub binary64 f (ofInt binary64 (pos (floorOf f)))
+
+-- the two parts of f as `floor` gives them
+pub record FloorIs (f : Float) (index : ℕ) (rest : Float) : Type 0 where
+  pub index-is : index ≡ floorOf f
+  pub rest-is : rest ≡ restOf f

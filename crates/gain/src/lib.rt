@@ -1,0 +1,1 @@
+// Gain maps, on one plane of a lent row.

@@ -1,0 +1,1 @@
+// Deltas and scales of rows and columns, on one plane of a lent row.

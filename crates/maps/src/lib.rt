@@ -1,0 +1,1 @@
+// Tables, f32 and u16, and polynomials, on one plane of a lent row.

@@ -1,0 +1,1 @@
+// The mean of the sound neighbours of a marked position.

@@ -1,0 +1,25 @@
+-- `narrow::signed` meets its contract: without the sign the bits are at most an infinity's, so they are no NaN's.
+use native.Mathlib.Omega.{arith}
+use borrow.Author.Needs.{needs}
+use lib.Ieee.{binary32}
+use Rattle.narrow.proofs.Sign.{no-nan}
+use Rattle.narrow.proofs.signed.Statement.{statement}
+use Rattle.narrow.proofs.signed.Tie as tie
+
+mul-result : tie.Need-mul-result
+mul-result c = search needs
+
+cast-result : tie.Need-cast-result
+cast-result c = search needs
+
+add-result : tie.Need-add-result
+add-result c = search needs
+
+float-from-bits-result : tie.Need-float-from-bits-result
+float-from-bits-result c = no-nan binary32 _ (omega arith)
+
+returns : tie.Need-returns
+returns c = search needs
+
+pub signed-spec : {M : Type 1} → statement M
+signed-spec = tie.close (tie.spec mul-result cast-result add-result float-from-bits-result returns)

@@ -1,0 +1,1 @@
+// Radial gain, on a lent row.

@@ -1,0 +1,5 @@
+pub mod Laws
+mod Scaled
+mod Sums
+mod Larger
+mod Lower

@@ -1,0 +1,185 @@
+-- The sum that rounds: the bits of h + 67108864.5 have h rounded half away from zero, for an f32 h that is 0 or more and below 2 ^ 24.
+-- Assumes nothing.
+use mathlib.Core.Path.{_≡_, refl, sym, ap, ap₂, _∙_, subst}
+use Prim.Native.Nat.{ℕ, zero, suc, _+_, _-_, _*_, _/_, _%_, _^_, _≤_, _<_, min}
+use native.Mathlib.Nat.{mul-comm, zero-min, div-eq-of-lt, le-trans, le-of-eq, lt-of-lt-of-le, lt-of-le-of-lt, div-add-mod', mod-lt, div-lt-iff-lt-mul, mod-eq-of-lt, pow-succ', zero-lt-suc}
+use native.Mathlib.Omega.{arith}
+use native.Mathlib.Decide.{decLe}
+use mathlib.Core.Bool.{Bool, true, false, not, _&&_, cond}
+use lib.IntN.{ℤ, pos, negsuc}
+use lib.Dec.{T, lit≤, lit<, eqb, leb, ltb, ltb→lt}
+use borrow.Author.Tests.{ltb-false}
+use lib.Pow.{pow-pos, pow-mono}
+use lib.Ieee.{Float, nan, inf, fin, binary32, binary64, up, down, units, round, add, sum, lt, fits, isNan, toBits}
+use lib.Ieee.Exact.{HasValue}
+use lib.Ieee.Fits.{and-l, and-r, down-pos}
+use lib.Ieee.Nearest.{closest}
+use Rattle.whole.specs.Whole.{roundHeld}
+use Rattle.whole.proofs.Scaled.{scaled, closest-ge, closest-le, units-value, bits-are}
+
+-- ---- N / M is what is to be cut to its whole part; the sum is 2 ^ 26 + N / M
+module _ (N M : ℕ) (some : 0 < M) (under : N < 2 ^ 26 * M) (gap : N % M * 2 ^ 26 ≤ 67108863 * M) where
+  part-lt : N / M < 2 ^ 26
+  part-lt = div-lt-iff-lt-mul some .1 under
+
+  kept-ge : 2 ^ 26 * (2 ^ 26 + N / M) ≤ closest ((2 ^ 26 * M + N) * 2 ^ 26) M
+  kept-ge = closest-ge ((2 ^ 26 * M + N) * 2 ^ 26) M (2 ^ 26 * (2 ^ 26 + N / M)) some (omega (arith, div-add-mod' N M))
+
+  kept-le : closest ((2 ^ 26 * M + N) * 2 ^ 26) M ≤ 2 ^ 26 * (2 ^ 26 + N / M) + 67108863
+  kept-le = closest-le ((2 ^ 26 * M + N) * 2 ^ 26) M (2 ^ 26 * (2 ^ 26 + N / M) + 67108863) some (omega (arith, div-add-mod' N M))
+
+  digits : (q w : ℕ) → w < 2 ^ 26 → 2 ^ 26 * (2 ^ 26 + w) ≤ q → q ≤ 2 ^ 26 * (2 ^ 26 + w) + 67108863
+      → (2 ^ 52 ≤ q) × (q < 2 ^ 53) × ((1048 * 2 ^ 52 + q) / 67108864 % 67108864 ≡ w)
+  digits q w a b c = (omega arith, omega arith, omega arith)
+
+  cut-value : HasValue (round binary64 false (2 ^ 26 * M + N) M) false (closest ((2 ^ 26 * M + N) * 2 ^ 26) M * 2 ^ 1048) (2 ^ 1074)
+  cut-value =
+      let q = closest ((2 ^ 26 * M + N) * 2 ^ 26) M in
+      let d = digits q (N / M) part-lt kept-ge kept-le in
+      rw (scaled (2 ^ 26 * M + N) M 26 1048 refl some (omega arith) (omega arith)) (units-value q 1048 (lit≤ tt) (d .1))
+
+  cut-bits : toBits binary64 (round binary64 false (2 ^ 26 * M + N) M) / 67108864 % 67108864 ≡ N / M
+  cut-bits =
+      let q = closest ((2 ^ 26 * M + N) * 2 ^ 26) M in
+      let d = digits q (N / M) part-lt kept-ge kept-le in
+      ap (λ (z : ℕ). z / 67108864 % 67108864) (bits-are (round binary64 false (2 ^ 26 * M + N) M) q 1048 cut-value (d .0) (d .1))
+      ∙ d .2
+
+-- ---- for an f32 the gap is there: from a quarter on it has no digit below 2 ^ -26, and up to a quarter the sum stays below the next whole number
+-- n / d is the value: 2 ^ 26 divides no further than d, or n / d is a quarter at most
+gap-coarse : (n d : ℕ) → 0 < d → d ≤ 33554432 → (2 * n + d) % (2 * d) * 67108864 ≤ 67108863 * (2 * d)
+gap-coarse n d p h = let l : (2 * n + d) % (2 * d) < 2 * d = mod-lt (2 * n + d) (twice d p) in omega arith
+  where
+    twice : (d : ℕ) → 0 < d → 0 < 2 * d
+    twice d p = omega arith
+
+gap-fine : (n d : ℕ) → 0 < d → 4 * n ≤ d → (2 * n + d) % (2 * d) * 67108864 ≤ 67108863 * (2 * d)
+gap-fine n d p h = let l : (2 * n + d) % (2 * d) ≡ 2 * n + d = mod-eq-of-lt (below n d p h) in omega arith
+  where
+    below : (n d : ℕ) → 0 < d → 4 * n ≤ d → 2 * n + d < 2 * d
+    below n d p h = omega arith
+
+quarter : (m d : ℕ) → m < 2 ^ 24 → 2 ^ 26 ≤ d → 4 * (m * 1) ≤ d
+quarter m d a b = omega arith
+
+gap-at : (m : ℕ) (e : ℤ) → m < 2 ^ 24 → (2 * (m * up e) + down e) % (2 * down e) * 67108864 ≤ 67108863 * (2 * down e)
+gap-at m (pos k) h = gap-coarse (m * 2 ^ k) 1 (lit< tt) (lit≤ tt)
+gap-at m (negsuc k) h = elim (decLe (suc k) 25) [
+  | yes l ↦ gap-coarse (m * 1) (2 ^ suc k) (pow-pos (suc k)) (pow-mono l)
+  | no g ↦ gap-fine (m * 1) (2 ^ suc k) (pow-pos (suc k)) (quarter m (2 ^ suc k) h (pow-mono {i = 26} {j = suc k} (omega arith)))
+]
+
+has-value : (x : Float) (s : Bool) (a c : ℕ) → HasValue x s a c → T (not (isNan x))
+unfolding isNan
+has-value nan s a c v = v
+has-value (inf t) s a c v = tt
+has-value (fin t m e) s a c v = tt
+
+-- ---- the sum as a fraction
+abbrev pub half-up : Float
+half-up = fin false 134217729 (negsuc 0)
+
+sum-is : (m : ℕ) (e : ℤ) → add binary64 (fin false m e) half-up ≡ round binary64 false (2 ^ 26 * (2 * down e) + (2 * (m * up e) + down e)) (2 * down e)
+unfolding add
+sum-is m e = ap₂ (λ (a c : ℕ). round binary64 false a c) (parts (m * up e) (down e)) (mul-comm (down e) 2)
+  where
+    parts : (n d : ℕ) → n * 2 + 134217729 * d ≡ 2 ^ 26 * (2 * d) + (2 * n + d)
+    parts n d = omega arith
+
+module _ (m : ℕ) (e : ℤ) (few : m < 2 ^ 24) (low : m * up e < 2 ^ 24 * down e) where
+  room : (n d : ℕ) → 0 < d → n < 2 ^ 24 * d → (0 < 2 * d) × (2 * n + d < 2 ^ 26 * (2 * d))
+  room n d p h = (omega arith, omega arith)
+
+  fits-in : (0 < 2 * down e) × (2 * (m * up e) + down e < 2 ^ 26 * (2 * down e))
+  fits-in = room (m * up e) (down e) (down-pos e) low
+
+  pub bits-round : toBits binary64 (add binary64 (fin false m e) half-up) / 67108864 % 67108864 ≡ (2 * (m * up e) + down e) / (2 * down e)
+  bits-round = rw (sum-is m e) (cut-bits (2 * (m * up e) + down e) (2 * down e) (fits-in .0) (fits-in .1) (gap-at m e few))
+
+  pub sum-no-nan : T (not (isNan (add binary64 (fin false m e) half-up)))
+  sum-no-nan = rw (sum-is m e) (has-value _ _ _ _ (cut-value (2 * (m * up e) + down e) (2 * down e) (fits-in .0) (fits-in .1) (gap-at m e few)))
+
+-- ---- x held from below by 0
+abbrev pub from-zero : Float → Float
+from-zero x = cond (lt (fin false 0 (pos 0)) x) x (fin false 0 (pos 0))
+
+-- what from-zero leaves of an f32 below 2 ^ 24
+pub record Shape (x : Float) : Type 0 where
+  pub m : ℕ
+  pub e : ℤ
+  pub is : from-zero x ≡ fin false m e
+  pub few : m < 2 ^ 24
+  pub low : m * up e < 2 ^ 24 * down e
+  pub rounds : (last : ℕ) → roundHeld last x ≡ min ((2 * (m * up e) + down e) / (2 * down e)) last
+
+pub few-digits : (s : Bool) (m : ℕ) (e : ℤ) → T (fits binary32 (fin s m e)) → m < 2 ^ 24
+unfolding fits
+few-digits s zero e t = lit< tt
+few-digits s (suc m) e t =
+    let a : Bool = eqb (suc m % 2) 1 in
+    let b : Bool = ltb (suc m) (2 ^ 24) in
+    let c : Bool = leb (down e) (2 ^ 149) in
+    ltb→lt (suc m) (2 ^ 24) (and-r a b (and-l (a && b) c (and-l (a && b && c) (ltb (suc m * up e) (2 ^ 128 * down e)) t)))
+
+at-zero : (x : Float) → from-zero x ≡ fin false 0 (pos 0) → ((last : ℕ) → roundHeld last x ≡ 0) → Shape x
+at-zero x p r = record {
+  m = 0;
+  e = pos 0;
+  is = p;
+  few = lit< tt;
+  low = lit< tt;
+  rounds = λ last. r last ∙ sym (zero-min last);
+}
+
+zero-rounds : (n d last : ℕ) → 0 < d → n ≤ 0 → min ((2 * n + d) / (2 * d)) last ≡ 0
+zero-rounds n d last p h = ap (λ (z : ℕ). min z last) (div-eq-of-lt (under n d p h)) ∙ zero-min last
+  where
+    under : (n d : ℕ) → 0 < d → n ≤ 0 → 2 * n + d < 2 * d
+    under n d p h = omega arith
+
+by-sign : (m : ℕ) (e : ℤ) (b : Bool) → lt (fin false 0 (pos 0)) (fin false m e) ≡ b → m < 2 ^ 24 → m * up e < 2 ^ 24 * down e → Shape (fin false m e)
+unfolding lt roundHeld
+by-sign m e true p few low = record {
+  m = m;
+  e = e;
+  is = ap (λ (b : Bool). cond b (fin false m e) (fin false 0 (pos 0))) p;
+  few = few;
+  low = low;
+  rounds = λ last. refl;
+}
+by-sign m e false p few low =
+    at-zero (fin false m e) (ap (λ (b : Bool). cond b (fin false m e) (fin false 0 (pos 0))) p)
+    (λ last. zero-rounds (m * up e) (down e) last (down-pos e) (none (m * up e) (down e) (ltb-false _ _ p)))
+  where
+    none : (n d : ℕ) → n * 1 ≤ 0 * d → n ≤ 0
+    none n d h = omega arith
+
+pub shape : (x : Float) → T (fits binary32 x) → T (lt x (fin false 1 (pos 24))) → Shape x
+unfolding lt roundHeld
+shape nan f l = absurd l
+shape (inf true) f l = at-zero (inf true) refl (λ last. refl)
+shape (inf false) f l = absurd l
+shape (fin true m e) f l = at-zero (fin true m e) refl (λ last. refl)
+shape (fin false m e) f l =
+    by-sign m e (lt (fin false 0 (pos 0)) (fin false m e)) refl (few-digits false m e f) (one (m * up e) (down e) (ltb→lt (m * up e * 1) (16777216 * down e) l))
+  where
+    one : (n d : ℕ) → n * 1 < 16777216 * d → n < 16777216 * d
+    one n d h = omega arith
+
+-- ---- the three facts that the code asks
+pub held-no-nan : (x : Float) → T (fits binary32 x) → T (lt x (fin false 1 (pos 24))) → T (not (isNan (from-zero x)))
+unfolding isNan
+held-no-nan x f l = subst (λ (h : Float). T (not (isNan h))) (sym (shape x f l .is)) tt
+
+pub added-no-nan : (x : Float) → T (fits binary32 x) → T (lt x (fin false 1 (pos 24))) → T (not (isNan (add binary64 (from-zero x) half-up)))
+added-no-nan x f l =
+    let s = shape x f l in
+    subst (λ (h : Float). T (not (isNan (add binary64 h half-up)))) (sym (s .is)) (sum-no-nan (s .m) (s .e) (s .few) (s .low))
+
+pub small-is : (last : ℕ) (x : Float) → T (fits binary32 x) → T (lt x (fin false 1 (pos 24)))
+    → min (toBits binary64 (add binary64 (from-zero x) half-up) / 67108864 % 67108864) last ≡ roundHeld last x
+small-is last x f l =
+    let s = shape x f l in
+    ap (λ (h : Float). min (toBits binary64 (add binary64 h half-up) / 67108864 % 67108864) last) (s .is)
+    ∙ ap (λ (n : ℕ). min n last) (bits-round (s .m) (s .e) (s .few) (s .low))
+    ∙ sym (s .rounds last)
