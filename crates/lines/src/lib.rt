@@ -7,6 +7,7 @@ ghost use lib.Ieee.{add, mul, div, binary32};
 ghost use Rattle.points.specs.Points.{each};
 ghost use Rattle.select.specs.Steps.{stepped};
 ghost use Rattle.select.specs.Walks.{walked, Walks};
+ghost use Rattle.convert.specs.Convert.{wholeIn};
 ghost use Rattle.dng.specs.Value.{nought, one, nth, delta, scaled};
 ghost use Rattle.lines.specs.Spans.{Spans, Strides};
 use select::Walk;
@@ -52,4 +53,64 @@ fn add_steps(row: &mut [f32], begin: usize, stop: usize, step: usize, d: f32)
         row[i] = row[i] + d;
         i += step;
     }
+}
+
+fn scale_steps(row: &mut [f32], begin: usize, stop: usize, step: usize, s: f32)
+    requires { ⌜ Strides (length (now row)) stop step ⌝ }
+    ensures { λ _. ⌜ now (row .exit) ≡ each (stepped begin stop step (λ m v. scaled s v)) (now (row .entry)) ⌝ }
+{
+    let mut i = begin;
+    while i < stop {
+        row[i] = row[i] * s;
+        i += step;
+    }
+}
+
+// DeltaPerRow on a plane: d is the row's delta over the scale. No delta is left out: −0 + 0.0 is +0, and a scale of 0 gives NaN.
+pub fn add_row(row: &mut [f32], k: Walk, d: f32)
+    requires { ⌜ Walks k (length (now row)) ⌝ }
+    ensures { λ _. ⌜ now (row .exit) ≡ walked k (λ x p v. add binary32 v d) (now (row .entry)) ⌝ }
+{
+    let a = span_of(k, row.len());
+    add_steps(row, a.begin, a.stop, a.step, d);
+}
+
+// ScalePerRow on a plane: s is the row's scale.
+pub fn scale_row(row: &mut [f32], k: Walk, s: f32)
+    requires { ⌜ Walks k (length (now row)) ⌝ }
+    ensures { λ _. ⌜ now (row .exit) ≡ walked k (λ x p v. scaled s v) (now (row .entry)) ⌝ }
+{
+    let a = span_of(k, row.len());
+    scale_steps(row, a.begin, a.stop, a.step, s);
+}
+
+// ---- the values of a body: n big-endian f32 from byte 36 on
+
+fn value_at(body: &[u8], n: u32, i: usize, missing: f32) -> f32
+    ensures { λ r. ⌜ r ≡ nth n (now (body .entry)) missing i ⌝ }
+{
+    if i < n as usize { words::f32_at(body, 36 + 4 * i) } else { missing }
+}
+
+fn over_scale(d: f32, scale: f32) -> f32
+    ensures { λ r. ⌜ r ≡ div binary32 (mul binary32 d (wholeIn binary32 65535)) scale ⌝ }
+{
+    d * 65535.0 / scale
+}
+
+// A row's delta over the scale, for the i-th selected row.
+pub fn row_delta(body: &[u8], n: u32, i: usize, scale: f32) -> f32
+    ensures {
+        λ r.
+        ⌜ r ≡ div binary32 (mul binary32 (nth n (now (body .entry)) nought i) (wholeIn binary32 65535)) scale ⌝
+    }
+{
+    over_scale(value_at(body, n, i, 0.0), scale)
+}
+
+// A row's scale, for the i-th selected row.
+pub fn row_scale(body: &[u8], n: u32, i: usize) -> f32
+    ensures { λ r. ⌜ r ≡ nth n (now (body .entry)) one i ⌝ }
+{
+    value_at(body, n, i, 1.0)
 }

@@ -1,0 +1,34 @@
+-- `scale_row` meets its contract: the places of the walk, and the run over them. Assumes nothing.
+use mathlib.Core.Path.{refl, _∙_}
+use borrow.Author.Needs.{needs}
+use Rattle.dng.specs.Value.{scaled}
+use Rattle.lines.proofs.Spanned.{spanned}
+use Rattle.lines.proofs.scale_row.Statement.{statement}
+use Rattle.lines.proofs.scale_row.Tie as tie
+use Rattle.lines.proofs.scale_row.Reads as reads
+use Rattle.lines.proofs.scale_row.Lts as lts
+use Rattle.lines.proofs.scale_steps.Reads as scale-steps-reads
+use Rattle.lines.proofs.span_of.Reads as span-of-reads
+
+-- src/lib.rt:83:9
+span-of-requires : tie.Need-span-of-requires
+span-of-requires c κs = search needs
+
+-- src/lib.rt:84:5
+scale-steps-requires : tie.Need-scale-steps-requires
+scale-steps-requires c κs = search needs
+
+-- src/lib.rt:79:1
+same-length : tie.Need-same-length
+same-length c = search needs
+
+-- src/lib.rt:79:1
+returns : tie.Need-returns
+returns c =
+    let s = c .before .before .before .before .before .before in
+    c .before .before .scale-steps .ensures
+    ∙ spanned (s .args .k) (λ j v. scaled (s .args .s) v) (λ x p v. scaled (s .args .s) v) (s .args .row .now) (s .pre)
+    (c .before .before .before .before .span-of .ensures) (λ m v. refl)
+
+pub scale-row-spec : {M : Type 1} → statement M
+scale-row-spec = tie.close (tie.spec span-of-requires scale-steps-requires same-length returns)
