@@ -1,7 +1,7 @@
 // Deltas and scales of rows and columns, on one plane of a lent row.
 // What is the same for a whole row, a row's delta or scale, is worked out once by the caller; a loop does what depends on the sample.
 ghost use mathlib.Core.Path.{_≡_};
-ghost use Prim.Native.Nat.{_+_, _-_, _*_, _/_, min};
+ghost use Prim.Native.Nat.{_+_, _-_, _*_, _/_, _<_, min};
 ghost use lib.ListN.{length};
 ghost use lib.Ieee.{add, mul, div, binary32};
 ghost use Rattle.points.specs.Points.{each};
@@ -113,4 +113,66 @@ pub fn row_scale(body: &[u8], n: u32, i: usize) -> f32
     ensures { λ r. ⌜ r ≡ nth n (now (body .entry)) one i ⌝ }
 {
     value_at(body, n, i, 1.0)
+}
+
+// ---- a value for each column: j is the column's number, counted from the region's left edge
+
+fn add_values(row: &mut [f32], begin: usize, stop: usize, step: usize, body: &[u8], n: u32, first: usize, scale: f32)
+    requires { ⌜ Strides (length (now row)) stop step × (first < 8589934592) ⌝ }
+    ensures {
+        λ _.
+        ⌜ now (row .exit)
+        ≡ each (stepped begin stop step (λ m v. delta scale (nth n (now (body .entry)) nought (first + m)) v)) (now (row .entry)) ⌝
+    }
+{
+    let mut i = begin;
+    let mut j = first;
+    while i < stop {
+        row[i] = row[i] + row_delta(body, n, j, scale);
+        i += step;
+        j += 1;
+    }
+}
+
+fn scale_values(row: &mut [f32], begin: usize, stop: usize, step: usize, body: &[u8], n: u32, first: usize)
+    requires { ⌜ Strides (length (now row)) stop step × (first < 8589934592) ⌝ }
+    ensures {
+        λ _.
+        ⌜ now (row .exit)
+        ≡ each (stepped begin stop step (λ m v. scaled (nth n (now (body .entry)) one (first + m)) v)) (now (row .entry)) ⌝
+    }
+{
+    let mut i = begin;
+    let mut j = first;
+    while i < stop {
+        row[i] = row[i] * row_scale(body, n, j);
+        i += step;
+        j += 1;
+    }
+}
+
+// DeltaPerColumn on a plane.
+pub fn add_columns(row: &mut [f32], k: Walk, body: &[u8], n: u32, scale: f32)
+    requires { ⌜ Walks k (length (now row)) ⌝ }
+    ensures {
+        λ _.
+        ⌜ now (row .exit)
+        ≡ walked k (λ x p v. delta scale (nth n (now (body .entry)) nought ((x - k .left) / k .pitch)) v) (now (row .entry)) ⌝
+    }
+{
+    let a = span_of(k, row.len());
+    add_values(row, a.begin, a.stop, a.step, body, n, k.nth, scale);
+}
+
+// ScalePerColumn on a plane.
+pub fn scale_columns(row: &mut [f32], k: Walk, body: &[u8], n: u32)
+    requires { ⌜ Walks k (length (now row)) ⌝ }
+    ensures {
+        λ _.
+        ⌜ now (row .exit)
+        ≡ walked k (λ x p v. scaled (nth n (now (body .entry)) one ((x - k .left) / k .pitch)) v) (now (row .entry)) ⌝
+    }
+{
+    let a = span_of(k, row.len());
+    scale_values(row, a.begin, a.stop, a.step, body, n, k.nth);
 }

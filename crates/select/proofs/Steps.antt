@@ -4,7 +4,7 @@ use Prim.Native.Nat.{ℕ, suc, _+_, _-_, _*_, _/_, _%_, _≤_, _<_, min, max}
 use mathlib.Core.Path.{_≡_, refl, sym, ap, ap₂, subst, _∙_}
 use mathlib.Core.Bool.{Bool, true, false, cond}
 use mathlib.Core.List.{List}
-use native.Mathlib.Nat.{zero-add, zero-mul, add-mul, mul-assoc, mul-one, one-mul, div-one, mod-one, mod-lt, div-add-mod', div-lt-iff-lt-mul, mul-le-mul, le-of-mul-le-mul-right, lt-of-mul-lt-mul-right}
+use native.Mathlib.Nat.{zero-add, zero-mul, add-mul, mul-assoc, mul-one, one-mul, div-one, mod-one, mod-lt, div-add-mod', div-lt-iff-lt-mul, mul-le-mul, mul-le-mul-left, le-of-mul-le-mul-right, lt-of-mul-lt-mul-right}
 use native.Mathlib.Omega.{arith}
 use lib.ListN.{length, getD, set}
 use Rattle.points.specs.Points.{each}
@@ -49,6 +49,12 @@ module _ {A : Type 0} where
             (value ∙ ap (λ (j : ℕ). f j (getD row i d)) (sym (selects-number a s (0 + i) m (omega (arith, u .number)))));
         number = omega (arith, u .number, add-mul m 1 (max s 1));
       }
+
+  -- no more steps than places
+  pub steps-few : {a e s : ℕ} {f : ℕ → A → A} {l row : List A} {m i : ℕ} → Steps a e s f l row m i → m ≤ i
+  steps-few {s = s} {m = m} u =
+      let more : m * 1 ≤ m * max s 1 = mul-le-mul-left m (omega arith) in
+      omega (arith, u .number)
 
   pub steps-end : {a e s : ℕ} {f : ℕ → A → A} {l row : List A} {m i : ℕ} → Steps a e s f l row m i → min (length l) e ≤ i
       → row ≡ each (stepped a e s f) l

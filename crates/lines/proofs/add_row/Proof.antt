@@ -1,5 +1,5 @@
 -- `add_row` meets its contract: the places of the walk, and the run over them. Assumes nothing.
-use mathlib.Core.Path.{refl, _∙_}
+use mathlib.Core.Path.{refl}
 use borrow.Author.Needs.{needs}
 use lib.Ieee.{add, binary32}
 use Rattle.lines.proofs.Spanned.{spanned}
@@ -26,9 +26,9 @@ same-length c = search needs
 returns : tie.Need-returns
 returns c =
     let s = c .before .before .before .before .before .before in
-    c .before .before .add-steps .ensures
-    ∙ spanned (s .args .k) (λ j v. add binary32 v (s .args .d)) (λ x p v. add binary32 v (s .args .d)) (s .args .row .now) (s .pre)
-    (c .before .before .before .before .span-of .ensures) (λ m v. refl)
+    spanned (s .args .k) (λ j v. add binary32 v (s .args .d)) (λ x p v. add binary32 v (s .args .d)) (s .args .row .now) (s .pre)
+    (c .before .before .before .before .span-of .ensures) (λ m v. refl) _
+    (c .before .before .add-steps .ensures)
 
 pub add-row-spec : {M : Type 1} → statement M
 add-row-spec = tie.close (tie.spec span-of-requires add-steps-requires same-length returns)

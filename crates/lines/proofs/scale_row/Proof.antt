@@ -1,5 +1,5 @@
 -- `scale_row` meets its contract: the places of the walk, and the run over them. Assumes nothing.
-use mathlib.Core.Path.{refl, _∙_}
+use mathlib.Core.Path.{refl}
 use borrow.Author.Needs.{needs}
 use Rattle.dng.specs.Value.{scaled}
 use Rattle.lines.proofs.Spanned.{spanned}
@@ -26,9 +26,9 @@ same-length c = search needs
 returns : tie.Need-returns
 returns c =
     let s = c .before .before .before .before .before .before in
-    c .before .before .scale-steps .ensures
-    ∙ spanned (s .args .k) (λ j v. scaled (s .args .s) v) (λ x p v. scaled (s .args .s) v) (s .args .row .now) (s .pre)
-    (c .before .before .before .before .span-of .ensures) (λ m v. refl)
+    spanned (s .args .k) (λ j v. scaled (s .args .s) v) (λ x p v. scaled (s .args .s) v) (s .args .row .now) (s .pre)
+    (c .before .before .before .before .span-of .ensures) (λ m v. refl) _
+    (c .before .before .scale-steps .ensures)
 
 pub scale-row-spec : {M : Type 1} → statement M
 scale-row-spec = tie.close (tie.spec span-of-requires scale-steps-requires same-length returns)

@@ -1,5 +1,4 @@
 -- `value_at` meets its contract: the i-th of n values, or the missing one. Assumes nothing.
-use mathlib.Core.Path.{sym, _∙_}
 use borrow.Author.Tests.{lt-ltb, le-ltb}
 use Rattle.dng.specs.Value.{nth}
 use borrow.Author.Needs.{needs}

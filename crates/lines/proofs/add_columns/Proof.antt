@@ -1,0 +1,44 @@
+-- `add_columns` meets its contract: the places of the walk, and the run over them from the first column's number on. Assumes nothing.
+use Prim.Native.Nat.{ℕ, _+_, _-_, _/_}
+use mathlib.Core.Path.{ap, sym}
+use lib.Ieee.{Float}
+use lib.ListN.{length}
+use Rattle.dng.specs.Value.{nought, nth, delta}
+use Rattle.lines.proofs.Sizes.{nth-small}
+use Rattle.lines.proofs.Spanned.{spanned}
+use Rattle.lines.proofs.Values.{number-of}
+use borrow.Author.Needs.{needs}
+use Rattle.lines.proofs.add_columns.Statement.{statement}
+use Rattle.lines.proofs.add_columns.Tie as tie
+use Rattle.lines.proofs.add_columns.Reads as reads
+use Rattle.lines.proofs.add_columns.Lts as lts
+use Rattle.lines.proofs.add_values.Reads as add-values-reads
+use Rattle.lines.proofs.span_of.Reads as span-of-reads
+
+-- src/lib.rt:163:9
+span-of-requires : tie.Need-span-of-requires
+span-of-requires c κs = search needs
+
+-- src/lib.rt:164:5
+add-values-requires : tie.Need-add-values-requires
+add-values-requires c κs =
+    let s = c .before .before .before .before in
+    (search needs, nth-small (s .args .k) (length (s .args .row .now)) (s .pre))
+
+-- src/lib.rt:155:1
+same-length : tie.Need-same-length
+same-length c = search needs
+
+-- src/lib.rt:155:1
+returns : tie.Need-returns
+returns c =
+    let s = c .before .before .before .before .before .before .before in
+    let k = s .args .k in
+    spanned k (λ m v. delta (s .args .scale) (nth (s .args .n) (s .args .body .now) nought (k .nth + m)) v)
+    (λ x p v. delta (s .args .scale) (nth (s .args .n) (s .args .body .now) nought ((x - k .left) / k .pitch)) v) (s .args .row .now) (s .pre)
+    (c .before .before .before .before .span-of .ensures)
+    (λ m v. ap (λ (j : ℕ). delta (s .args .scale) (nth (s .args .n) (s .args .body .now) nought j) v) (sym (number-of (k .left) (k .pitch) (k .nth + m) (s .pre .spaced)))) _
+    (c .before .before .add-values .ensures)
+
+pub add-columns-spec : {M : Type 1} → statement M
+add-columns-spec = tie.close (tie.spec span-of-requires add-values-requires same-length returns)
