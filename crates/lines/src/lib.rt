@@ -1,7 +1,7 @@
 // Deltas and scales of rows and columns, on one plane of a lent row.
 // What is the same for a whole row, a row's delta or scale, is worked out once by the caller; a loop does what depends on the sample.
 ghost use mathlib.Core.Path.{_≡_};
-ghost use Prim.Native.Nat.{_+_, _-_, _*_, _/_, _<_, min};
+ghost use Prim.Native.Nat.{_+_, _-_, _*_, _/_, _≤_, _<_, min};
 ghost use lib.ListN.{length};
 ghost use lib.Ieee.{add, mul, div, binary32};
 ghost use Rattle.points.specs.Points.{each};
@@ -42,9 +42,20 @@ fn span_of(k: Walk, n: usize) -> Span
     }
 }
 
-// ---- a value for the whole row
+// ---- a value for the whole row. Where the places are neighbours, as at pitch 1 of one plane, a loop of its own goes several at a time.
 
-fn add_steps(row: &mut [f32], begin: usize, stop: usize, step: usize, d: f32)
+fn add_dense(row: &mut [f32], begin: usize, stop: usize, d: f32)
+    requires { ⌜ stop ≤ length (now row) ⌝ }
+    ensures { λ _. ⌜ now (row .exit) ≡ each (stepped begin stop 1 (λ m v. add binary32 v d)) (now (row .entry)) ⌝ }
+{
+    let mut i = begin;
+    while i < stop {
+        row[i] = row[i] + d;
+        i += 1;
+    }
+}
+
+fn add_apart(row: &mut [f32], begin: usize, stop: usize, step: usize, d: f32)
     requires { ⌜ Strides (length (now row)) stop step ⌝ }
     ensures { λ _. ⌜ now (row .exit) ≡ each (stepped begin stop step (λ m v. add binary32 v d)) (now (row .entry)) ⌝ }
 {
@@ -55,7 +66,29 @@ fn add_steps(row: &mut [f32], begin: usize, stop: usize, step: usize, d: f32)
     }
 }
 
-fn scale_steps(row: &mut [f32], begin: usize, stop: usize, step: usize, s: f32)
+fn add_steps(row: &mut [f32], begin: usize, stop: usize, step: usize, d: f32)
+    requires { ⌜ Strides (length (now row)) stop step ⌝ }
+    ensures { λ _. ⌜ now (row .exit) ≡ each (stepped begin stop step (λ m v. add binary32 v d)) (now (row .entry)) ⌝ }
+{
+    if step == 1 {
+        add_dense(row, begin, stop, d);
+    } else {
+        add_apart(row, begin, stop, step, d);
+    }
+}
+
+fn scale_dense(row: &mut [f32], begin: usize, stop: usize, s: f32)
+    requires { ⌜ stop ≤ length (now row) ⌝ }
+    ensures { λ _. ⌜ now (row .exit) ≡ each (stepped begin stop 1 (λ m v. scaled s v)) (now (row .entry)) ⌝ }
+{
+    let mut i = begin;
+    while i < stop {
+        row[i] = row[i] * s;
+        i += 1;
+    }
+}
+
+fn scale_apart(row: &mut [f32], begin: usize, stop: usize, step: usize, s: f32)
     requires { ⌜ Strides (length (now row)) stop step ⌝ }
     ensures { λ _. ⌜ now (row .exit) ≡ each (stepped begin stop step (λ m v. scaled s v)) (now (row .entry)) ⌝ }
 {
@@ -63,6 +96,17 @@ fn scale_steps(row: &mut [f32], begin: usize, stop: usize, step: usize, s: f32)
     while i < stop {
         row[i] = row[i] * s;
         i += step;
+    }
+}
+
+fn scale_steps(row: &mut [f32], begin: usize, stop: usize, step: usize, s: f32)
+    requires { ⌜ Strides (length (now row)) stop step ⌝ }
+    ensures { λ _. ⌜ now (row .exit) ≡ each (stepped begin stop step (λ m v. scaled s v)) (now (row .entry)) ⌝ }
+{
+    if step == 1 {
+        scale_dense(row, begin, stop, s);
+    } else {
+        scale_apart(row, begin, stop, step, s);
     }
 }
 
