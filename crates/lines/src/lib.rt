@@ -9,6 +9,7 @@ ghost use Rattle.select.specs.Steps.{stepped};
 ghost use Rattle.select.specs.Walks.{walked, Walks};
 ghost use Rattle.convert.specs.Convert.{wholeIn};
 ghost use Rattle.dng.specs.Value.{nought, one, nth, delta, scaled};
+ghost use Rattle.lines.specs.Bytes.{valueFrom};
 ghost use Rattle.lines.specs.Spans.{Spans, Strides};
 use select::Walk;
 
@@ -159,7 +160,22 @@ pub fn row_scale(body: &[u8], n: u32, i: usize) -> f32
     value_at(body, n, i, 1.0)
 }
 
-// ---- a value for each column: j is the column's number, counted from the region's left edge
+// ---- a value for each column. A loop goes on by the value's byte position, four bytes a column.
+
+// The value at a byte position; past the values, `missing`.
+fn value_rare(body: &[u8], at: usize, past: usize, missing: f32) -> f32
+    ensures { λ r. ⌜ r ≡ valueFrom (now (body .entry)) past missing at ⌝ }
+{
+    if at < past { words::f32_at(body, at) } else { missing }
+}
+
+// The same, with one comparison where the value is there whole: `sure` is at most `past`, and at most the last position with four bytes behind it.
+fn value_from(body: &[u8], at: usize, sure: usize, past: usize, missing: f32) -> f32
+    requires { ⌜ sure ≤ past ⌝ }
+    ensures { λ r. ⌜ r ≡ valueFrom (now (body .entry)) past missing at ⌝ }
+{
+    if at < sure { words::f32_at(body, at) } else { value_rare(&body[..], at, past, missing) }
+}
 
 fn add_values(row: &mut [f32], begin: usize, stop: usize, step: usize, body: &[u8], n: u32, first: usize, scale: f32)
     requires { ⌜ Strides (length (now row)) stop step × (first < 8589934592) ⌝ }
@@ -169,12 +185,14 @@ fn add_values(row: &mut [f32], begin: usize, stop: usize, step: usize, body: &[u
         ≡ each (stepped begin stop step (λ m v. delta scale (nth n (now (body .entry)) nought (first + m)) v)) (now (row .entry)) ⌝
     }
 {
+    let past = 36 + 4 * (n as usize);
+    let sure = smaller(past, less(body.len(), 3));
     let mut i = begin;
-    let mut j = first;
+    let mut at = 36 + 4 * first;
     while i < stop {
-        row[i] = row[i] + row_delta(body, n, j, scale);
+        row[i] = row[i] + over_scale(value_from(body, at, sure, past, 0.0), scale);
         i += step;
-        j += 1;
+        at += 4;
     }
 }
 
@@ -186,12 +204,14 @@ fn scale_values(row: &mut [f32], begin: usize, stop: usize, step: usize, body: &
         ≡ each (stepped begin stop step (λ m v. scaled (nth n (now (body .entry)) one (first + m)) v)) (now (row .entry)) ⌝
     }
 {
+    let past = 36 + 4 * (n as usize);
+    let sure = smaller(past, less(body.len(), 3));
     let mut i = begin;
-    let mut j = first;
+    let mut at = 36 + 4 * first;
     while i < stop {
-        row[i] = row[i] * row_scale(body, n, j);
+        row[i] = row[i] * value_from(body, at, sure, past, 1.0);
         i += step;
-        j += 1;
+        at += 4;
     }
 }
 
