@@ -5,8 +5,8 @@ use native.Mathlib.Nat.{mul-le-mul-left, zero-mul}
 use native.Mathlib.Omega.{arith}
 use Rattle.points.proofs.Each.{below-or}
 use Rattle.points.proofs.Walk.{first-close}
-use Rattle.select.specs.declared.Walk.{Walk}
 use Rattle.select.specs.Walks.{Walks}
+use Rattle.select.specs.declared.Walk.{Walk}
 
 module _ (k : Walk) (n : ℕ) (w : Walks k n) where
   pub col-small : k .col < 4294967296

@@ -1,13 +1,13 @@
 -- A run of steps over the places of `Spans` is the walk. Assumes nothing.
 use Prim.Native.Nat.{ℕ, _+_, _*_}
-use mathlib.Core.Path.{_≡_, _∙_}
 use mathlib.Core.List.{List}
+use mathlib.Core.Path.{_≡_, _∙_}
 use lib.ListN.{length}
 use Rattle.points.specs.Points.{each}
-use Rattle.select.specs.declared.Walk.{Walk}
+use Rattle.select.proofs.Steps.{steps-walked}
 use Rattle.select.specs.Steps.{stepped}
 use Rattle.select.specs.Walks.{walked, Walks}
-use Rattle.select.proofs.Steps.{steps-walked}
+use Rattle.select.specs.declared.Walk.{Walk}
 use Rattle.lines.specs.Spans.{Spans}
 
 pub spanned : {A : Type 0} (k : Walk) (f : ℕ → A → A) (g : ℕ → ℕ → A → A) (l : List A) {begin stop step : ℕ} → Walks k (length l)

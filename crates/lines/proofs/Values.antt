@@ -1,16 +1,16 @@
 -- A column's value at its number: what a turn adds or multiplies by, and the number that a walk's contract divides for. Assumes nothing.
 use Prim.Native.Nat.{ℕ, _+_, _-_, _*_, _/_, _≤_}
-use mathlib.Core.Path.{_≡_, ap, _∙_}
 use mathlib.Core.List.{List}
+use mathlib.Core.Path.{_≡_, ap, _∙_}
 use native.Mathlib.Omega.{arith}
+use borrow.Author.Tests.{lt-ltb, le-ltb}
 use lib.Arith.{digits-div}
 use lib.Ieee.{Float, binary32, ofBits, add, mul, div}
-use borrow.Author.Tests.{lt-ltb, le-ltb}
 use Rattle.points.proofs.Each.{below-or}
 use Rattle.convert.specs.Convert.{wholeIn}
 use Rattle.dng.specs.Value.{nought, one, nth, delta, scaled}
-use Rattle.lines.specs.Bytes.{valueFrom}
 use Rattle.lines.proofs.Literals.{zero-is, one-is}
+use Rattle.lines.specs.Bytes.{valueFrom}
 
 -- value j starts at byte 36 + 4 · j, so n of them end before 36 + 4 · n
 from-nth : (n : ℕ) (b : List ℕ) (missing : Float) (j at : ℕ) → at ≡ 36 + 4 * j → valueFrom b (36 + 4 * n) missing at ≡ nth n b missing j

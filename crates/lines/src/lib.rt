@@ -12,24 +12,14 @@ ghost use Rattle.dng.specs.Value.{nought, one, nth, delta, scaled};
 ghost use Rattle.lines.specs.Bytes.{valueFrom};
 ghost use Rattle.lines.specs.Spans.{Spans, Strides};
 use select::Walk;
+use select::less;
+use select::smaller;
 
 // A walk as places of a row: the first, past the last, and how far apart.
 struct Span {
     begin: usize,
     stop: usize,
     step: usize,
-}
-
-fn less(a: usize, b: usize) -> usize
-    ensures { λ r. ⌜ r ≡ a - b ⌝ }
-{
-    if b < a { a - b } else { 0 }
-}
-
-fn smaller(a: usize, b: usize) -> usize
-    ensures { λ r. ⌜ r ≡ min a b ⌝ }
-{
-    if a < b { a } else { b }
 }
 
 fn span_of(k: Walk, n: usize) -> Span
@@ -134,7 +124,11 @@ pub fn scale_row(row: &mut [f32], k: Walk, s: f32)
 fn value_at(body: &[u8], n: u32, i: usize, missing: f32) -> f32
     ensures { λ r. ⌜ r ≡ nth n (now (body .entry)) missing i ⌝ }
 {
-    if i < n as usize { words::f32_at(body, 36 + 4 * i) } else { missing }
+    if i < n as usize {
+        words::f32_at(body, 36 + 4 * i)
+    } else {
+        missing
+    }
 }
 
 fn over_scale(d: f32, scale: f32) -> f32
@@ -145,10 +139,8 @@ fn over_scale(d: f32, scale: f32) -> f32
 
 // A row's delta over the scale, for the i-th selected row.
 pub fn row_delta(body: &[u8], n: u32, i: usize, scale: f32) -> f32
-    ensures {
-        λ r.
-        ⌜ r ≡ div binary32 (mul binary32 (nth n (now (body .entry)) nought i) (wholeIn binary32 65535)) scale ⌝
-    }
+    ensures { λ r.
+        ⌜ r ≡ div binary32 (mul binary32 (nth n (now (body .entry)) nought i) (wholeIn binary32 65535)) scale ⌝ }
 {
     over_scale(value_at(body, n, i, 0.0), scale)
 }
@@ -166,7 +158,11 @@ pub fn row_scale(body: &[u8], n: u32, i: usize) -> f32
 fn value_rare(body: &[u8], at: usize, past: usize, missing: f32) -> f32
     ensures { λ r. ⌜ r ≡ valueFrom (now (body .entry)) past missing at ⌝ }
 {
-    if at < past { words::f32_at(body, at) } else { missing }
+    if at < past {
+        words::f32_at(body, at)
+    } else {
+        missing
+    }
 }
 
 // The same, with one comparison where the value is there whole: `sure` is at most `past`, and at most the last position with four bytes behind it.
@@ -174,16 +170,27 @@ fn value_from(body: &[u8], at: usize, sure: usize, past: usize, missing: f32) ->
     requires { ⌜ sure ≤ past ⌝ }
     ensures { λ r. ⌜ r ≡ valueFrom (now (body .entry)) past missing at ⌝ }
 {
-    if at < sure { words::f32_at(body, at) } else { value_rare(&body[..], at, past, missing) }
+    if at < sure {
+        words::f32_at(body, at)
+    } else {
+        value_rare(&body[..], at, past, missing)
+    }
 }
 
-fn add_values(row: &mut [f32], begin: usize, stop: usize, step: usize, body: &[u8], n: u32, first: usize, scale: f32)
+fn add_values(
+    row: &mut [f32],
+    begin: usize,
+    stop: usize,
+    step: usize,
+    body: &[u8],
+    n: u32,
+    first: usize,
+    scale: f32,
+)
     requires { ⌜ Strides (length (now row)) stop step × (first < 8589934592) ⌝ }
-    ensures {
-        λ _.
+    ensures { λ _.
         ⌜ now (row .exit)
-        ≡ each (stepped begin stop step (λ m v. delta scale (nth n (now (body .entry)) nought (first + m)) v)) (now (row .entry)) ⌝
-    }
+        ≡ each (stepped begin stop step (λ m v. delta scale (nth n (now (body .entry)) nought (first + m)) v)) (now (row .entry)) ⌝ }
 {
     let past = 36 + 4 * (n as usize);
     let sure = smaller(past, less(body.len(), 3));
@@ -196,13 +203,19 @@ fn add_values(row: &mut [f32], begin: usize, stop: usize, step: usize, body: &[u
     }
 }
 
-fn scale_values(row: &mut [f32], begin: usize, stop: usize, step: usize, body: &[u8], n: u32, first: usize)
+fn scale_values(
+    row: &mut [f32],
+    begin: usize,
+    stop: usize,
+    step: usize,
+    body: &[u8],
+    n: u32,
+    first: usize,
+)
     requires { ⌜ Strides (length (now row)) stop step × (first < 8589934592) ⌝ }
-    ensures {
-        λ _.
+    ensures { λ _.
         ⌜ now (row .exit)
-        ≡ each (stepped begin stop step (λ m v. scaled (nth n (now (body .entry)) one (first + m)) v)) (now (row .entry)) ⌝
-    }
+        ≡ each (stepped begin stop step (λ m v. scaled (nth n (now (body .entry)) one (first + m)) v)) (now (row .entry)) ⌝ }
 {
     let past = 36 + 4 * (n as usize);
     let sure = smaller(past, less(body.len(), 3));
@@ -218,11 +231,9 @@ fn scale_values(row: &mut [f32], begin: usize, stop: usize, step: usize, body: &
 // DeltaPerColumn on a plane.
 pub fn add_columns(row: &mut [f32], k: Walk, body: &[u8], n: u32, scale: f32)
     requires { ⌜ Walks k (length (now row)) ⌝ }
-    ensures {
-        λ _.
+    ensures { λ _.
         ⌜ now (row .exit)
-        ≡ walked k (λ x p v. delta scale (nth n (now (body .entry)) nought ((x - k .left) / k .pitch)) v) (now (row .entry)) ⌝
-    }
+        ≡ walked k (λ x p v. delta scale (nth n (now (body .entry)) nought ((x - k .left) / k .pitch)) v) (now (row .entry)) ⌝ }
 {
     let a = span_of(k, row.len());
     add_values(row, a.begin, a.stop, a.step, body, n, k.nth, scale);
@@ -231,11 +242,9 @@ pub fn add_columns(row: &mut [f32], k: Walk, body: &[u8], n: u32, scale: f32)
 // ScalePerColumn on a plane.
 pub fn scale_columns(row: &mut [f32], k: Walk, body: &[u8], n: u32)
     requires { ⌜ Walks k (length (now row)) ⌝ }
-    ensures {
-        λ _.
+    ensures { λ _.
         ⌜ now (row .exit)
-        ≡ walked k (λ x p v. scaled (nth n (now (body .entry)) one ((x - k .left) / k .pitch)) v) (now (row .entry)) ⌝
-    }
+        ≡ walked k (λ x p v. scaled (nth n (now (body .entry)) one ((x - k .left) / k .pitch)) v) (now (row .entry)) ⌝ }
 {
     let a = span_of(k, row.len());
     scale_values(row, a.begin, a.stop, a.step, body, n, k.nth);

@@ -3,8 +3,8 @@ use Prim.Native.Nat.{ℕ, _+_, _-_, _*_, _/_, _≤_, _<_, max}
 use mathlib.Core.Path.{_≡_}
 use native.Mathlib.Nat.{one-mul, mul-le-mul-right, div-mul-le-self, lt-div-mul-add}
 use native.Mathlib.Omega.{arith}
-use Rattle.points.specs.Select.{First}
 use Rattle.points.proofs.Walk.{first-near}
+use Rattle.points.specs.Select.{First}
 
 -- g rounded up to whole steps of s is no less than g, and less than a step more
 pub up-from : (g s : ℕ) → 0 < s → g ≤ (g + (s - 1)) / s * s

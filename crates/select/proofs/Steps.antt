@@ -1,20 +1,20 @@
 -- A loop that goes a step at a time, and why it is a walk over the selected samples of one plane. Over any kind A; `d` is what `getD` gives
 -- past the end. Assumes nothing.
-use Prim.Native.Nat.{ℕ, suc, _+_, _-_, _*_, _/_, _%_, _≤_, _<_, min, max}
-use mathlib.Core.Path.{_≡_, refl, sym, ap, ap₂, subst, _∙_}
+use Prim.Native.Nat.{ℕ, _+_, _-_, _*_, _/_, _%_, _≤_, _<_, min, max}
 use mathlib.Core.Bool.{Bool, true, false, cond}
 use mathlib.Core.List.{List}
-use native.Mathlib.Nat.{zero-add, zero-mul, add-mul, mul-assoc, mul-one, one-mul, div-one, mod-one, mod-lt, div-add-mod', div-lt-iff-lt-mul, mul-le-mul, mul-le-mul-left, le-of-mul-le-mul-right, lt-of-mul-lt-mul-right}
+use mathlib.Core.Path.{_≡_, refl, sym, ap, subst, _∙_}
+use native.Mathlib.Nat.{zero-add, zero-mul, add-mul, mul-assoc, div-add-mod', div-lt-iff-lt-mul, mul-le-mul, mul-le-mul-left, le-of-mul-le-mul-right, lt-of-mul-lt-mul-right}
 use native.Mathlib.Omega.{arith}
 use lib.ListN.{length, getD, set}
-use Rattle.points.specs.Points.{each}
-use Rattle.points.specs.Select.{selects, inRow, onColumns, First}
 use Rattle.points.proofs.Each.{below-or, each-agree}
 use Rattle.points.proofs.Select.{selects-at, selects-only, selects-number, on-plane, on-in, on-unselected, on-below, on-above}
 use Rattle.points.proofs.Walk.{first-near, in-row-at, Upto, upto-begin, upto-next-by, upto-end}
-use Rattle.select.specs.declared.Walk.{Walk}
+use Rattle.points.specs.Points.{each}
+use Rattle.points.specs.Select.{selects, inRow, onColumns, First}
 use Rattle.select.specs.Steps.{stepped}
 use Rattle.select.specs.Walks.{walked, Walks}
+use Rattle.select.specs.declared.Walk.{Walk}
 
 module _ {A : Type 0} where
   abbrev numbered : (a s : ℕ) → (ℕ → A → A) → ℕ → ℕ → A → A
@@ -141,8 +141,12 @@ module _ {A : Type 0} (x0 p lo hi pitch plane col n len : ℕ) (f : ℕ → A �
 
       numbered-so : x0 + i / p ≡ lo + number * pitch
       numbered-so =
-          omega (arith, only .0, only .2,
-          subst (λ (q : ℕ). number * q + (x0 + i / p - lo) % max pitch 1 ≡ x0 + i / p - lo) one (div-add-mod' (x0 + i / p - lo) (max pitch 1)))
+          omega (
+            arith,
+            only .0,
+            only .2,
+            subst (λ (q : ℕ). number * q + (x0 + i / p - lo) % max pitch 1 ≡ x0 + i / p - lo) one (div-add-mod' (x0 + i / p - lo) (max pitch 1)),
+          )
 
       later : n ≤ number
       later =

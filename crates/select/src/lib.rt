@@ -1,7 +1,7 @@
 // Which rows, columns and planes a region selects, worked out once per row and handed to the steps as a walk.
 // The numbers are those of a region as the list has them: a pitch of 0 counts as 1.
 ghost use mathlib.Core.Path.{_≡_};
-ghost use Prim.Native.Nat.{_+_, min, max};
+ghost use Prim.Native.Nat.{_+_, _-_, min, max};
 ghost use Rattle.points.specs.Select.{selects, First};
 
 // The selected samples of one plane of a row: the row starts at image column x0 and has `planes` samples to a pixel; the columns left..right are
@@ -23,10 +23,23 @@ pub struct Start {
     pub nth: usize,
 }
 
-fn larger(a: usize, b: usize) -> usize
+pub fn larger(a: usize, b: usize) -> usize
     ensures { λ r. ⌜ r ≡ max a b ⌝ }
 {
     if a < b { b } else { a }
+}
+
+pub fn smaller(a: usize, b: usize) -> usize
+    ensures { λ r. ⌜ r ≡ min a b ⌝ }
+{
+    if a < b { a } else { b }
+}
+
+// a − b, or 0 where b is larger.
+pub fn less(a: usize, b: usize) -> usize
+    ensures { λ r. ⌜ r ≡ a - b ⌝ }
+{
+    if b < a { a - b } else { 0 }
 }
 
 // The distance from left, rounded up to whole steps.
@@ -64,6 +77,5 @@ pub fn row_selected(top: u32, bottom: u32, pitch: u32, y: usize) -> bool
 pub fn plane_end(plane: u32, planes: u32, window: usize) -> usize
     ensures { λ r. ⌜ r ≡ min (plane + planes) window ⌝ }
 {
-    let end = plane as usize + planes as usize;
-    if end < window { end } else { window }
+    smaller(plane as usize + planes as usize, window)
 }

@@ -1,35 +1,26 @@
 -- `add_columns` meets its contract: the places of the walk, and the run over them from the first column's number on. Assumes nothing.
 use Prim.Native.Nat.{ℕ, _+_, _-_, _/_}
 use mathlib.Core.Path.{ap, sym}
-use lib.Ieee.{Float}
+use borrow.Author.Needs.{needs}
 use lib.ListN.{length}
 use Rattle.dng.specs.Value.{nought, nth, delta}
+use Rattle.lines.proofs.add_columns.Statement.{statement}
+use Rattle.lines.proofs.add_columns.Tie as tie
 use Rattle.lines.proofs.Sizes.{nth-small}
 use Rattle.lines.proofs.Spanned.{spanned}
 use Rattle.lines.proofs.Values.{number-of}
-use borrow.Author.Needs.{needs}
-use Rattle.lines.proofs.add_columns.Statement.{statement}
-use Rattle.lines.proofs.add_columns.Tie as tie
-use Rattle.lines.proofs.add_columns.Reads as reads
-use Rattle.lines.proofs.add_columns.Lts as lts
-use Rattle.lines.proofs.add_values.Reads as add-values-reads
-use Rattle.lines.proofs.span_of.Reads as span-of-reads
 
--- src/lib.rt:163:9
 span-of-requires : tie.Need-span-of-requires
 span-of-requires c κs = search needs
 
--- src/lib.rt:164:5
 add-values-requires : tie.Need-add-values-requires
 add-values-requires c κs =
     let s = c .before .before .before .before in
     (search needs, nth-small (s .args .k) (length (s .args .row .now)) (s .pre))
 
--- src/lib.rt:155:1
 same-length : tie.Need-same-length
 same-length c = search needs
 
--- src/lib.rt:155:1
 returns : tie.Need-returns
 returns c =
     let s = c .before .before .before .before .before .before .before in

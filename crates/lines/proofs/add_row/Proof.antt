@@ -2,27 +2,19 @@
 use mathlib.Core.Path.{refl}
 use borrow.Author.Needs.{needs}
 use lib.Ieee.{add, binary32}
-use Rattle.lines.proofs.Spanned.{spanned}
 use Rattle.lines.proofs.add_row.Statement.{statement}
 use Rattle.lines.proofs.add_row.Tie as tie
-use Rattle.lines.proofs.add_row.Reads as reads
-use Rattle.lines.proofs.add_row.Lts as lts
-use Rattle.lines.proofs.add_steps.Reads as add-steps-reads
-use Rattle.lines.proofs.span_of.Reads as span-of-reads
+use Rattle.lines.proofs.Spanned.{spanned}
 
--- src/lib.rt:74:9
 span-of-requires : tie.Need-span-of-requires
 span-of-requires c κs = search needs
 
--- src/lib.rt:75:5
 add-steps-requires : tie.Need-add-steps-requires
 add-steps-requires c κs = search needs
 
--- src/lib.rt:70:1
 same-length : tie.Need-same-length
 same-length c = search needs
 
--- src/lib.rt:70:1
 returns : tie.Need-returns
 returns c =
     let s = c .before .before .before .before .before .before in

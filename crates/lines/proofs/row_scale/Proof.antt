@@ -1,20 +1,15 @@
 -- `row_scale` meets its contract: a missing scale is 1.0. Assumes nothing.
 use mathlib.Core.Path.{_∙_, ap}
+use borrow.Author.Needs.{needs}
 use lib.Ieee.{Float}
 use Rattle.dng.specs.Value.{nth}
-use Rattle.lines.proofs.Literals.{one-is}
-use borrow.Author.Needs.{needs}
 use Rattle.lines.proofs.row_scale.Statement.{statement}
 use Rattle.lines.proofs.row_scale.Tie as tie
-use Rattle.lines.proofs.row_scale.Reads as reads
-use Rattle.lines.proofs.row_scale.Lts as lts
-use Rattle.lines.proofs.value_at.Reads as value-at-reads
+use Rattle.lines.proofs.Literals.{one-is}
 
--- src/lib.rt:115:5
 value-at-requires : tie.Need-value-at-requires
 value-at-requires c κs = search needs
 
--- src/lib.rt:112:1
 returns : tie.Need-returns
 returns c =
     let s = c .before .before in

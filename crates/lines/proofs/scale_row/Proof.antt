@@ -2,27 +2,19 @@
 use mathlib.Core.Path.{refl}
 use borrow.Author.Needs.{needs}
 use Rattle.dng.specs.Value.{scaled}
-use Rattle.lines.proofs.Spanned.{spanned}
 use Rattle.lines.proofs.scale_row.Statement.{statement}
 use Rattle.lines.proofs.scale_row.Tie as tie
-use Rattle.lines.proofs.scale_row.Reads as reads
-use Rattle.lines.proofs.scale_row.Lts as lts
-use Rattle.lines.proofs.scale_steps.Reads as scale-steps-reads
-use Rattle.lines.proofs.span_of.Reads as span-of-reads
+use Rattle.lines.proofs.Spanned.{spanned}
 
--- src/lib.rt:83:9
 span-of-requires : tie.Need-span-of-requires
 span-of-requires c κs = search needs
 
--- src/lib.rt:84:5
 scale-steps-requires : tie.Need-scale-steps-requires
 scale-steps-requires c κs = search needs
 
--- src/lib.rt:79:1
 same-length : tie.Need-same-length
 same-length c = search needs
 
--- src/lib.rt:79:1
 returns : tie.Need-returns
 returns c =
     let s = c .before .before .before .before .before .before in

@@ -1,15 +1,11 @@
 -- `span_of` meets its contract: the products of a walk's numbers fit. Assumes nothing.
-use Prim.Native.Nat.{ℕ, _+_, _*_, _≤_, _<_, min}
+use Prim.Native.Nat.{ℕ, _*_, _<_, min}
 use mathlib.Core.Path.{refl, ap, _∙_}
-use borrow.Author.Needs.{needs}
 use native.Mathlib.Omega.{arith}
-use Rattle.lines.proofs.Sizes.{col-small, by-planes, step-goes}
+use borrow.Author.Needs.{needs}
 use Rattle.lines.proofs.span_of.Statement.{statement}
 use Rattle.lines.proofs.span_of.Tie as tie
-use Rattle.lines.proofs.span_of.Reads as reads
-use Rattle.lines.proofs.span_of.Lts as lts
-use Rattle.lines.proofs.less.Reads as less-reads
-use Rattle.lines.proofs.smaller.Reads as smaller-reads
+use Rattle.lines.proofs.Sizes.{col-small, by-planes, step-goes}
 
 first-of : (s : tie.Start) → s .args .k .col * s .args .k .planes < 34359738368
 first-of s =
@@ -18,33 +14,26 @@ first-of s =
 step-of : (s : tie.Start) → s .args .k .pitch * s .args .k .planes < 34359738368
 step-of s = omega (arith, by-planes (s .args .k) (s .args .n) (s .pre) (s .args .k .pitch), s .pre .pitch32)
 
--- src/lib.rt:38:16
 mul-t3 : tie.Need-mul-t3
 mul-t3 c = omega (arith, first-of (c .before))
 
--- src/lib.rt:38:16
 add-t4 : tie.Need-add-t4
 add-t4 c = omega (arith, first-of (c .before .before), c .before .before .pre .inside, c .before .before .pre .few)
 
--- src/lib.rt:39:26
 less-requires : tie.Need-less-requires
 less-requires c κs = search needs
 
--- src/lib.rt:39:26
 mul-smaller : tie.Need-mul-smaller
 mul-smaller c =
     let s = c .before .before .before .before in
     omega (arith, by-planes (s .args .k) (s .args .n) (s .pre) (c .before .less .result), c .before .less .ensures, s .pre .right32)
 
--- src/lib.rt:39:15
 smaller-requires : tie.Need-smaller-requires
 smaller-requires c κs = search needs
 
--- src/lib.rt:40:15
 mul-t8 : tie.Need-mul-t8
 mul-t8 c = omega (arith, step-of (c .before .before .before .before .before .before))
 
--- src/lib.rt:33:1
 returns : tie.Need-returns
 returns c =
     let s = c .before .before .before .before .before .before in

@@ -1,29 +1,21 @@
 -- `value_from` meets its contract: what is sure is before the end of the values. Assumes nothing.
-use borrow.Author.Tests.{lt-ltb}
 use native.Mathlib.Omega.{arith}
-use Rattle.lines.specs.Bytes.{valueFrom}
 use borrow.Author.Needs.{needs}
+use borrow.Author.Tests.{lt-ltb}
 use Rattle.lines.proofs.value_from.Statement.{statement}
 use Rattle.lines.proofs.value_from.Tie as tie
-use Rattle.lines.proofs.value_from.Reads as reads
-use Rattle.lines.proofs.value_from.Lts as lts
-use Rattle.lines.proofs.value_rare.Reads as value-rare-reads
-use Rattle.words.proofs.f32_at.Reads as f32-at-reads
+use Rattle.lines.specs.Bytes.{valueFrom}
 
--- src/lib.rt:177:20
 f32-at-requires : tie.Need-f32-at-requires
 f32-at-requires c κs = search needs
 
--- src/lib.rt:177:53
 value-rare-requires : tie.Need-value-rare-requires
 value-rare-requires c κs = search needs
 
--- src/lib.rt:173:1
 returns : tie.Need-returns
 unfolding valueFrom
 returns c = rw (lt-ltb (c .before .before .before .args .at) (c .before .before .before .args .past) (omega arith)) (c .f32-at .ensures)
 
--- src/lib.rt:173:1
 returns-2 : tie.Need-returns-2
 returns-2 c = search needs
 

@@ -1,23 +1,17 @@
 -- `value_rare` meets its contract: the value there, or the missing one. Assumes nothing.
-use borrow.Author.Tests.{lt-ltb, le-ltb}
-use Rattle.lines.specs.Bytes.{valueFrom}
 use borrow.Author.Needs.{needs}
+use borrow.Author.Tests.{lt-ltb, le-ltb}
 use Rattle.lines.proofs.value_rare.Statement.{statement}
 use Rattle.lines.proofs.value_rare.Tie as tie
-use Rattle.lines.proofs.value_rare.Reads as reads
-use Rattle.lines.proofs.value_rare.Lts as lts
-use Rattle.words.proofs.f32_at.Reads as f32-at-reads
+use Rattle.lines.specs.Bytes.{valueFrom}
 
--- src/lib.rt:169:20
 f32-at-requires : tie.Need-f32-at-requires
 f32-at-requires c κs = search needs
 
--- src/lib.rt:166:1
 returns : tie.Need-returns
 unfolding valueFrom
 returns c = rw (lt-ltb _ _ (c .before .if1 .taken)) (c .f32-at .ensures)
 
--- src/lib.rt:166:1
 returns-2 : tie.Need-returns-2
 unfolding valueFrom
 returns-2 c = rw (le-ltb _ _ (c .if1 .left))

@@ -1,13 +1,10 @@
 -- `first_column` meets its contract: the round-up division of proofs/RoundUp, and its numbers fit. Assumes nothing.
 use Prim.Native.Nat.{ℕ, _+_, _-_, _*_, _/_, _≤_, _<_}
-use borrow.Author.Needs.{needs}
 use native.Mathlib.Omega.{arith}
+use borrow.Author.Needs.{needs}
 use Rattle.select.proofs.RoundUp.{up-from, up-below, first-up}
 use Rattle.select.proofs.first_column.Statement.{statement}
 use Rattle.select.proofs.first_column.Tie as tie
-use Rattle.select.proofs.first_column.Reads as reads
-use Rattle.select.proofs.first_column.Lts as lts
-use Rattle.select.proofs.larger.Reads as larger-reads
 
 -- how far the distance from left is rounded up
 abbrev gap : tie.After-larger2 → ℕ
@@ -22,43 +19,33 @@ from c = up-from (gap c) (step c) (omega arith)
 below : (c : tie.After-larger2) → (gap c + (step c - 1)) / step c * step c < gap c + step c
 below c = up-below (gap c) (step c) (omega arith)
 
--- src/lib.rt:38:9
 larger-requires : tie.Need-larger-requires
 larger-requires c κs = search needs
 
--- src/lib.rt:39:9
 larger-requires-2 : tie.Need-larger-requires-2
 larger-requires-2 c κs = search needs
 
--- src/lib.rt:40:16
 sub-nth : tie.Need-sub-nth
 sub-nth c = search needs
 
--- src/lib.rt:40:30
 sub-nth-2 : tie.Need-sub-nth-2
 sub-nth-2 c = search needs
 
--- src/lib.rt:40:16
 add-nth : tie.Need-add-nth
 add-nth c = search needs
 
--- src/lib.rt:40:15
 div-nth : tie.Need-div-nth
 div-nth c = search needs
 
--- src/lib.rt:42:19
 mul-t9 : tie.Need-mul-t9
 mul-t9 c = omega (arith, below c)
 
--- src/lib.rt:42:14
 add-t11 : tie.Need-add-t11
 add-t11 c = omega (arith, below c)
 
--- src/lib.rt:42:14
 sub-t10 : tie.Need-sub-t10
 sub-t10 c = omega (arith, from c)
 
--- src/lib.rt:33:1
 returns : tie.Need-returns
 returns c =
     first-up (c .before .before .args .left) (c .before .before .args .pitch) (c .before .before .args .x0) (c .before .larger .result)

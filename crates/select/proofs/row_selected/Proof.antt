@@ -1,34 +1,24 @@
 -- `row_selected` meets its contract: outside top..bottom, and inside it the pitch. Assumes nothing.
-use Prim.Native.Nat.{ℕ, _+_, _-_, _%_, max}
-use mathlib.Core.Path.{_≡_, sym, ap}
+use mathlib.Core.Path.{sym}
 use borrow.Author.Needs.{needs}
 use borrow.Author.Tests.{le-leb, lt-ltb}
-use lib.Dec.{eqb}
-use Rattle.points.specs.Select.{selects}
 use Rattle.points.proofs.Select.{selects-low, selects-high}
+use Rattle.points.specs.Select.{selects}
 use Rattle.select.proofs.row_selected.Statement.{statement}
 use Rattle.select.proofs.row_selected.Tie as tie
-use Rattle.select.proofs.row_selected.Reads as reads
-use Rattle.select.proofs.row_selected.Lts as lts
-use Rattle.select.proofs.larger.Reads as larger-reads
 
--- src/lib.rt:53:9
 larger-requires : tie.Need-larger-requires
 larger-requires c κs = search needs
 
--- src/lib.rt:55:9
 returns : tie.Need-returns
 returns c = sym (selects-low _ _ _ _ (c .if1 .taken))
 
--- src/lib.rt:58:9
 returns-2 : tie.Need-returns-2
 returns-2 c = sym (selects-high _ _ _ _ (c .if2 .taken))
 
--- src/lib.rt:60:5
 rem-result : tie.Need-rem-result
 rem-result c = search needs
 
--- src/lib.rt:48:1
 returns-3 : tie.Need-returns-3
 unfolding selects
 returns-3 c =
