@@ -1,1 +1,2 @@
 pub mod Gain
+pub mod Strip

@@ -1,8 +1,10 @@
 // Gain maps, on one plane of a lent row.
 ghost use mathlib.Core.Path.{_≡_};
 ghost use Prim.Native.Nat.{_+_, _-_, _*_, _≤_, _<_, min, max};
+ghost use lib.Ieee.{binary32, add, mul};
 ghost use Rattle.dng.specs.Value.{position};
 ghost use Rattle.gain.specs.Gain.{AxisIs};
+ghost use Rattle.gain.specs.Strip.{Beside, StripIs, Reaches, PairIs, lineOf};
 
 // ---- where an image coordinate lies between the points of a map
 
@@ -53,4 +55,73 @@ pub fn axis_at(at: u32, full: u32, origin: f64, spacing: f64, n: u32) -> Axis
         upper: next(f.index, last_of(n)),
         share: narrow::to_f32(f.rest),
     }
+}
+
+// ---- two map rows mixed
+
+// The two map rows around an image row, as the code carries them: where in the body the gains of map column 0 stand, how far apart the map
+// columns are, the last map column, and the share of the second row.
+struct Strip {
+    near: usize,
+    far: usize,
+    step: usize,
+    last: u32,
+    share: f32,
+}
+
+// `planes` is the map's own count, at least 1; planes are fastest in a map, rows slowest.
+fn strip_of(v: Axis, columns: u32, planes: u32, m: u32) -> Strip
+    requires { ⌜ Beside v columns planes m ⌝ }
+    ensures { λ r. ⌜ StripIs v columns planes m r ⌝ }
+{
+    let width = columns as usize * planes as usize;
+    Strip {
+        near: 76 + 4 * (v.lower as usize * width + m as usize),
+        far: 76 + 4 * (v.upper as usize * width + m as usize),
+        step: 4 * planes as usize,
+        last: last_of(columns),
+        share: v.share,
+    }
+}
+
+// The gain of map column h between the two rows.
+fn line_at(body: &[u8], s: Strip, h: u32) -> f32
+    requires { ⌜ Reaches s × (h ≤ s .last) ⌝ }
+    ensures { λ r. ⌜ r ≡ lineOf (now (body .entry)) s h ⌝ }
+{
+    let ahead = h as usize * s.step;
+    let a = words::f32_at(body, s.near + ahead);
+    let b = words::f32_at(body, s.far + ahead);
+    a + (b - a) * s.share
+}
+
+// The lines of map column h and of the one after it, the second less the first: what the image columns between the two have in common.
+struct Pair {
+    h: u32,
+    a: f32,
+    d: f32,
+}
+
+fn pair_at(body: &[u8], s: Strip, h: u32) -> Pair
+    requires { ⌜ Reaches s × (h ≤ s .last) ⌝ }
+    ensures { λ r. ⌜ PairIs (now (body .entry)) s r × (r .h ≡ h) ⌝ }
+{
+    let a = line_at(body, s, h);
+    let b = line_at(body, s, next(h, s.last));
+    Pair { h, a, d: b - a }
+}
+
+// The pair of h: mostly the one at hand.
+fn pair_for(body: &[u8], s: Strip, q: Pair, h: u32) -> Pair
+    requires { ⌜ Reaches s × (h ≤ s .last) × PairIs (now body) s q ⌝ }
+    ensures { λ r. ⌜ PairIs (now (body .entry)) s r × (r .h ≡ h) ⌝ }
+{
+    if q.h == h { q } else { pair_at(body, s, h) }
+}
+
+// v times the gain at the share t between the two lines.
+fn raised(q: Pair, t: f32, v: f32) -> f32
+    ensures { λ r. ⌜ r ≡ mul binary32 v (add binary32 (q .a) (mul binary32 (q .d) t)) ⌝ }
+{
+    v * (q.a + q.d * t)
 }
