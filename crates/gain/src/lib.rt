@@ -1,10 +1,13 @@
 // Gain maps, on one plane of a lent row.
 ghost use mathlib.Core.Path.{_≡_};
 ghost use Prim.Native.Nat.{_+_, _-_, _*_, _≤_, _<_, min, max};
+ghost use lib.ListN.{length};
 ghost use lib.Ieee.{binary32, add, mul};
+ghost use Rattle.select.specs.Walks.{walked, Walks};
 ghost use Rattle.dng.specs.Value.{position};
 ghost use Rattle.gain.specs.Gain.{AxisIs};
-ghost use Rattle.gain.specs.Strip.{Beside, StripIs, Reaches, PairIs, lineOf};
+ghost use Rattle.gain.specs.Strip.{Beside, StripIs, Reaches, PairIs, lineOf, alongStrip};
+use select::Walk;
 
 // ---- where an image coordinate lies between the points of a map
 
@@ -124,4 +127,50 @@ fn raised(q: Pair, t: f32, v: f32) -> f32
     ensures { λ r. ⌜ r ≡ mul binary32 v (add binary32 (q .a) (mul binary32 (q .d) t)) ⌝ }
 {
     v * (q.a + q.d * t)
+}
+
+// ---- one row
+
+fn less(a: usize, b: usize) -> usize
+    ensures { λ r. ⌜ r ≡ a - b ⌝ }
+{
+    if b < a { a - b } else { 0 }
+}
+
+fn least(a: usize, b: usize) -> usize
+    ensures { λ r. ⌜ r ≡ min a b ⌝ }
+{
+    if a < b { a } else { b }
+}
+
+// Where a walk over a row of len samples ends: at the row's end, or before column `right`.
+fn end_of(len: usize, x0: usize, right: usize, planes: usize) -> usize
+    requires { ⌜ (right < 4294967296) × (planes ≤ 8) ⌝ }
+    ensures { λ r. ⌜ r ≡ min len ((right - x0) * planes) ⌝ }
+{
+    least(len, less(right, x0) * planes)
+}
+
+fn row_along(row: &mut [f32], k: Walk, body: &[u8], s: Strip, full: u32, origin: f64, spacing: f64, n: u32)
+    requires { ⌜ Walks k (length (now row)) × Reaches s × (s .last ≡ n - 1) ⌝ }
+    ensures { λ _. ⌜ now (row .exit) ≡ walked k (alongStrip (now (body .entry)) s full origin spacing n) (now (row .entry)) ⌝ }
+{
+    let x0 = k.x0;
+    let planes = k.planes;
+    let left = k.left;
+    let right = k.right;
+    let pitch = k.pitch;
+    let plane = k.plane;
+    let stop = end_of(row.len(), x0, right, planes);
+    let step = pitch * planes;
+    let mut c = k.col;
+    let mut i = c * planes + plane;
+    let mut q = pair_at(body, s, 0);
+    while i < stop {
+        let x = axis_at((x0 + c) as u32, full, origin, spacing, n);
+        q = pair_for(body, s, q, x.lower);
+        row[i] = raised(q, x.share, row[i]);
+        i += step;
+        c += pitch;
+    }
 }
