@@ -5,8 +5,9 @@ ghost use lib.ListN.{length};
 ghost use lib.Ieee.{binary32, add, mul};
 ghost use Rattle.select.specs.Walks.{walked, Walks};
 ghost use Rattle.dng.specs.Value.{position};
-ghost use Rattle.gain.specs.Gain.{AxisIs};
+ghost use Rattle.gain.specs.Gain.{AxisIs, Sized, timesGain};
 ghost use Rattle.gain.specs.Strip.{Beside, StripIs, Reaches, PairIs, lineOf, alongStrip};
+use dng::Grid;
 use select::Walk;
 
 // ---- where an image coordinate lies between the points of a map
@@ -173,4 +174,32 @@ fn row_along(row: &mut [f32], k: Walk, body: &[u8], s: Strip, full: u32, origin:
         i += step;
         c += pitch;
     }
+}
+
+// One row, one plane: every selected sample times the gain at its own place. y is the row's place in the image, m the plane of the map.
+pub fn gain_row(
+    row: &mut [f32],
+    k: Walk,
+    body: &[u8],
+    g: Grid,
+    y: u32,
+    full_height: u32,
+    full_width: u32,
+    points_v: u32,
+    points_h: u32,
+    map_planes: u32,
+    m: u32,
+)
+    requires { ⌜ Walks k (length (now row)) × Sized «points_v» «points_h» «map_planes» m ⌝ }
+    ensures { λ _. ⌜
+        now (row .exit)
+        ≡ walked k
+        (timesGain (now (body .entry)) g «points_v» «points_h» (max «map_planes» 1) m «full_width»
+        (position y «full_height» (g .«origin_v») (g .«spacing_v») «points_v»))
+        (now (row .entry))
+        ⌝ }
+{
+    let v = axis_at(y, full_height, g.origin_v, g.spacing_v, points_v);
+    let s = strip_of(v, points_h, at_least_one(map_planes), m);
+    row_along(row, k, body, s, full_width, g.origin_h, g.spacing_h, points_h);
 }
