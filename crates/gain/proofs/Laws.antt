@@ -7,10 +7,12 @@ use native.Mathlib.Nat.{le-of-eq, le-trans}
 use lib.IntN.{pos}
 use lib.Dec.{lit≤}
 use lib.Ieee.{Float, binary64, lt, ofInt, toUnsigned}
-use Rattle.whole.specs.Whole.{floorOf}
+use Rattle.whole.specs.Whole.{floorOf, FloorIs}
 use Rattle.whole.proofs.Laws.{floor-le, floor-at-whole}
 use Rattle.convert.specs.Convert.{wholeIn, heldTo}
 use Rattle.dng.specs.Value.{nought, position, lower, upper, share}
+use Rattle.gain.specs.declared.Ruler.{Ruler}
+use Rattle.gain.specs.Strip.{RulerIs, placeOn}
 
 -- either way
 by-bool : {C : Type 0} (b : Bool) → (b ≡ true → C) → (b ≡ false → C) → C
@@ -37,3 +39,17 @@ lower-le at full origin spacing n h =
 
 pub upper-le : (n : ℕ) (f : Float) → upper n f ≤ n - 1
 upper-le n f = omega arith
+
+-- what is measured by the ruler of an axis is the position on it
+pub place-is : (full : ℕ) (origin spacing : Float) (n : ℕ) (r : Ruler) → RulerIs full origin spacing n r → (at : ℕ)
+    → placeOn r at ≡ position at full origin spacing n
+unfolding placeOn position
+place-is full origin spacing n r is at = rw (is .full-is, is .origin-is, is .spacing-is, is .last-is)
+
+-- and so are its whole part and the rest
+pub floor-on : (full : ℕ) (origin spacing : Float) (n : ℕ) (r : Ruler) → RulerIs full origin spacing n r → (at : ℕ) (f : Float) → f ≡ placeOn r at
+    → (i : ℕ) (t : Float) → FloorIs f i t → FloorIs (position at full origin spacing n) i t
+floor-on full origin spacing n r is at f e i t fl = subst (λ (g : Float). FloorIs g i t) (e ∙ place-is full origin spacing n r is at) fl
+
+pub index-le : (at full : ℕ) (origin spacing : Float) (n i : ℕ) (t : Float) → FloorIs (position at full origin spacing n) i t → n ≤ 2 ^ 32 → i ≤ n - 1
+index-le at full origin spacing n i t f h = omega (arith, f .index-is, lower-le at full origin spacing n h)

@@ -1,13 +1,32 @@
--- Two map rows mixed, as the code carries them: what the private steps of a row answer. Nothing here has to be believed: proofs/Rows says what
--- it comes to in the words of dng/specs/Value.
-use Prim.Native.Nat.{ℕ, _+_, _-_, _*_, _≤_, _<_, min}
+-- What the private steps of a row answer, over the records that the code carries. Nothing here has to be believed: proofs/Laws and proofs/Rows
+-- say what it comes to in the words of dng/specs/Value.
+use Prim.Native.Nat.{ℕ, _+_, _-_, _*_, _≤_, _<_, min, max}
+use mathlib.Core.Bool.{cond}
 use mathlib.Core.Path.{_≡_}
 use mathlib.Core.List.{List}
-use lib.Ieee.{Float, binary32, sub, mul}
-use Rattle.dng.specs.Value.{f32At, mix, position, lower, upper, share}
+use lib.Ieee.{Float, binary32, binary64, sub, mul, div, lt}
+use Rattle.convert.specs.Convert.{wholeIn, heldTo}
+use Rattle.dng.specs.Value.{nought, f32At, mix, position, lower, upper, share}
 use Rattle.gain.specs.declared.Axis.{Axis}
+use Rattle.gain.specs.declared.Ruler.{Ruler}
 use Rattle.gain.specs.declared.Strip.{Strip}
 use Rattle.gain.specs.declared.Pair.{Pair}
+
+-- ---- a ruler is an axis with its numbers as floats
+
+pub record RulerIs (full : ℕ) (origin spacing : Float) (n : ℕ) (r : Ruler) : Type 0 where
+  pub full-is : r .full ≡ wholeIn binary64 (max full 1)
+  pub origin-is : r .origin ≡ origin
+  pub spacing-is : r .spacing ≡ spacing
+  pub last-is : r .last ≡ wholeIn binary64 (n - 1)
+
+unfoldable pub placeOn : Ruler → ℕ → Float
+placeOn r at =
+    cond (lt nought (r .spacing))
+    (heldTo nought (r .last) (div binary64 (sub binary64 (div binary64 (wholeIn binary64 at) (r .full)) (r .origin)) (r .spacing)))
+    nought
+
+-- ---- a strip is two map rows
 
 -- the map rows of the axis v are rows of a map of 2^24 gains at most, and m is one of its mp planes
 pub record Beside (v : Axis) (ph mp m : ℕ) : Type 0 where

@@ -6,7 +6,7 @@ ghost use lib.Ieee.{binary32, add, mul};
 ghost use Rattle.select.specs.Walks.{walked, Walks};
 ghost use Rattle.dng.specs.Value.{position};
 ghost use Rattle.gain.specs.Gain.{AxisIs, Sized, timesGain};
-ghost use Rattle.gain.specs.Strip.{Beside, StripIs, Reaches, PairIs, lineOf, alongStrip};
+ghost use Rattle.gain.specs.Strip.{RulerIs, placeOn, Beside, StripIs, Reaches, PairIs, lineOf, alongStrip};
 use dng::Grid;
 use select::Walk;
 
@@ -32,12 +32,30 @@ fn next(i: u32, last: u32) -> u32
     if i < last { i + 1 } else { last }
 }
 
-fn place(at: u32, full: u32, origin: f64, spacing: f64, n: u32) -> f64
-    ensures { λ r. ⌜ r ≡ position at full origin spacing n ⌝ }
+// An axis of a map ready to measure by: the full size, at least 1, and the last point's number as floats.
+struct Ruler {
+    full: f64,
+    origin: f64,
+    spacing: f64,
+    last: f64,
+}
+
+fn ruler_of(full: u32, origin: f64, spacing: f64, n: u32) -> Ruler
+    ensures { λ r. ⌜ RulerIs full origin spacing n r ⌝ }
 {
-    if spacing > 0.0 {
-        let rel = convert::f64_of_u32(at) / convert::f64_of_u32(at_least_one(full));
-        convert::held((rel - origin) / spacing, 0.0, convert::f64_of_u32(last_of(n)))
+    Ruler {
+        full: convert::f64_of_u32(at_least_one(full)),
+        origin,
+        spacing,
+        last: convert::f64_of_u32(last_of(n)),
+    }
+}
+
+fn place(at: u32, r: Ruler) -> f64
+    ensures { λ f. ⌜ f ≡ placeOn r at ⌝ }
+{
+    if r.spacing > 0.0 {
+        convert::held((convert::f64_of_u32(at) / r.full - r.origin) / r.spacing, 0.0, r.last)
     } else {
         0.0
     }
@@ -53,7 +71,7 @@ pub struct Axis {
 pub fn axis_at(at: u32, full: u32, origin: f64, spacing: f64, n: u32) -> Axis
     ensures { λ r. ⌜ AxisIs (position at full origin spacing n) n r ⌝ }
 {
-    let f = whole::floor(place(at, full, origin, spacing, n));
+    let f = whole::floor(place(at, ruler_of(full, origin, spacing, n)));
     Axis {
         lower: f.index,
         upper: next(f.index, last_of(n)),
@@ -162,15 +180,16 @@ fn row_along(row: &mut [f32], k: Walk, body: &[u8], s: Strip, full: u32, origin:
     let right = k.right;
     let pitch = k.pitch;
     let plane = k.plane;
+    let r = ruler_of(full, origin, spacing, n);
     let stop = end_of(row.len(), x0, right, planes);
     let step = pitch * planes;
     let mut c = k.col;
     let mut i = c * planes + plane;
     let mut q = pair_at(body, s, 0);
     while i < stop {
-        let x = axis_at((x0 + c) as u32, full, origin, spacing, n);
-        q = pair_for(body, s, q, x.lower);
-        row[i] = raised(q, x.share, row[i]);
+        let f = whole::floor(place((x0 + c) as u32, r));
+        q = pair_for(body, s, q, f.index);
+        row[i] = raised(q, narrow::to_f32(f.rest), row[i]);
         i += step;
         c += pitch;
     }
