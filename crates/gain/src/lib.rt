@@ -6,6 +6,7 @@ ghost use lib.Ieee.{binary32, add, mul};
 ghost use Rattle.select.specs.Walks.{walked, Walks};
 ghost use Rattle.dng.specs.Value.{position};
 ghost use Rattle.gain.specs.Gain.{AxisIs, Sized, timesGain};
+ghost use Rattle.gain.specs.Blocks.{Fillable, Filled, Counted};
 ghost use Rattle.gain.specs.Strip.{RulerIs, placeOn, Beside, StripIs, Reaches, PairIs, lineOf, alongStrip};
 use dng::Grid;
 use select::Walk;
@@ -221,4 +222,37 @@ pub fn gain_row(
     let v = axis_at(y, full_height, g.origin_v, g.spacing_v, points_v);
     let s = strip_of(v, points_h, at_least_one(map_planes), m);
     row_along(row, k, body, s, full_width, g.origin_h, g.spacing_h, points_h);
+}
+
+// ---- a block of columns: the positions are worked out once and serve every row
+
+// Fills hs and ts with the lower point and the share of the image columns x, x + pitch and so on before `end`, and says for how many of them.
+pub fn fill_block(
+    hs: &mut [u32],
+    ts: &mut [f32],
+    x: usize,
+    pitch: usize,
+    end: usize,
+    full: u32,
+    origin: f64,
+    spacing: f64,
+    n: u32,
+) -> usize
+    requires { ⌜ Fillable x pitch end (length (now hs)) (length (now ts)) ⌝ }
+    ensures { λ r. ⌜
+        Filled x pitch full origin spacing n r (now (hs .exit)) (now (ts .exit)) × Counted x pitch end (length (now (hs .entry))) r
+        ⌝ }
+{
+    let r = ruler_of(full, origin, spacing, n);
+    let stop = least(end, x + hs.len() * pitch);
+    let mut at = x;
+    let mut j: usize = 0;
+    while at < stop {
+        let f = whole::floor(place(at as u32, r));
+        hs[j] = f.index;
+        ts[j] = narrow::to_f32(f.rest);
+        at += pitch;
+        j += 1;
+    }
+    j
 }
