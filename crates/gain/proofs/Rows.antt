@@ -5,8 +5,8 @@ use mathlib.Core.Bool.{Bool, cond}
 use mathlib.Core.List.{List}
 use native.Mathlib.Nat.{add-mul, mul-assoc, mul-comm, suc-mul, one-mul, zero-mul, mul-zero, mul-le-mul-right}
 use native.Mathlib.Omega.{arith}
-use lib.ListN.{length}
-use lib.Ieee.{Float, binary32, add, mul, sub}
+use lib.ListN.{getD}
+use lib.Ieee.{Float, nan, binary32, add, mul, sub}
 use Rattle.points.specs.Points.{each}
 use Rattle.points.specs.Select.{selects, inRow, onColumns}
 use Rattle.points.proofs.Each.{below-or, each-agree}
@@ -19,8 +19,10 @@ use Rattle.dng.specs.Value.{Frame, f32At, mix, position, lower, upper, share, g
 use Rattle.gain.specs.declared.Axis.{Axis}
 use Rattle.gain.specs.declared.Strip.{Strip}
 use Rattle.gain.specs.declared.Pair.{Pair}
+use Rattle.gain.specs.Blocks.{within, Filled}
 use Rattle.gain.specs.Gain.{AxisIs, Sized, timesGain}
 use Rattle.gain.specs.Strip.{Beside, StripIs, Reaches, PairIs, lineOf, alongStrip}
+use Rattle.gain.proofs.Blocks.{within-in}
 
 -- a value raised by the pair of its own map column is what `alongStrip` says
 pub raised-is : (b : List ℕ) (s : Strip) (full : ℕ) (origin spacing : Float) (n x p : ℕ) (q : Pair) (t v : Float) → PairIs b s q
@@ -31,6 +33,18 @@ raised-is b s full origin spacing n x p q t v is l h e =
     let line : q .a ≡ lineOf b s (q .h) = is .line in
     let rise : q .d ≡ sub binary32 (lineOf b s (min (q .h + 1) (s .last))) (lineOf b s (q .h)) = is .rise in
     cc
+
+-- and so, in a block, where the map column and the share come from the tables
+pub block-value : (b : List ℕ) (s : Strip) (a pitch full : ℕ) (origin spacing : Float) (n w : ℕ) (hs : List ℕ) (ts : List Float) (x j p : ℕ)
+    (q : Pair) (t v : Float) → PairIs b s q → s .last ≡ n - 1 → Filled a pitch full origin spacing n w hs ts → 1 ≤ pitch → j < w
+    → x ≡ a + j * pitch → q .h ≡ getD hs j 0 → t ≡ getD ts j nan
+    → mul binary32 v (add binary32 (q .a) (mul binary32 (q .d) t)) ≡ within a (a + w * pitch) (alongStrip b s full origin spacing n) x p v
+block-value b s a pitch full origin spacing n w hs ts x j p q t v is l f some h at i e =
+    let more : (j + 1) * pitch ≤ w * pitch = mul-le-mul-right pitch (omega arith) in
+    let sum : (j + 1) * pitch ≡ j * pitch + 1 * pitch = add-mul j 1 pitch in
+    raised-is b s full origin spacing n (a + j * pitch) p q t v is l (i ∙ f .lowers j h) (e ∙ f .shares j h)
+    ∙ ap (λ (y : ℕ). alongStrip b s full origin spacing n y p v) (sym at)
+    ∙ sym (within-in a (a + w * pitch) (alongStrip b s full origin spacing n) x p v (omega arith) (omega arith))
 
 -- ---- a strip is two rows of the map
 

@@ -1,5 +1,5 @@
 -- How two tables are filled with the positions of a block of columns. Assumes nothing.
-use Prim.Native.Nat.{ℕ, _+_, _*_, _≤_, _<_}
+use Prim.Native.Nat.{ℕ, _+_, _-_, _*_, _^_, _≤_, _<_}
 use mathlib.Core.Path.{_≡_, refl, sym, ap, subst, _∙_}
 use mathlib.Core.List.{List}
 use native.Mathlib.Nat.{add-mul, one-mul, not-suc-le-zero, lt-of-mul-lt-mul-right}
@@ -12,6 +12,7 @@ use Rattle.narrow.specs.Narrow.{narrow}
 use Rattle.whole.specs.Whole.{FloorIs}
 use Rattle.dng.specs.Value.{position, lower, share}
 use Rattle.gain.specs.Blocks.{Filled}
+use Rattle.gain.proofs.Laws.{lower-le}
 
 -- one more entry of a table
 more : {A : Type 0} (d : A) (f : ℕ → A) (l : List A) (j : ℕ) (v : A) → j < length l → ((i : ℕ) → i < j → getD l i d ≡ f i) → v ≡ f j
@@ -61,3 +62,8 @@ module _ {x pitch full : ℕ} {origin spacing : Float} {n : ℕ} {hs₀ : List �
 -- a column before the room's end has its place in the room
 pub in-room : (x pitch room at j : ℕ) → at ≡ x + j * pitch → at < x + room * pitch → j < room
 in-room x pitch room at j e h = lt-of-mul-lt-mul-right pitch (omega arith)
+
+-- a filled entry is a map column
+pub entry-le : (x pitch full : ℕ) (origin spacing : Float) (n w : ℕ) (hs : List ℕ) (ts : List Float) → Filled x pitch full origin spacing n w hs ts
+    → n ≤ 2 ^ 32 → (j : ℕ) → j < w → getD hs j 0 ≤ n - 1
+entry-le x pitch full origin spacing n w hs ts f h j q = omega (arith, f .lowers j q, lower-le (x + j * pitch) full origin spacing n h)

@@ -5,6 +5,7 @@ use mathlib.Core.List.{List}
 use lib.ListN.{length, getD}
 use lib.Ieee.{Float, nan}
 use Rattle.points.specs.Points.{between}
+use Rattle.select.specs.declared.Walk.{Walk}
 use Rattle.dng.specs.Value.{position, lower, share}
 
 -- `g` at the image columns from a up to e, e left out, nothing elsewhere
@@ -31,3 +32,10 @@ pub record Fillable (x pitch end nh nt : ℕ) : Type 0 where
 pub record Counted (x pitch end room w : ℕ) : Type 0 where
   pub fits : w ≤ room
   pub all : min end (x + room * pitch) ≤ x + w * pitch
+
+-- column x0 + from of a walk lies on its pitch, and the w columns from there on are not so far that a sum would wrap
+pub record Begins (k : Walk) (from w : ℕ) : Type 0 where
+  pub number : ℕ
+  pub here : k .x0 + from ≡ k .left + number * k .pitch
+  pub near : from < 8589934592
+  pub few : w ≤ 65536

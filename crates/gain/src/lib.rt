@@ -6,7 +6,7 @@ ghost use lib.Ieee.{binary32, add, mul};
 ghost use Rattle.select.specs.Walks.{walked, Walks};
 ghost use Rattle.dng.specs.Value.{position};
 ghost use Rattle.gain.specs.Gain.{AxisIs, Sized, timesGain};
-ghost use Rattle.gain.specs.Blocks.{Fillable, Filled, Counted};
+ghost use Rattle.gain.specs.Blocks.{within, Fillable, Filled, Counted, Begins};
 ghost use Rattle.gain.specs.Strip.{RulerIs, placeOn, Beside, StripIs, Reaches, PairIs, lineOf, alongStrip};
 use dng::Grid;
 use select::Walk;
@@ -255,4 +255,85 @@ pub fn fill_block(
         j += 1;
     }
     j
+}
+
+// The w columns of a row from image column x0 + from on, whose positions the tables have; full, origin, spacing and n say which those are.
+fn block_along(
+    row: &mut [f32],
+    k: Walk,
+    from: usize,
+    w: usize,
+    hs: &[u32],
+    ts: &[f32],
+    body: &[u8],
+    s: Strip,
+    full: u32,
+    origin: f64,
+    spacing: f64,
+    n: u32,
+)
+    requires { ⌜
+        Walks k (length (now row)) × Begins k from w × Filled (k .x0 + from) (k .pitch) full origin spacing n w (now hs) (now ts)
+        × Reaches s × (s .last ≡ n - 1)
+        ⌝ }
+    ensures { λ _. ⌜
+        now (row .exit)
+        ≡ walked k (within (k .x0 + from) (k .x0 + from + w * k .pitch) (alongStrip (now (body .entry)) s full origin spacing n)) (now (row .entry))
+        ⌝ }
+{
+    let x0 = k.x0;
+    let planes = k.planes;
+    let left = k.left;
+    let right = k.right;
+    let pitch = k.pitch;
+    let plane = k.plane;
+    let stop = least(end_of(row.len(), x0, right, planes), (from + w * pitch) * planes);
+    let step = pitch * planes;
+    let mut c = from;
+    let mut i = c * planes + plane;
+    let mut j: usize = 0;
+    let mut q = pair_at(body, s, 0);
+    while i < stop {
+        q = pair_for(body, s, q, hs[j]);
+        row[i] = raised(q, ts[j], row[i]);
+        i += step;
+        c += pitch;
+        j += 1;
+    }
+}
+
+// One row, one plane, w selected columns from image column x0 + from on, with their positions from `fill_block`.
+pub fn gain_block(
+    row: &mut [f32],
+    k: Walk,
+    from: usize,
+    w: usize,
+    hs: &[u32],
+    ts: &[f32],
+    body: &[u8],
+    g: Grid,
+    y: u32,
+    full_height: u32,
+    full_width: u32,
+    points_v: u32,
+    points_h: u32,
+    map_planes: u32,
+    m: u32,
+)
+    requires { ⌜
+        Walks k (length (now row)) × Sized «points_v» «points_h» «map_planes» m × Begins k from w
+        × Filled (k .x0 + from) (k .pitch) «full_width» (g .«origin_h») (g .«spacing_h») «points_h» w (now hs) (now ts)
+        ⌝ }
+    ensures { λ _. ⌜
+        now (row .exit)
+        ≡ walked k
+        (within (k .x0 + from) (k .x0 + from + w * k .pitch)
+        (timesGain (now (body .entry)) g «points_v» «points_h» (max «map_planes» 1) m «full_width»
+        (position y «full_height» (g .«origin_v») (g .«spacing_v») «points_v»)))
+        (now (row .entry))
+        ⌝ }
+{
+    let v = axis_at(y, full_height, g.origin_v, g.spacing_v, points_v);
+    let s = strip_of(v, points_h, at_least_one(map_planes), m);
+    block_along(row, k, from, w, hs, ts, body, s, full_width, g.origin_h, g.spacing_h, points_h);
 }
