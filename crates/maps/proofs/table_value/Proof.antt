@@ -1,0 +1,26 @@
+-- `table_value` meets its contract: the definition's steps, one after another. Assumes nothing.
+use borrow.Author.Needs.{needs}
+use lib.Ieee.{binary32, div}
+use Rattle.dng.specs.Value.{mapTable}
+use Rattle.maps.proofs.table_value.Statement.{statement}
+use Rattle.maps.proofs.table_value.Tie as tie
+
+last-of-requires : tie.Need-last-of-requires
+last-of-requires c κs = search needs
+
+round-held-requires : tie.Need-round-held-requires
+round-held-requires c κs = search needs
+
+entry-requires : tie.Need-entry-requires
+entry-requires c κs = search needs
+
+f32-of-u16-requires : tie.Need-f32-of-u16-requires
+f32-of-u16-requires c κs = search needs
+
+returns : tie.Need-returns
+unfolding mapTable
+returns c = cc
+
+pub table-value-spec : {M : Type 1} → statement M
+table-value-spec =
+    tie.close (tie.spec last-of-requires round-held-requires entry-requires f32-of-u16-requires returns)
