@@ -49,6 +49,21 @@ fn table_value(body: &[u8], n: u32, scale: f32, v: f32) -> f32
     convert::f32_of_u16(entry(body, i)) / scale
 }
 
+pub fn table_row(row: &mut [f32], k: Walk, body: &[u8], n: u32, scale: f32)
+    requires { ⌜ (Walks k (length (now row))) × (1 ≤ n) ⌝ }
+    ensures { λ _. ⌜ now (row .exit) ≡ walked k (λ x p v. mapTable scale n (now (body .entry)) v) (now (row .entry)) ⌝ }
+{
+    let stop = stop_of(k, row.len());
+    let step = k.pitch * k.planes;
+    let mut i = k.col * k.planes + k.plane;
+    let mut c = k.col;
+    while i < stop {
+        row[i] = table_value(body, n, scale, row[i]);
+        i += step;
+        c += k.pitch;
+    }
+}
+
 fn held_to(v: u16, last: u32) -> u32
     ensures { λ r. ⌜ r ≡ min v last ⌝ }
 {
