@@ -1,6 +1,6 @@
 // Tables, f32 and u16, and polynomials, on one plane of a lent row.
 ghost use mathlib.Core.Path.{_≡_};
-ghost use Prim.Native.Nat.{suc, _-_, _*_, _≤_, min};
+ghost use Prim.Native.Nat.{suc, _+_, _-_, _*_, _≤_, _<_, min};
 ghost use lib.ListN.{length};
 ghost use Rattle.select.specs.Walks.{walked, Walks};
 ghost use Rattle.dng.specs.Value.{mapTable, mapTable16, tableAt, mapPolynomial, horner, nought};
@@ -29,7 +29,7 @@ fn stop_of(k: Walk, n: usize) -> usize
     smaller(n, less(k.right, k.x0) * k.planes)
 }
 
-// ---- tables
+// ---- entries of a table
 
 fn last_of(n: u32) -> u32
     ensures { λ r. ⌜ r ≡ n - 1 ⌝ }
@@ -37,11 +37,30 @@ fn last_of(n: u32) -> u32
     if 0 < n { n - 1 } else { 0 }
 }
 
+// An entry that may lie across or past the end of the body.
 fn entry(body: &[u8], i: u32) -> u16
     ensures { λ r. ⌜ r ≡ tableAt (now (body .entry)) i ⌝ }
 {
     words::u16_at(body, 36 + 2 * (i as usize))
 }
+
+// x, with its bound for the sum below.
+fn wide(x: u8) -> u64
+    ensures { λ r. ⌜ (r ≡ x) × (r < 256) ⌝ }
+{
+    x as u64
+}
+
+// An entry of a body that has the whole table, as every body does that was read: one load, no test.
+fn full_entry(body: &[u8], i: u32) -> u16
+    requires { ⌜ 38 + 2 * i ≤ length (now body) ⌝ }
+    ensures { λ r. ⌜ r ≡ tableAt (now (body .entry)) i ⌝ }
+{
+    let at = 36 + 2 * (i as usize);
+    (wide(body[at]) * 256 + wide(body[at + 1])) as u16
+}
+
+// ---- tables, f32
 
 fn table_value(body: &[u8], n: u32, scale: f32, v: f32) -> f32
     ensures { λ r. ⌜ r ≡ mapTable scale n (now (body .entry)) v ⌝ }
@@ -50,8 +69,16 @@ fn table_value(body: &[u8], n: u32, scale: f32, v: f32) -> f32
     convert::f32_of_u16(entry(body, i)) / scale
 }
 
-pub fn table_row(row: &mut [f32], k: Walk, body: &[u8], n: u32, scale: f32)
-    requires { ⌜ (Walks k (length (now row))) × (1 ≤ n) ⌝ }
+fn full_value(body: &[u8], n: u32, scale: f32, v: f32) -> f32
+    requires { ⌜ (1 ≤ n) × (36 + 2 * n ≤ length (now body)) ⌝ }
+    ensures { λ r. ⌜ r ≡ mapTable scale n (now (body .entry)) v ⌝ }
+{
+    let i = whole::round_held(v * scale, last_of(n));
+    convert::f32_of_u16(full_entry(body, i)) / scale
+}
+
+fn short_row(row: &mut [f32], k: Walk, body: &[u8], n: u32, scale: f32)
+    requires { ⌜ Walks k (length (now row)) ⌝ }
     ensures { λ _. ⌜ now (row .exit) ≡ walked k (λ x p v. mapTable scale n (now (body .entry)) v) (now (row .entry)) ⌝ }
 {
     let stop = stop_of(k, row.len());
@@ -64,6 +91,34 @@ pub fn table_row(row: &mut [f32], k: Walk, body: &[u8], n: u32, scale: f32)
         c += k.pitch;
     }
 }
+
+fn full_row(row: &mut [f32], k: Walk, body: &[u8], n: u32, scale: f32)
+    requires { ⌜ (Walks k (length (now row))) × (1 ≤ n) × (36 + 2 * n ≤ length (now body)) ⌝ }
+    ensures { λ _. ⌜ now (row .exit) ≡ walked k (λ x p v. mapTable scale n (now (body .entry)) v) (now (row .entry)) ⌝ }
+{
+    let stop = stop_of(k, row.len());
+    let step = k.pitch * k.planes;
+    let mut i = k.col * k.planes + k.plane;
+    let mut c = k.col;
+    while i < stop {
+        row[i] = full_value(body, n, scale, row[i]);
+        i += step;
+        c += k.pitch;
+    }
+}
+
+pub fn table_row(row: &mut [f32], k: Walk, body: &[u8], n: u32, scale: f32)
+    requires { ⌜ (Walks k (length (now row))) × (1 ≤ n) ⌝ }
+    ensures { λ _. ⌜ now (row .exit) ≡ walked k (λ x p v. mapTable scale n (now (body .entry)) v) (now (row .entry)) ⌝ }
+{
+    if 36 + 2 * (n as usize) <= body.len() {
+        full_row(row, k, body, n, scale);
+    } else {
+        short_row(row, k, body, n, scale);
+    }
+}
+
+// ---- tables, u16
 
 fn held_to(v: u16, last: u32) -> u32
     ensures { λ r. ⌜ r ≡ min v last ⌝ }
@@ -78,8 +133,15 @@ fn table_value16(body: &[u8], n: u32, v: u16) -> u16
     entry(body, held_to(v, last_of(n)))
 }
 
-pub fn table_row16(row: &mut [u16], k: Walk, body: &[u8], n: u32)
-    requires { ⌜ (Walks k (length (now row))) × (1 ≤ n) ⌝ }
+fn full_value16(body: &[u8], n: u32, v: u16) -> u16
+    requires { ⌜ (1 ≤ n) × (36 + 2 * n ≤ length (now body)) ⌝ }
+    ensures { λ r. ⌜ r ≡ mapTable16 n (now (body .entry)) v ⌝ }
+{
+    full_entry(body, held_to(v, last_of(n)))
+}
+
+fn short_row16(row: &mut [u16], k: Walk, body: &[u8], n: u32)
+    requires { ⌜ Walks k (length (now row)) ⌝ }
     ensures { λ _. ⌜ now (row .exit) ≡ walked k (λ x p v. mapTable16 n (now (body .entry)) v) (now (row .entry)) ⌝ }
 {
     let stop = stop_of(k, row.len());
@@ -90,6 +152,32 @@ pub fn table_row16(row: &mut [u16], k: Walk, body: &[u8], n: u32)
         row[i] = table_value16(body, n, row[i]);
         i += step;
         c += k.pitch;
+    }
+}
+
+fn full_row16(row: &mut [u16], k: Walk, body: &[u8], n: u32)
+    requires { ⌜ (Walks k (length (now row))) × (1 ≤ n) × (36 + 2 * n ≤ length (now body)) ⌝ }
+    ensures { λ _. ⌜ now (row .exit) ≡ walked k (λ x p v. mapTable16 n (now (body .entry)) v) (now (row .entry)) ⌝ }
+{
+    let stop = stop_of(k, row.len());
+    let step = k.pitch * k.planes;
+    let mut i = k.col * k.planes + k.plane;
+    let mut c = k.col;
+    while i < stop {
+        row[i] = full_value16(body, n, row[i]);
+        i += step;
+        c += k.pitch;
+    }
+}
+
+pub fn table_row16(row: &mut [u16], k: Walk, body: &[u8], n: u32)
+    requires { ⌜ (Walks k (length (now row))) × (1 ≤ n) ⌝ }
+    ensures { λ _. ⌜ now (row .exit) ≡ walked k (λ x p v. mapTable16 n (now (body .entry)) v) (now (row .entry)) ⌝ }
+{
+    if 36 + 2 * (n as usize) <= body.len() {
+        full_row16(row, k, body, n);
+    } else {
+        short_row16(row, k, body, n);
     }
 }
 

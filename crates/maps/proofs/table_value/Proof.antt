@@ -1,6 +1,5 @@
 -- `table_value` meets its contract: the definition's steps, one after another. Assumes nothing.
 use borrow.Author.Needs.{needs}
-use lib.Ieee.{binary32, div}
 use Rattle.dng.specs.Value.{mapTable}
 use Rattle.maps.proofs.table_value.Statement.{statement}
 use Rattle.maps.proofs.table_value.Tie as tie

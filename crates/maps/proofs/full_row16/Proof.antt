@@ -1,4 +1,4 @@
--- `table_row16` meets its contract: each turn is one step of the walk. Assumes nothing.
+-- `full_row16` meets its contract: each turn is one step of the walk. Assumes nothing.
 use Prim.Native.Nat.{_-_}
 use mathlib.Core.Path.{refl}
 use native.Mathlib.Omega.{arith}
@@ -8,8 +8,8 @@ use Rattle.points.proofs.Walk.{Upto, upto-begin, upto-next-by, upto-end, upto-l
 use Rattle.select.specs.Walks.{walked, Walks}
 use Rattle.dng.specs.Value.{mapTable16}
 use Rattle.maps.proofs.Sizes.{at-least, begin-small, step-small, step-goes}
-use Rattle.maps.proofs.table_row16.Statement.{statement}
-use Rattle.maps.proofs.table_row16.Tie as tie
+use Rattle.maps.proofs.full_row16.Statement.{statement}
+use Rattle.maps.proofs.full_row16.Tie as tie
 
 abbrev Inv-loop : tie.InvT-loop
 Inv-loop row₀ k body n stop step i₀ c₀ row i c =
@@ -40,14 +40,14 @@ add-i c = omega (arith, begin-small (walk (c .before .before .before)))
 loop-holds : tie.Need-loop-holds Inv-loop μ-loop
 loop-holds c = let w = walk (c .before .before .before) in upto-begin (w .some) (w .first)
 
-mul-table-value16 : tie.Need-mul-table-value16 Inv-loop μ-loop
-mul-table-value16 c = omega arith
+mul-full-value16 : tie.Need-mul-full-value16 Inv-loop μ-loop
+mul-full-value16 c = omega arith
 
-slice-read-table-value16 : tie.Need-slice-read-table-value16 Inv-loop μ-loop
-slice-read-table-value16 c = omega arith
+slice-read-full-value16 : tie.Need-slice-read-full-value16 Inv-loop μ-loop
+slice-read-full-value16 c = omega arith
 
-table-value16-requires : tie.Need-table-value16-requires Inv-loop μ-loop
-table-value16-requires c κs = search needs
+full-value16-requires : tie.Need-full-value16-requires Inv-loop μ-loop
+full-value16-requires c κs = search needs
 
 mul-row : tie.Need-mul-row Inv-loop μ-loop
 mul-row c = omega arith
@@ -71,7 +71,7 @@ loop-again : tie.Need-loop-again Inv-loop μ-loop
 loop-again c =
     let a = c .before .before .before .before in
     let w = walk (ended a) in
-    upto-next-by 0 _ _ (omega (arith, w .spaced)) refl (w .inside) (a .loop .inv) (omega arith) (c .before .table-value16 .ensures)
+    upto-next-by 0 _ _ (omega (arith, w .spaced)) refl (w .inside) (a .loop .inv) (omega arith) (c .before .full-value16 .ensures)
 
 same-length : tie.Need-same-length Inv-loop μ-loop
 same-length c = c .before .loop .inv .same
@@ -80,8 +80,8 @@ returns : tie.Need-returns Inv-loop μ-loop
 unfolding walked
 returns c = upto-end (walk (ended (c .before)) .inside) (c .before .loop .inv) (omega arith)
 
-pub table-row16-spec : {M : Type 1} → statement M
-table-row16-spec =
+pub full-row16-spec : {M : Type 1} → statement M
+full-row16-spec =
     tie.close
     (tie.spec
     Inv-loop
@@ -91,9 +91,9 @@ table-row16-spec =
     mul-i
     add-i
     loop-holds
-    mul-table-value16
-    slice-read-table-value16
-    table-value16-requires
+    mul-full-value16
+    slice-read-full-value16
+    full-value16-requires
     mul-row
     slice-write-row
     add-i-2
