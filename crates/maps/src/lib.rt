@@ -2,6 +2,8 @@
 ghost use mathlib.Core.Path.{_≡_};
 ghost use Prim.Native.Nat.{suc, _+_, _-_, _*_, _≤_, _<_, min};
 ghost use lib.ListN.{length};
+ghost use lib.Ieee.{binary32, mul};
+ghost use Rattle.whole.specs.Whole.{roundHeld};
 ghost use Rattle.select.specs.Walks.{walked, Walks};
 ghost use Rattle.dng.specs.Value.{mapTable, mapTable16, tableAt, mapPolynomial, horner, nought};
 ghost use Rattle.maps.specs.Terms.{termAt, Holds};
@@ -62,19 +64,23 @@ fn full_entry(body: &[u8], i: u32) -> u16
 
 // ---- tables, f32
 
+fn index_of(n: u32, scale: f32, v: f32) -> u32
+    ensures { λ r. ⌜ r ≡ roundHeld (n - 1) (mul binary32 v scale) ⌝ }
+{
+    whole::round_held(v * scale, last_of(n))
+}
+
 fn table_value(body: &[u8], n: u32, scale: f32, v: f32) -> f32
     ensures { λ r. ⌜ r ≡ mapTable scale n (now (body .entry)) v ⌝ }
 {
-    let i = whole::round_held(v * scale, last_of(n));
-    convert::f32_of_u16(entry(body, i)) / scale
+    convert::f32_of_u16(entry(body, index_of(n, scale, v))) / scale
 }
 
 fn full_value(body: &[u8], n: u32, scale: f32, v: f32) -> f32
     requires { ⌜ (1 ≤ n) × (36 + 2 * n ≤ length (now body)) ⌝ }
     ensures { λ r. ⌜ r ≡ mapTable scale n (now (body .entry)) v ⌝ }
 {
-    let i = whole::round_held(v * scale, last_of(n));
-    convert::f32_of_u16(full_entry(body, i)) / scale
+    convert::f32_of_u16(full_entry(body, index_of(n, scale, v))) / scale
 }
 
 fn short_row(row: &mut [f32], k: Walk, body: &[u8], n: u32, scale: f32)

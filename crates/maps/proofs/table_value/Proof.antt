@@ -4,11 +4,8 @@ use Rattle.dng.specs.Value.{mapTable}
 use Rattle.maps.proofs.table_value.Statement.{statement}
 use Rattle.maps.proofs.table_value.Tie as tie
 
-last-of-requires : tie.Need-last-of-requires
-last-of-requires c κs = search needs
-
-round-held-requires : tie.Need-round-held-requires
-round-held-requires c κs = search needs
+index-of-requires : tie.Need-index-of-requires
+index-of-requires c κs = search needs
 
 entry-requires : tie.Need-entry-requires
 entry-requires c κs = search needs
@@ -21,5 +18,4 @@ unfolding mapTable
 returns c = cc
 
 pub table-value-spec : {M : Type 1} → statement M
-table-value-spec =
-    tie.close (tie.spec last-of-requires round-held-requires entry-requires f32-of-u16-requires returns)
+table-value-spec = tie.close (tie.spec index-of-requires entry-requires f32-of-u16-requires returns)
