@@ -2,4 +2,4 @@ pub mod Literals
 pub mod Reaching
 pub mod Counting
 pub mod Pixels
-pub mod Leaves
+pub mod Vignetted

@@ -1,8 +1,9 @@
--- The cases of `reachOf`, for the code that works it out and for a caller that takes it apart; and an unusable m2, which leaves every row.
+-- The cases of `larger` and of `reachOf`, for the code that works them out and for a caller that takes the answer apart.
 -- Assumes nothing.
 use Prim.Native.Nat.{ℕ}
 use mathlib.Core.Bool.{Bool, true, false, cond, _&&_}
 use mathlib.Core.Path.{_≡_, refl, ap, ap₂, _∙_}
+use native.Mathlib.Omega.{arith}
 use lib.Ieee.{Float, inf, lt}
 use Rattle.dng.specs.declared.Radial.{Radial}
 use Rattle.dng.specs.Value.{nought, larger, usable, m2Of}
@@ -29,3 +30,31 @@ module _ (m : Float) where
   pub reach-high : lt nought m ≡ true → lt m (inf false) ≡ false → reachOf m ≡ Unusable
   unfolding reachOf usable
   reach-high p q = ap₂ (λ (b c : Bool). cond (b && c) (Usable m) Unusable) p q
+
+-- ---- for a caller that takes the answer of `m2` apart
+
+usable-of : (m z : Float) (b : Bool) → Usable m ≡ cond b (Usable z) Unusable → (m ≡ z) × (b ≡ true)
+usable-of m z true e = (cc, refl)
+usable-of m z false e = absurd (let n : _≡_ {A = ℕ} 0 1 = cc in omega arith)
+
+unusable-of : (z : Float) (b : Bool) → Unusable ≡ cond b (Usable z) Unusable → b ≡ false
+unusable-of z true e = absurd (let n : _≡_ {A = ℕ} 0 1 = cc in omega arith)
+unusable-of z false e = refl
+
+module _ (q : Radial) (fw fh : ℕ) where
+  -- usable: what `vignette_row` asks
+  pub reaches : {m : Float} → ((scale : Float) → Usable m ≡ reachOf (m2Of (frameAt scale fw fh) q)) → Reaches q m fw fh
+  unfolding reachOf
+  reaches {m} e =
+      record {
+        farthest = λ scale. usable-of m (m2Of (frameAt scale fw fh) q) (usable (m2Of (frameAt scale fw fh) q)) (e scale) .0;
+        positive = let z : Float = m2Of (frameAt nought fw fh) q in
+            let o : (m ≡ z) × (usable z ≡ true) = usable-of m z (usable z) (e nought) in
+            ap usable (o .0) ∙ o .1;
+      }
+
+  -- unusable: what `row-unusable` asks
+  pub unusable : ((scale : Float) → Unusable ≡ reachOf (m2Of (frameAt scale fw fh) q))
+      → (scale : Float) → usable (m2Of (frameAt scale fw fh) q) ≡ false
+  unfolding reachOf
+  unusable e scale = unusable-of (m2Of (frameAt scale fw fh) q) (usable (m2Of (frameAt scale fw fh) q)) (e scale)

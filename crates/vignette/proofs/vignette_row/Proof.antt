@@ -2,7 +2,7 @@
 use mathlib.Core.Path.{sym, _∙_}
 use borrow.Author.Needs.{needs}
 use Rattle.vignette.specs.Reach.{frameAt}
-use Rattle.vignette.proofs.Leaves.{row-below, row-is}
+use Rattle.vignette.proofs.Vignetted.{row-below, row-is}
 use Rattle.vignette.proofs.vignette_row.Statement.{statement}
 use Rattle.vignette.proofs.vignette_row.Tie as tie
 use Rattle.vignette.proofs.vignette_row.Reads as reads
