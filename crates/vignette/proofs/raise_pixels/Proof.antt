@@ -46,21 +46,21 @@ pixel-gain-requires c κs = search needs
 add-raise-pixel : tie.Need-add-raise-pixel Inv-loop μ-loop
 add-raise-pixel c =
     let s = c .before .before .before .before .before .before in
-    omega (arith, room (s .pre) (c .before .before .before .loop .inv .1) (c .before .before .loop-test .taken), div-mul-le-self (length (s .args .row .now)) (s .args .planes))
+    omega (arith, room (s .pre) (c .before .before .before .loop .inv .1) (omega arith), div-mul-le-self (length (s .args .row .now)) (s .args .planes))
 
 -- src/lib.rt:94:9
 raise-pixel-requires : tie.Need-raise-pixel-requires Inv-loop μ-loop
 raise-pixel-requires c κs =
     let s = c .before .before .before .before .before .before in
     (omega arith,
-    omega (arith, room (s .pre) (c .before .before .before .loop .inv .1) (c .before .before .loop-test .taken), div-mul-le-self (length (s .args .row .now)) (s .args .planes)))
+    omega (arith, room (s .pre) (c .before .before .before .loop .inv .1) (omega arith), div-mul-le-self (length (s .args .row .now)) (s .args .planes)))
 
 -- src/lib.rt:95:9
 add-i : tie.Need-add-i Inv-loop μ-loop
 add-i c =
     let s = c .before .before .before .before .before .before .before .before .before in
     let a = c .before .before .before .before .before .before in
-    omega (arith, room (s .pre) (a .loop .inv .1) (c .before .before .before .before .before .loop-test .taken), div-mul-le-self (length (s .args .row .now)) (s .args .planes))
+    omega (arith, room (s .pre) (a .loop .inv .1) (omega arith), div-mul-le-self (length (s .args .row .now)) (s .args .planes))
 
 -- src/lib.rt:92:5
 loop-less : tie.Need-loop-less Inv-loop μ-loop
@@ -72,7 +72,7 @@ loop-again c =
     let s = c .before .before .before .before .before .before .before .before .before in
     let a = c .before .before .before .before .before .before .loop in
     (a .inv .0 + 1,
-    next (s .pre) (a .inv .1) (c .before .before .before .before .before .loop-test .taken) (c .before .before .raise-pixel .ensures)
+    next (s .pre) (a .inv .1) (omega arith) (c .before .before .raise-pixel .ensures)
     (c .before .before .before .before .pixel-gain .ensures) (ap (add binary64 (a .x)) one-is))
 
 -- src/lib.rt:85:1
@@ -81,7 +81,7 @@ same-length c = omega arith
 
 -- src/lib.rt:85:1
 returns : tie.Need-returns Inv-loop μ-loop
-returns c = end (c .before .before .before .before .pre) (c .before .loop .inv .1) (c .loop-test .left)
+returns c = end (c .before .before .before .before .pre) (c .before .loop .inv .1) (omega arith)
 
 pub raise-pixels-spec : {M : Type 1} → statement M
 raise-pixels-spec =

@@ -1,5 +1,6 @@
 -- `vignette_row` meets its contract: the rows below the full height are raised, the others stay. Assumes nothing.
 use mathlib.Core.Path.{sym, _∙_}
+use native.Mathlib.Omega.{arith}
 use borrow.Author.Needs.{needs}
 use Rattle.vignette.specs.Reach.{frameAt}
 use Rattle.vignette.proofs.Vignetted.{row-below, row-is}
@@ -14,7 +15,7 @@ use Rattle.vignette.proofs.raise_row.Reads as raise-row-reads
 returns : tie.Need-returns
 returns c =
     let v = c .before .before .args in
-    λ scale. sym (row-below (frameAt scale (v .full-width) (v .full-height)) (v .q) (v .x0) (v .planes) (v .y) (v .row .now) (c .if1 .taken))
+    λ scale. sym (row-below (frameAt scale (v .full-width) (v .full-height)) (v .q) (v .x0) (v .planes) (v .y) (v .row .now) (omega arith))
 
 -- src/lib.rt:139:21
 f64-of-u32-requires : tie.Need-f64-of-u32-requires
@@ -45,7 +46,7 @@ returns-2 c =
     let v = s .args in
     λ scale.
     c .before .before .raise-row .ensures
-    ∙ row-is (v .q) (v .x0) (v .planes) (v .y) (v .full-width) (v .full-height) (v .row .now) (s .pre .0 .some) (tested .if1 .left) (s .pre .1)
+    ∙ row-is (v .q) (v .x0) (v .planes) (v .y) (v .full-width) (v .full-height) (v .row .now) (s .pre .0 .some) (omega (arith, tested .if1 .left)) (s .pre .1)
     (at .before .before .before .f64-of-u32 .ensures) (at .f64-of-u323 .ensures) (at .before .f64-of-u322 .ensures) scale
 
 pub vignette-row-spec : {M : Type 1} → statement M
