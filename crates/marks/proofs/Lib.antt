@@ -1,0 +1,5 @@
+pub mod Occ
+pub mod Chosen
+pub mod Sorting
+pub mod Searching
+pub mod Filling
