@@ -1,13 +1,15 @@
 // The sum over the sound neighbours of a position, and their mean.
 ghost use mathlib.Core.Path.{_≡_};
 ghost use mathlib.Core.Bool.{true};
+ghost use lib.Ieee.{nan, binary32, div};
 ghost use mathlib.Core.List.{map};
 ghost use Prim.Native.Nat.{_+_, _*_, _≤_, _<_};
 ghost use lib.ListN.{length, take};
-ghost use Rattle.dng.specs.Repair.{steps, moved, soundOn};
+ghost use Rattle.convert.specs.Convert.{wholeIn};
+ghost use Rattle.dng.specs.Repair.{sampleAt, steps, moved, soundOn, tallyAt};
 ghost use Rattle.marks.specs.Marks.{Fits};
 ghost use Rattle.marks.specs.Scratch.{Rises};
-ghost use Rattle.means.specs.Looks.{Asks, Looks, marked, pairOf, oneStep, openAt, soundOf};
+ghost use Rattle.means.specs.Looks.{Asks, Looks, Sums, marked, pairOf, oneStep, openAt, soundOf};
 use dng::Window;
 
 // One step to a neighbour, in columns and rows of the period.
@@ -87,4 +89,54 @@ fn beside(marks: &[u32], n: usize, w: Window, period: usize, x: usize, y: usize,
     let xx = shifted(x, dx, period, width);
     let yy = shifted(y, dy, period, height);
     sound_at(marks, n, width, height, xx, yy)
+}
+
+// Where the sample of a plane lies.
+fn place(w: Window, x: usize, y: usize, plane: usize) -> usize
+    requires { ⌜ Fits w × ((x < w .width) × (y < w .height) × (plane < w .planes)) ⌝ }
+    ensures { λ r. ⌜ r ≡ (y * w .stride + x) * w .planes + plane ⌝ }
+{
+    (y * w.stride + x) * w.planes + plane
+}
+
+// The sum of the sound neighbours' samples in one plane, in the order of the steps, from 0.
+pub fn sum_f32(
+    samples: &[f32],
+    marks: &[u32],
+    n: usize,
+    w: Window,
+    period: usize,
+    x: usize,
+    y: usize,
+    plane: usize,
+) -> Sum
+    requires { ⌜ Looks (length (now samples)) (now marks) n w period x y plane ⌝ }
+    ensures {
+        λ r.
+        ⌜ Sums
+            (tallyAt (w .width) (w .height) period (marked (now (marks .entry)) n)
+            (λ xx yy. sampleAt nan w (now (samples .entry)) xx yy plane) x y)
+            r ⌝
+    }
+{
+    let all = steps();
+    let mut sum: f32 = 0.0;
+    let mut count: u32 = 0;
+    let mut i = 0;
+    while i < 8 {
+        let s = all[i];
+        let near = beside(marks, n, w, period, x, y, s);
+        match near {
+            Neighbour::At { x: xx, y: yy } => {
+                let at = place(w, xx, yy, plane);
+                sum = sum + samples[at];
+                count += 1;
+                i += 1;
+            }
+            Neighbour::Missing => {
+                i += 1;
+            }
+        }
+    }
+    Sum { sum, n: count }
 }
