@@ -22,7 +22,7 @@ use Rattle.dng.specs.Value.{nought}
 use Rattle.means.specs.declared.Step.{Step}
 use Rattle.means.specs.declared.Neighbour.{Neighbour}
 use Rattle.means.specs.declared.Neighbour.the-variants as N
-use Rattle.means.specs.Looks.{Sums, pairOf, oneStep, openAt, soundOf}
+use Rattle.means.specs.Looks.{pairOf, oneStep, openAt, soundOf}
 
 -- ---- Boolean cases
 
@@ -212,13 +212,49 @@ module _ (width height period : ℕ) (bad : ℕ → Bool) (value : ℕ → ℕ �
       }
 
   pub walk-end : (i : ℕ) (sum : Float) (n : ℕ) → Walked width height period bad value x y i sum n → 8 ≤ i
-      → Sums (tallyAt width height period bad value x y) (record { sum = sum; n = n })
+      → _≡_ {A = Tally} (record { sum = sum; n = n }) (tallyAt width height period bad value x y)
   unfolding tallyOn
-  walk-end i sum n w h = record { sum = ap (λ (t : Tally). t .sum) whole; count = ap (λ (t : Tally). t .n) whole }
-    where
-      done : i ≡ 8
-      done = omega (arith, w .within)
+  walk-end i sum n w h =
+      let done : i ≡ 8 = omega (arith, w .within) in
+      subst
+      (λ (k : ℕ). tallyOn width height period bad value x y (drop k steps) (record { sum = sum; n = n }) ≡ tallyAt width height period bad value x y)
+      done (w .left)
 
-      whole : _≡_ {A = Tally} (record { sum = sum; n = n }) (tallyAt width height period bad value x y)
-      whole = subst (λ (k : ℕ). tallyOn width height period bad value x y (drop k steps) (record { sum = sum; n = n }) ≡ tallyAt width height period bad value x y)
-          done (w .left)
+-- ---- the count
+
+-- what is left from step i on makes the count whole
+pub record Counted (width height period : ℕ) (bad : ℕ → Bool) (x y i n : ℕ) : Type 0 where
+  pub within : i ≤ 8
+  pub few : n ≤ i
+  pub left : n + soundOn width height period bad x y (drop i steps) ≡ soundOn width height period bad x y steps
+
+module _ (width height period : ℕ) (bad : ℕ → Bool) (x y : ℕ) where
+  pub count-start : Counted width height period bad x y 0 0
+  count-start = record { within = omega arith; few = omega arith; left = omega arith }
+
+  -- one step of the count
+  one : (all : List Step) (i : ℕ) → map pairOf all ≡ steps → i < 8
+      → soundOn width height period bad x y (drop i steps)
+      ≡ pick (soundOf width height period bad x y (pairOf (getD all i stay))) (λ xx yy. 1) 0 + soundOn width height period bad x y (drop (i + 1) steps)
+  unfolding soundOn
+  one all i e h = rw (add-one, drop-cons steps i (pairOf stay) h, sound-pick, step-at all i e) refl
+
+  pub count-at : (all : List Step) (i n xx yy : ℕ) → Counted width height period bad x y i n → map pairOf all ≡ steps → i < 8
+      → N.At xx yy ≡ soundOf width height period bad x y (pairOf (getD all i stay)) → Counted width height period bad x y (i + 1) (n + 1)
+  count-at all i n xx yy c e h f =
+      let s = rw (← f) at (one all i e h) in
+      record { within = omega arith; few = omega (arith, c .few); left = omega (arith, c .left, s) }
+
+  pub count-missing : (all : List Step) (i n : ℕ) → Counted width height period bad x y i n → map pairOf all ≡ steps → i < 8
+      → N.Missing ≡ soundOf width height period bad x y (pairOf (getD all i stay)) → Counted width height period bad x y (i + 1) n
+  count-missing all i n c e h f =
+      let s = rw (← f) at (one all i e h) in
+      record { within = omega arith; few = omega (arith, c .few); left = omega (arith, c .left, s) }
+
+  pub count-end : (i n : ℕ) → Counted width height period bad x y i n → 8 ≤ i → n ≡ soundOn width height period bad x y steps
+  unfolding soundOn
+  count-end i n c h =
+      let done : i ≡ 8 = omega (arith, c .within) in
+      let s : n + 0 ≡ soundOn width height period bad x y steps =
+      subst (λ (k : ℕ). n + soundOn width height period bad x y (drop k steps) ≡ soundOn width height period bad x y steps) done (c .left) in
+      omega arith

@@ -6,10 +6,9 @@ use mathlib.Core.List.{List}
 use mathlib.Core.Path.{_≡_}
 use lib.Dec.{leb, ltb, eqb}
 use lib.IntN.{ℤ, pos, negsuc}
-use lib.Ieee.{Float}
 use lib.ListN.{length, take}
 use Rattle.dng.specs.declared.Window.{Window}
-use Rattle.dng.specs.Repair.{Tally, complete, sound, tallyAt}
+use Rattle.dng.specs.Repair.{Tally, complete, sound}
 use Rattle.marks.specs.Marks.{Fits}
 use Rattle.marks.specs.Scratch.{has, Rises}
 use Rattle.means.specs.declared.Step.{Step}
@@ -37,10 +36,9 @@ pub record Looks (samples : ℕ) (marks : List ℕ) (n : ℕ) (w : Window) (peri
 abbrev pub marked : List ℕ → ℕ → ℕ → Bool
 marked marks n = has (take n marks)
 
--- the sum is the tally's, and so is the count
-pub record Sums (t : Tally) (r : Sum) : Type 0 where
-  pub sum : r .sum ≡ t .sum
-  pub count : r .n ≡ t .n
+-- a sum and its count as the definition has them
+abbrev pub tallyOf : Sum → Tally
+tallyOf s = record { sum = s .sum; n = s .n }
 
 -- ---- the parts
 

@@ -1,15 +1,15 @@
 // The sum over the sound neighbours of a position, and their mean.
 ghost use mathlib.Core.Path.{_≡_};
 ghost use mathlib.Core.Bool.{true};
-ghost use lib.Ieee.{nan, binary32, div};
+ghost use lib.Ieee.{nan, binary32};
 ghost use mathlib.Core.List.{map};
 ghost use Prim.Native.Nat.{_+_, _*_, _≤_, _<_};
 ghost use lib.ListN.{length, take};
 ghost use Rattle.convert.specs.Convert.{wholeIn};
-ghost use Rattle.dng.specs.Repair.{sampleAt, steps, moved, soundOn, tallyAt};
+ghost use Rattle.dng.specs.Repair.{sampleAt, steps, moved, soundOn, tallyAt, meanOf};
 ghost use Rattle.marks.specs.Marks.{Fits};
 ghost use Rattle.marks.specs.Scratch.{Rises};
-ghost use Rattle.means.specs.Looks.{Asks, Looks, Sums, marked, pairOf, oneStep, openAt, soundOf};
+ghost use Rattle.means.specs.Looks.{Asks, Looks, tallyOf, marked, pairOf, oneStep, openAt, soundOf};
 use dng::Window;
 
 // One step to a neighbour, in columns and rows of the period.
@@ -113,10 +113,9 @@ pub fn sum_f32(
     requires { ⌜ Looks (length (now samples)) (now marks) n w period x y plane ⌝ }
     ensures {
         λ r.
-        ⌜ Sums
-            (tallyAt (w .width) (w .height) period (marked (now (marks .entry)) n)
-            (λ xx yy. sampleAt nan w (now (samples .entry)) xx yy plane) x y)
-            r ⌝
+        ⌜ tallyOf r
+            ≡ tallyAt (w .width) (w .height) period (marked (now (marks .entry)) n)
+            (λ xx yy. sampleAt nan w (now (samples .entry)) xx yy plane) x y ⌝
     }
 {
     let all = steps();
@@ -139,4 +138,77 @@ pub fn sum_f32(
         }
     }
     Sum { sum, n: count }
+}
+
+// The same of u16 samples, each exact in an f32.
+pub fn sum_u16(
+    samples: &[u16],
+    marks: &[u32],
+    n: usize,
+    w: Window,
+    period: usize,
+    x: usize,
+    y: usize,
+    plane: usize,
+) -> Sum
+    requires { ⌜ Looks (length (now samples)) (now marks) n w period x y plane ⌝ }
+    ensures {
+        λ r.
+        ⌜ tallyOf r
+            ≡ tallyAt (w .width) (w .height) period (marked (now (marks .entry)) n)
+            (λ xx yy. wholeIn binary32 (sampleAt 0 w (now (samples .entry)) xx yy plane)) x y ⌝
+    }
+{
+    let all = steps();
+    let mut sum: f32 = 0.0;
+    let mut count: u32 = 0;
+    let mut i = 0;
+    while i < 8 {
+        let s = all[i];
+        let near = beside(marks, n, w, period, x, y, s);
+        match near {
+            Neighbour::At { x: xx, y: yy } => {
+                let at = place(w, xx, yy, plane);
+                sum = sum + convert::f32_of_u16(samples[at]);
+                count += 1;
+                i += 1;
+            }
+            Neighbour::Missing => {
+                i += 1;
+            }
+        }
+    }
+    Sum { sum, n: count }
+}
+
+// How many sound neighbours a position has: whether it can be repaired at all depends on the marks only.
+pub fn sound_count(marks: &[u32], n: usize, w: Window, period: usize, x: usize, y: usize) -> u32
+    requires { ⌜ Asks (now marks) n w period x y ⌝ }
+    ensures { λ r. ⌜ r ≡ soundOn (w .width) (w .height) period (marked (now (marks .entry)) n) x y steps ⌝ }
+{
+    let all = steps();
+    let mut count: u32 = 0;
+    let mut i = 0;
+    while i < 8 {
+        let s = all[i];
+        let near = beside(marks, n, w, period, x, y, s);
+        match near {
+            Neighbour::At { x: _, y: _ } => {
+                count += 1;
+                i += 1;
+            }
+            Neighbour::Missing => {
+                i += 1;
+            }
+        }
+    }
+    count
+}
+
+// The mean: one division.
+pub fn mean(s: Sum) -> f32
+    requires { ⌜ s .n ≤ 8 ⌝ }
+    ensures { λ r. ⌜ r ≡ meanOf (tallyOf s) ⌝ }
+{
+    s.sum / convert::f32_of_u16(s.n as u16)
 }
