@@ -1,3 +1,3 @@
 pub mod Moving
-pub mod Walking
 pub mod Tallies
+pub mod Walking

@@ -1,10 +1,10 @@
 -- Tallies, over any value of a position: how many a tally counts depends on the marks only, and a tally looks at unmarked positions of
 -- the window and at nothing else. Assumes nothing.
-use Prim.Native.Nat.{ℕ, zero, suc, _+_, _*_, _≤_, _<_}
+use Prim.Native.Nat.{ℕ, _+_, _*_, _≤_, _<_}
 use mathlib.Core.Path.{_≡_, refl, sym, ap, ap₂, subst, _∙_}
 use mathlib.Core.Bool.{Bool, true, false, not, _&&_, cond}
 use mathlib.Core.List.{List, [], _∷_}
-use native.Mathlib.Nat.{mul-comm, add-assoc, add-comm}
+use native.Mathlib.Nat.{mul-comm, add-zero}
 use native.Mathlib.Omega.{arith}
 use borrow.Author.Tests.{ltb-true}
 use lib.Arith.{digits-lt}
@@ -20,29 +20,41 @@ use Rattle.dng.specs.Value.{nought}
 abbrev pub more : (ℕ → ℕ → Float) → Tally → ℕ → ℕ → Tally
 more value t xx yy = record { sum = add binary32 (t .sum) (value xx yy); n = t .n + 1 }
 
--- a function of what is made of the neighbour
-pub sound-ap : {A B : Type 0} (width height period : ℕ) (bad : ℕ → Bool) (x y : ℕ) (d : ℤ × ℤ) (g : A → B) (f : ℕ → ℕ → A) (t : A)
-    → g (sound width height period bad x y d f t) ≡ sound width height period bad x y d (λ xx yy. g (f xx yy)) (g t)
-unfolding sound
-sound-ap width height period bad x y d g f t =
-    go (moved x (d .0) period width) (moved y (d .1) period height)
-    (ltb (moved x (d .0) period width) width && (ltb (moved y (d .1) period height) height && not (bad (moved y (d .1) period height * width + moved x (d .0) period width))))
-  where
-    go : (xx yy : ℕ) (b : Bool) → g (cond b (f xx yy) t) ≡ cond b (g (f xx yy)) (g t)
-    go xx yy true = refl
-    go xx yy false = refl
+module _ (width height period : ℕ) (bad : ℕ → Bool) (x y : ℕ) (d : ℤ × ℤ) where
+  -- what is so for `t`, and for `f` at any position of the window, is so for the neighbour
+  pub sound-any : {B : Type 0} (P : B → Type 0) (f : ℕ → ℕ → B) (t : B) → ((xx yy : ℕ) → xx < width → yy < height → P (f xx yy)) → P t
+      → P (sound width height period bad x y d f t)
+  unfolding sound
+  sound-any P f t h k =
+      let xx : ℕ = moved x (d .0) period width in
+      let yy : ℕ = moved y (d .1) period height in
+      go xx yy (ltb xx width) (ltb yy height) (not (bad (yy * width + xx))) (ltb-true xx width) (ltb-true yy height)
+    where
+      go : (xx yy : ℕ) (a b c : Bool) → (a ≡ true → xx < width) → (b ≡ true → yy < height) → P (cond (a && (b && c)) (f xx yy) t)
+      go xx yy true true true p q = h xx yy (p refl) (q refl)
+      go xx yy true true false p q = k
+      go xx yy true false c p q = k
+      go xx yy false b c p q = k
+
+  -- a function of what is made of the neighbour
+  pub sound-ap : {A B : Type 0} (g : A → B) (f : ℕ → ℕ → A) (t : A)
+      → g (sound width height period bad x y d f t) ≡ sound width height period bad x y d (λ xx yy. g (f xx yy)) (g t)
+  unfolding sound
+  sound-ap g f t =
+      let xx : ℕ = moved x (d .0) period width in
+      let yy : ℕ = moved y (d .1) period height in
+      go xx yy (ltb xx width && (ltb yy height && not (bad (yy * width + xx))))
+    where
+      go : (xx yy : ℕ) (b : Bool) → g (cond b (f xx yy) t) ≡ cond b (g (f xx yy)) (g t)
+      go xx yy true = refl
+      go xx yy false = refl
 
 -- ---- the count
 
 sound-count : (width height period : ℕ) (bad : ℕ → Bool) (x y n : ℕ) (d : ℤ × ℤ)
     → sound width height period bad x y d (λ xx yy. n + 1) n ≡ n + sound width height period bad x y d (λ xx yy. 1) 0
-unfolding sound
 sound-count width height period bad x y n d =
-    go (ltb (moved x (d .0) period width) width && (ltb (moved y (d .1) period height) height && not (bad (moved y (d .1) period height * width + moved x (d .0) period width))))
-  where
-    go : (b : Bool) → cond b (n + 1) n ≡ n + cond b 1 0
-    go true = refl
-    go false = omega arith
+    rw add-zero at (sym (sound-ap width height period bad x y d (λ (k : ℕ). n + k) (λ xx yy. 1) 0))
 
 tally-on-count : (width height period : ℕ) (bad : ℕ → Bool) (value : ℕ → ℕ → Float) (x y : ℕ) (ds : List (ℤ × ℤ)) (t : Tally)
     → tallyOn width height period bad value x y ds t .n ≡ t .n + soundOn width height period bad x y ds
@@ -60,13 +72,8 @@ tally-count width height period bad value x y =
     omega (arith, tally-on-count width height period bad value x y steps (record { sum = nought; n = 0 }))
 
 sound-le : (width height period : ℕ) (bad : ℕ → Bool) (x y : ℕ) (d : ℤ × ℤ) → sound width height period bad x y d (λ xx yy. 1) 0 ≤ 1
-unfolding sound
 sound-le width height period bad x y d =
-    go (ltb (moved x (d .0) period width) width && (ltb (moved y (d .1) period height) height && not (bad (moved y (d .1) period height * width + moved x (d .0) period width))))
-  where
-    go : (b : Bool) → cond b 1 0 ≤ 1
-    go true = omega arith
-    go false = omega arith
+    sound-any width height period bad x y d (λ (k : ℕ). k ≤ 1) (λ xx yy. 1) 0 (λ xx yy h k. omega arith) (omega arith)
 
 pub sound-few : (width height period : ℕ) (bad : ℕ → Bool) (x y : ℕ) (ds : List (ℤ × ℤ)) → soundOn width height period bad x y ds ≤ length ds
 unfolding soundOn

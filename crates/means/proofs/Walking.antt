@@ -23,6 +23,7 @@ use Rattle.means.specs.declared.Step.{Step}
 use Rattle.means.specs.declared.Neighbour.{Neighbour}
 use Rattle.means.specs.declared.Neighbour.the-variants as N
 use Rattle.means.specs.Looks.{pairOf, oneStep, openAt, soundOf}
+use Rattle.means.proofs.Tallies.{sound-ap}
 
 -- ---- Boolean cases
 
@@ -140,8 +141,8 @@ step-one all i e h =
 
 -- ---- the tally
 
--- a value as the walk adds it
-abbrev pub grown : Float → ℕ → Float → Tally
+-- one value more
+abbrev grown : Float → ℕ → Float → Tally
 grown sum n v = record { sum = add binary32 sum v; n = n + 1 }
 
 -- what is left from step i on makes the tally whole
@@ -158,15 +159,9 @@ pick N.Missing f t = t
 
 pub sound-pick : {B : Type 0} (width height period : ℕ) (bad : ℕ → Bool) (x y : ℕ) (d : ℤ × ℤ) (f : ℕ → ℕ → B) (t : B)
     → sound width height period bad x y d f t ≡ pick (soundOf width height period bad x y d) f t
-unfolding sound soundOf
+unfolding soundOf
 sound-pick width height period bad x y d f t =
-    let xx : ℕ = moved x (d .0) period width in
-    let yy : ℕ = moved y (d .1) period height in
-    go xx yy (ltb xx width && (ltb yy height && not (bad (yy * width + xx))))
-  where
-    go : (xx yy : ℕ) (b : Bool) → cond b (f xx yy) t ≡ pick (cond b (N.At xx yy) N.Missing) f t
-    go xx yy true = refl
-    go xx yy false = refl
+    sym (sound-ap width height period bad x y d (λ (r : Neighbour). pick r f t) (λ xx yy. N.At xx yy) N.Missing)
 
 module _ (width height period : ℕ) (bad : ℕ → Bool) (value : ℕ → ℕ → Float) (x y : ℕ) where
   pub walk-start : Walked width height period bad value x y 0 nought 0
