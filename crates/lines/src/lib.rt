@@ -1,7 +1,7 @@
 // Deltas and scales of rows and columns, on one plane of a lent row.
 // What is the same for a whole row, a row's delta or scale, is worked out once by the caller; a loop does what depends on the sample.
 ghost use mathlib.Core.Path.{_≡_};
-ghost use Prim.Native.Nat.{_+_, _-_, _*_, _/_, _≤_, _<_, min};
+ghost use Prim.Native.Nat.{_+_, _-_, _*_, _/_, _≤_, _<_};
 ghost use lib.ListN.{length};
 ghost use lib.Ieee.{add, mul, div, binary32};
 ghost use Rattle.points.specs.Points.{each};
