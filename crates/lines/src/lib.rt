@@ -165,7 +165,7 @@ fn value_rare(body: &[u8], at: usize, past: usize, missing: f32) -> f32
     }
 }
 
-// The same, with one comparison where the value is there whole: `sure` is at most `past`, and at most the last position with four bytes behind it.
+// The same, with one comparison where the value is there whole: `sure` is past neither the values nor the last four bytes of the body.
 fn value_from(body: &[u8], at: usize, sure: usize, past: usize, missing: f32) -> f32
     requires { ⌜ sure ≤ past ⌝ }
     ensures { λ r. ⌜ r ≡ valueFrom (now (body .entry)) past missing at ⌝ }
