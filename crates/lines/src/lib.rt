@@ -1,7 +1,7 @@
 // Deltas and scales of rows and columns, on one plane of a lent row.
 // What is the same for a whole row, a row's delta or scale, is worked out once by the caller; a loop does what depends on the sample.
 ghost use mathlib.Core.Path.{_≡_};
-ghost use Prim.Native.Nat.{_+_, _-_, _*_, _/_, _≤_, _<_, min};
+ghost use Prim.Native.Nat.{_+_, _-_, _*_, _/_, _≤_, _<_};
 ghost use lib.ListN.{length};
 ghost use lib.Ieee.{add, mul, div, binary32};
 ghost use Rattle.points.specs.Points.{each};
@@ -165,7 +165,7 @@ fn value_rare(body: &[u8], at: usize, past: usize, missing: f32) -> f32
     }
 }
 
-// The same, with one comparison where the value is there whole: `sure` is at most `past`, and at most the last position with four bytes behind it.
+// The same, with one comparison where the value is there whole: `sure` is past neither the values nor the last four bytes of the body.
 fn value_from(body: &[u8], at: usize, sure: usize, past: usize, missing: f32) -> f32
     requires { ⌜ sure ≤ past ⌝ }
     ensures { λ r. ⌜ r ≡ valueFrom (now (body .entry)) past missing at ⌝ }

@@ -28,7 +28,8 @@ returns c =
     spanned k (λ m v. delta (s .args .scale) (nth (s .args .n) (s .args .body .now) nought (k .nth + m)) v)
     (λ x p v. delta (s .args .scale) (nth (s .args .n) (s .args .body .now) nought ((x - k .left) / k .pitch)) v) (s .args .row .now) (s .pre)
     (c .before .before .before .before .span-of .ensures)
-    (λ m v. ap (λ (j : ℕ). delta (s .args .scale) (nth (s .args .n) (s .args .body .now) nought j) v) (sym (number-of (k .left) (k .pitch) (k .nth + m) (s .pre .spaced)))) _
+    (λ m v. ap (λ (j : ℕ). delta (s .args .scale) (nth (s .args .n) (s .args .body .now) nought j) v)
+    (sym (number-of (k .left) (k .pitch) (k .nth + m) (s .pre .spaced)))) _
     (c .before .before .add-values .ensures)
 
 pub add-columns-spec : {M : Type 1} → statement M

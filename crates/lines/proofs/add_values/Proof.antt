@@ -70,7 +70,8 @@ loop-less c = omega arith
 loop-again : tie.Need-loop-again Inv-loop μ-loop
 loop-again c =
     let u = c .before .before .before .before .loop .inv in
-    (u .0 + 1, steps-next nan (omega arith) (u .1) (omega arith) (added _ _ _ _ _ _ _ _ (c .before .value-from .ensures) (c .over-scale .ensures) (u .2)), omega (arith, u .2))
+    let value = added _ _ _ _ _ _ _ _ (c .before .value-from .ensures) (c .over-scale .ensures) (u .2) in
+    (u .0 + 1, steps-next nan (omega arith) (u .1) (omega arith) value, omega (arith, u .2))
 
 same-length : tie.Need-same-length Inv-loop μ-loop
 same-length c = omega arith

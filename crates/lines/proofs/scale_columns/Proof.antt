@@ -28,7 +28,8 @@ returns c =
     spanned k (λ m v. scaled (nth (s .args .n) (s .args .body .now) one (k .nth + m)) v)
     (λ x p v. scaled (nth (s .args .n) (s .args .body .now) one ((x - k .left) / k .pitch)) v) (s .args .row .now) (s .pre)
     (c .before .before .before .before .span-of .ensures)
-    (λ m v. ap (λ (j : ℕ). scaled (nth (s .args .n) (s .args .body .now) one j) v) (sym (number-of (k .left) (k .pitch) (k .nth + m) (s .pre .spaced)))) _
+    (λ m v. ap (λ (j : ℕ). scaled (nth (s .args .n) (s .args .body .now) one j) v)
+    (sym (number-of (k .left) (k .pitch) (k .nth + m) (s .pre .spaced)))) _
     (c .before .before .scale-values .ensures)
 
 pub scale-columns-spec : {M : Type 1} → statement M
