@@ -1,4 +1,4 @@
-// Tables, f32 and u16, and polynomials, on one plane of a lent row.
+// Tables, f32 and u16, and polynomials, on one plane of a lent row. In each loop `i` is the sample, and `c` its column, which only the proof needs.
 ghost use mathlib.Core.Path.{_≡_};
 ghost use Prim.Native.Nat.{suc, _+_, _-_, _*_, _≤_, _<_, min};
 ghost use lib.ListN.{length};
@@ -64,6 +64,7 @@ fn full_entry(body: &[u8], i: u32) -> u16
 
 // ---- tables, f32
 
+// Which entry a value takes: rounded to whole, half away from zero.
 fn index_of(n: u32, scale: f32, v: f32) -> u32
     ensures { λ r. ⌜ r ≡ roundHeld (n - 1) (mul binary32 v scale) ⌝ }
 {
@@ -83,6 +84,7 @@ fn full_value(body: &[u8], n: u32, scale: f32, v: f32) -> f32
     convert::f32_of_u16(full_entry(body, index_of(n, scale, v))) / scale
 }
 
+// A body that ends before its table does.
 fn short_row(row: &mut [f32], k: Walk, body: &[u8], n: u32, scale: f32)
     requires { ⌜ Walks k (length (now row)) ⌝ }
     ensures { λ _. ⌜ now (row .exit) ≡ walked k (λ x p v. mapTable scale n (now (body .entry)) v) (now (row .entry)) ⌝ }
@@ -113,6 +115,7 @@ fn full_row(row: &mut [f32], k: Walk, body: &[u8], n: u32, scale: f32)
     }
 }
 
+// table[round(v * scale)] / scale at the walk's samples.
 pub fn table_row(row: &mut [f32], k: Walk, body: &[u8], n: u32, scale: f32)
     requires { ⌜ (Walks k (length (now row))) × (1 ≤ n) ⌝ }
     ensures { λ _. ⌜ now (row .exit) ≡ walked k (λ x p v. mapTable scale n (now (body .entry)) v) (now (row .entry)) ⌝ }
@@ -176,6 +179,7 @@ fn full_row16(row: &mut [u16], k: Walk, body: &[u8], n: u32)
     }
 }
 
+// table[min(v, last)] at the walk's samples.
 pub fn table_row16(row: &mut [u16], k: Walk, body: &[u8], n: u32)
     requires { ⌜ (Walks k (length (now row))) × (1 ≤ n) ⌝ }
     ensures { λ _. ⌜ now (row .exit) ≡ walked k (λ x p v. mapTable16 n (now (body .entry)) v) (now (row .entry)) ⌝ }
@@ -205,7 +209,11 @@ struct Terms {
 fn term(body: &[u8], degree: u32, k: u32) -> f64
     ensures { λ r. ⌜ r ≡ termAt degree (now (body .entry)) k ⌝ }
 {
-    if k <= degree { words::f64_at(body, 36 + 8 * (k as usize)) } else { 0.0 }
+    if k <= degree {
+        words::f64_at(body, 36 + 8 * (k as usize))
+    } else {
+        0.0
+    }
 }
 
 fn terms_of(body: &[u8], degree: u32) -> Terms
@@ -224,7 +232,7 @@ fn terms_of(body: &[u8], degree: u32) -> Terms
     }
 }
 
-// Horner from 0 over all nine. A 0 above the highest coefficient changes nothing.
+// Horner from 0.0 over all nine. A 0.0 above the highest coefficient changes nothing. The body is here for the contract alone.
 fn along_nine(t: Terms, body: &[u8], degree: u32, x: f64) -> f64
     requires { ⌜ (Holds t degree (now body)) × (degree ≤ 8) ⌝ }
     ensures { λ r. ⌜ r ≡ horner (now (body .entry)) x (suc degree) nought ⌝ }
@@ -233,7 +241,7 @@ fn along_nine(t: Terms, body: &[u8], degree: u32, x: f64) -> f64
     ((((high * x + t.c4) * x + t.c3) * x + t.c2) * x + t.c1) * x + t.c0
 }
 
-// The same over the low five.
+// The same over the low five, which most polynomials have at most.
 fn along_five(t: Terms, body: &[u8], degree: u32, x: f64) -> f64
     requires { ⌜ (Holds t degree (now body)) × (degree ≤ 4) ⌝ }
     ensures { λ r. ⌜ r ≡ horner (now (body .entry)) x (suc degree) nought ⌝ }
@@ -245,30 +253,35 @@ fn along(t: Terms, body: &[u8], degree: u32, x: f64) -> f64
     requires { ⌜ (Holds t degree (now body)) × (degree ≤ 8) ⌝ }
     ensures { λ r. ⌜ r ≡ horner (now (body .entry)) x (suc degree) nought ⌝ }
 {
-    if degree <= 4 { along_five(t, body, degree, x) } else { along_nine(t, body, degree, x) }
+    if degree <= 4 {
+        along_five(t, body, degree, x)
+    } else {
+        along_nine(t, body, degree, x)
+    }
 }
 
-// `wide` is the scale as an f64, widened once.
-fn polynomial_value(t: Terms, body: &[u8], degree: u32, scale: f32, wide: f64, v: f32) -> f32
-    requires { ⌜ (Holds t degree (now body)) × (degree ≤ 8) × (wide ≡ scale) ⌝ }
+// `scale64` is the scale as an f64, widened once.
+fn polynomial_value(t: Terms, body: &[u8], degree: u32, scale: f32, scale64: f64, v: f32) -> f32
+    requires { ⌜ (Holds t degree (now body)) × (degree ≤ 8) × (scale64 ≡ scale) ⌝ }
     ensures { λ r. ⌜ r ≡ mapPolynomial scale degree (now (body .entry)) v ⌝ }
 {
     let x = convert::widen(v * scale / 65535.0);
-    narrow::to_f32(along(t, body, degree, x) * 65535.0 / wide)
+    narrow::to_f32(along(t, body, degree, x) * 65535.0 / scale64)
 }
 
+// The polynomial at the walk's samples, 65535 standing for the scale.
 pub fn polynomial_row(row: &mut [f32], k: Walk, body: &[u8], degree: u32, scale: f32)
     requires { ⌜ (Walks k (length (now row))) × (degree ≤ 8) ⌝ }
     ensures { λ _. ⌜ now (row .exit) ≡ walked k (λ x p v. mapPolynomial scale degree (now (body .entry)) v) (now (row .entry)) ⌝ }
 {
     let t = terms_of(body, degree);
-    let wide = convert::widen(scale);
+    let scale64 = convert::widen(scale);
     let stop = stop_of(k, row.len());
     let step = k.pitch * k.planes;
     let mut i = k.col * k.planes + k.plane;
     let mut c = k.col;
     while i < stop {
-        row[i] = polynomial_value(t, body, degree, scale, wide, row[i]);
+        row[i] = polynomial_value(t, body, degree, scale, scale64, row[i]);
         i += step;
         c += k.pitch;
     }

@@ -13,11 +13,11 @@ use Rattle.maps.proofs.polynomial_row.Statement.{statement}
 use Rattle.maps.proofs.polynomial_row.Tie as tie
 
 abbrev Inv-loop : tie.InvT-loop
-Inv-loop row₀ k body degree scale t wide stop step i₀ c₀ row i c =
+Inv-loop row₀ k body degree scale t scale64 stop step i₀ c₀ row i c =
     Upto (k .left) (k .right) (k .pitch) (k .plane) (k .x0) (k .planes) (λ x p v. mapPolynomial scale degree body v) row₀ row c i
 
 abbrev μ-loop : tie.MeasureT-loop
-μ-loop row₀ k body degree scale t wide stop step i₀ c₀ row i c = stop - i
+μ-loop row₀ k body degree scale t scale64 stop step i₀ c₀ row i c = stop - i
 
 -- what is known of the walk, from where its end is worked out and from the loop's head
 walk : (c : tie.After-stop-of Inv-loop μ-loop) → Walks (c .before .before .before .before .before .args .k) (length (c .before .before .before .before .before .args .row .now))
