@@ -23,8 +23,8 @@ one-more nan n v = absurd v
 one-more (inf t) n v = absurd v
 one-more (fin t m e) n v =
     ap (λ (b : Bool). add binary64 (fin b m e) one) (v .0)
-    ∙ round-same binary64 false (m * up e * 1 + 1 * down e) (down e * 1) (n + 1) 1 (omega (arith, down-pos e, mul-one (down e))) (zero-lt-suc 0)
-    (sum-of (m * up e) n (down e) (v .1))
+    ∙ round-same binary64 false (m * up e * 1 + 1 * down e) (down e * 1) (n + 1) 1
+    (omega (arith, down-pos e, mul-one (down e))) (zero-lt-suc 0) (sum-of (m * up e) n (down e) (v .1))
 
 pub next-whole : (n : ℕ) → n < 2 ^ 53 → add binary64 (wholeIn binary64 n) one ≡ wholeIn binary64 (n + 1)
 unfolding ofInt

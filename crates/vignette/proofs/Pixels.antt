@@ -2,7 +2,8 @@
 use Prim.Native.Nat.{ℕ, _+_, _*_, _/_, _≤_, _<_}
 use mathlib.Core.List.{List}
 use mathlib.Core.Path.{_≡_, refl, sym, ap, _∙_}
-use native.Mathlib.Nat.{add-mul, mul-one, one-mul, div-one, div-le-self, mul-le-mul-right, lt-of-mul-lt-mul-right, le-div-iff-mul-le, div-lt-iff-lt-mul}
+use native.Mathlib.Nat.{add-mul, mul-one, one-mul, mul-le-mul-right, lt-of-mul-lt-mul-right}
+use native.Mathlib.Nat.{div-one, div-le-self, div-mul-le-self, le-div-iff-mul-le, div-lt-iff-lt-mul}
 use native.Mathlib.Omega.{arith}
 use lib.Ieee.{Float, nan, binary32, binary64, add, sub, mul}
 use lib.ListN.{length, getD, set}
@@ -50,53 +51,53 @@ module _
     {q : Radial} {m2 dy2 cx : Float} {x0 p : ℕ} {l row : List Float} {c i : ℕ} {x : Float}
     (fits : RowFits x0 p 0 (length l)) (u : Upto q m2 dy2 cx x0 p l row c i x)
   where
-  -- a pixel that begins before the end of the whole ones ends there or before
-  pub more : i < length l / p * p → c + 1 ≤ length l / p
-  more h = omega (arith, lt-of-mul-lt-mul-right p {m = c} {n = length l / p} (omega (arith, u .place)))
+    more : i < length l / p * p → c + 1 ≤ length l / p
+    more h = omega (arith, lt-of-mul-lt-mul-right p {m = c} {n = length l / p} (omega (arith, u .place)))
 
-  pub room : i < length l / p * p → i + p ≤ length l / p * p
-  room h = omega (arith, mul-le-mul-right p (more h), add-mul c 1 p, one-mul p, u .place)
+    -- a pixel that begins before the end of the whole ones lies in the row
+    pub inside : i < length l / p * p → i + p ≤ length l
+    inside h = omega (arith, mul-le-mul-right p (more h), add-mul c 1 p, one-mul p, u .place, div-mul-le-self (length l) p)
 
-  column-of : (j : ℕ) → i ≤ j → j < i + p → j / p ≡ c
-  column-of j a b =
-      let low : c ≤ j / p = le-div-iff-mul-le (fits .some) .1 (omega (arith, u .place)) in
-      let high : j / p < c + 1 = div-lt-iff-lt-mul (fits .some) .1 (omega (arith, u .place, add-mul c 1 p, one-mul p)) in
-      omega arith
+    column-of : (j : ℕ) → i ≤ j → j < i + p → j / p ≡ c
+    column-of j a b =
+        let low : c ≤ j / p = le-div-iff-mul-le (fits .some) .1 (omega (arith, u .place)) in
+        let high : j / p < c + 1 = div-lt-iff-lt-mul (fits .some) .1 (omega (arith, u .place, add-mul c 1 p, one-mul p)) in
+        omega arith
 
-  -- the gain of the pixel is that of each of its samples
-  raised-by : {g : Float} → g ≡ gainOf q m2 dy2 (sub binary64 x cx) → (j : ℕ) (v : Float) → i ≤ j → j < i + p
-      → raised q m2 dy2 cx x0 p j v ≡ mul binary32 v g
-  unfolding raised
-  raised-by gain j v a b =
-      ap (mul binary32 v)
-      (ap (λ (k : ℕ). gainOf q m2 dy2 (sub binary64 (wholeIn binary64 (x0 + k)) cx)) (column-of j a b)
-      ∙ ap (λ (y : Float). gainOf q m2 dy2 (sub binary64 y cx)) (sym (u .column)) ∙ sym gain)
+    -- the gain of the pixel is that of each of its samples
+    raised-by : {g : Float} → g ≡ gainOf q m2 dy2 (sub binary64 x cx) → (j : ℕ) (v : Float) → i ≤ j → j < i + p
+        → raised q m2 dy2 cx x0 p j v ≡ mul binary32 v g
+    unfolding raised
+    raised-by gain j v a b =
+        ap (mul binary32 v)
+        (ap (λ (k : ℕ). gainOf q m2 dy2 (sub binary64 (wholeIn binary64 (x0 + k)) cx)) (column-of j a b)
+        ∙ ap (λ (y : Float). gainOf q m2 dy2 (sub binary64 y cx)) (sym (u .column)) ∙ sym gain)
 
-  -- one pixel more, whose samples are multiplied by its gain
-  pub next : {row′ : List Float} {g x′ : Float} → i < length l / p * p
-      → row′ ≡ each (between i (i + p) (λ j v. mul binary32 v g)) row → g ≡ gainOf q m2 dy2 (sub binary64 x cx) → x′ ≡ add binary64 x one
-      → Upto q m2 dy2 cx x0 p l row′ (c + 1) (i + p) x′
-  next {row′} {g} {x′} h grown gain step =
-      record {
-        done = grown
-            ∙ ap (each (between i (i + p) G)) (u .done)
-            ∙ advance nan (raised q m2 dy2 cx x0 p) G i (i + p) i (i + p) l (omega arith) (omega arith) (omega arith)
-            (λ j v a b k. raised-by gain j v a b ∙ sym (between-in i (i + p) G j v a b));
-        same = ap length grown ∙ length-each (between i (i + p) G) row ∙ u .same;
-        place = omega (arith, u .place, add-mul c 1 p, one-mul p);
-        column = step
-            ∙ ap (λ (y : Float). add binary64 y one) (u .column)
-            ∙ next-whole (x0 + c) (omega (arith, u .whole, div-le-self (length l) p, fits .column, fits .short))
-            ∙ ap (wholeIn binary64) (omega arith);
-        whole = more h;
-      }
-    where
-      G : ℕ → Float → Float
-      G j v = mul binary32 v g
+    -- one pixel more, whose samples are multiplied by its gain
+    pub next : {row′ : List Float} {g x′ : Float} → i < length l / p * p
+        → row′ ≡ each (between i (i + p) (λ j v. mul binary32 v g)) row → g ≡ gainOf q m2 dy2 (sub binary64 x cx) → x′ ≡ add binary64 x one
+        → Upto q m2 dy2 cx x0 p l row′ (c + 1) (i + p) x′
+    next {row′} {g} {x′} h grown gain step =
+        record {
+          done = grown
+              ∙ ap (each (between i (i + p) G)) (u .done)
+              ∙ advance nan (raised q m2 dy2 cx x0 p) G i (i + p) i (i + p) l (omega arith) (omega arith) (omega arith)
+              (λ j v a b k. raised-by gain j v a b ∙ sym (between-in i (i + p) G j v a b));
+          same = ap length grown ∙ length-each (between i (i + p) G) row ∙ u .same;
+          place = omega (arith, u .place, add-mul c 1 p, one-mul p);
+          column = step
+              ∙ ap (λ (y : Float). add binary64 y one) (u .column)
+              ∙ next-whole (x0 + c) (omega (arith, u .whole, div-le-self (length l) p, fits .column, fits .short))
+              ∙ ap (wholeIn binary64) (omega arith);
+          whole = more h;
+        }
+      where
+        G : ℕ → Float → Float
+        G j v = mul binary32 v g
 
-  -- all whole pixels are done
-  pub end : length l / p * p ≤ i → row ≡ each (wholeOnes q m2 dy2 cx x0 p (length l)) l
-  unfolding wholeOnes
-  end h =
-      u .done
-      ∙ ap (λ (k : ℕ). each (before k (raised q m2 dy2 cx x0 p)) l) (omega (arith, u .place, mul-le-mul-right p (u .whole)))
+    -- all whole pixels are done
+    pub end : length l / p * p ≤ i → row ≡ each (wholeOnes q m2 dy2 cx x0 p (length l)) l
+    unfolding wholeOnes
+    end h =
+        u .done
+        ∙ ap (λ (k : ℕ). each (before k (raised q m2 dy2 cx x0 p)) l) (omega (arith, u .place, mul-le-mul-right p (u .whole)))

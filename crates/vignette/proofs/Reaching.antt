@@ -2,7 +2,7 @@
 -- Assumes nothing.
 use Prim.Native.Nat.{ℕ}
 use mathlib.Core.Bool.{Bool, true, false, cond, _&&_}
-use mathlib.Core.Path.{_≡_, refl, ap, ap₂, _∙_}
+use mathlib.Core.Path.{_≡_, refl, sym, ap, ap₂, _∙_}
 use native.Mathlib.Omega.{arith}
 use lib.Ieee.{Float, inf, lt}
 use Rattle.dng.specs.declared.Radial.{Radial}
@@ -41,20 +41,20 @@ unusable-of : (z : Float) (b : Bool) → Unusable ≡ cond b (Usable z) Unusable
 unusable-of z true e = absurd (let n : _≡_ {A = ℕ} 0 1 = cc in omega arith)
 unusable-of z false e = refl
 
-module _ (q : Radial) (fw fh : ℕ) where
+module _ (q : Radial) (fw fh : ℕ) {r : Reach} (answer : (scale : Float) → r ≡ reachOf (m2Of (frameAt scale fw fh) q)) where
   -- usable: what `vignette_row` asks
-  pub reaches : {m : Float} → ((scale : Float) → Usable m ≡ reachOf (m2Of (frameAt scale fw fh) q)) → Reaches q m fw fh
+  pub reaches : {m : Float} → r ≡ Usable m → Reaches q m fw fh
   unfolding reachOf
   reaches {m} e =
       record {
-        farthest = λ scale. usable-of m (m2Of (frameAt scale fw fh) q) (usable (m2Of (frameAt scale fw fh) q)) (e scale) .0;
-        positive = let z : Float = m2Of (frameAt nought fw fh) q in
-            let o : (m ≡ z) × (usable z ≡ true) = usable-of m z (usable z) (e nought) in
-            ap usable (o .0) ∙ o .1;
+        farthest = λ scale. at scale .0;
+        positive = ap usable (at nought .0) ∙ at nought .1;
       }
+    where
+      at : (scale : Float) → (m ≡ m2Of (frameAt scale fw fh) q) × (usable (m2Of (frameAt scale fw fh) q) ≡ true)
+      at scale = usable-of m (m2Of (frameAt scale fw fh) q) (usable (m2Of (frameAt scale fw fh) q)) (sym e ∙ answer scale)
 
   -- unusable: what `row-unusable` asks
-  pub unusable : ((scale : Float) → Unusable ≡ reachOf (m2Of (frameAt scale fw fh) q))
-      → (scale : Float) → usable (m2Of (frameAt scale fw fh) q) ≡ false
+  pub unusable : r ≡ Unusable → (scale : Float) → usable (m2Of (frameAt scale fw fh) q) ≡ false
   unfolding reachOf
-  unusable e scale = unusable-of (m2Of (frameAt scale fw fh) q) (usable (m2Of (frameAt scale fw fh) q)) (e scale)
+  unusable e scale = unusable-of (m2Of (frameAt scale fw fh) q) (usable (m2Of (frameAt scale fw fh) q)) (sym e ∙ answer scale)

@@ -85,7 +85,8 @@ module _ (fr : Frame) (q : Radial) (x0 p y : ℕ) (l : List Float) where
 
   -- the centre and dy² worked out once: the pixels raised are the vignette's
   raised-is : (i : ℕ) (v : Float)
-      → raised q (m2Of fr q) (square (sub binary64 (wholeIn binary64 y) (centreY fr q))) (centreX fr q) x0 p i v ≡ vignetted fr q y (x0 + i / p) v
+      → raised q (m2Of fr q) (square (sub binary64 (wholeIn binary64 y) (centreY fr q))) (centreX fr q) x0 p i v
+      ≡ vignetted fr q y (x0 + i / p) v
   unfolding raised gainOf vignetted
   raised-is i v = refl
 

@@ -57,6 +57,7 @@ pub record Worked : Type 0 where
   -- the gain is 2 at the corner (0, 0), and 1 at the centre (1, 1)
   pub corner : vignetted small middle 0 0 (whole 1) ≡ whole 2
   pub centre : vignetted small middle 1 1 (whole 3) ≡ whole 3
+
 pub worked : Worked
 unfolding vignetted radialGain m2Of farthest usable reachOf narrow add sub mul div lt ofBits ofInt round
 worked = record {

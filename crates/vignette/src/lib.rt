@@ -27,7 +27,7 @@ fn distance2(cx: f64, cy: f64, x: f64, y: f64) -> f64
     dx * dx + dy * dy
 }
 
-// A NaN is passed over: `a` is none.
+// A NaN is passed over: `a` stays where `b` is one.
 fn larger_of(a: f64, b: f64) -> f64
     ensures { λ r. ⌜ r ≡ larger a b ⌝ }
 {
@@ -37,8 +37,14 @@ fn larger_of(a: f64, b: f64) -> f64
 fn farthest_corner(cx: f64, cy: f64, fw: f64, fh: f64) -> f64
     ensures { λ r. ⌜ r ≡ farthest cx cy fw fh ⌝ }
 {
-    let top = larger_of(larger_of(0.0, distance2(cx, cy, 0.0, 0.0)), distance2(cx, cy, fw, 0.0));
-    larger_of(larger_of(top, distance2(cx, cy, 0.0, fh)), distance2(cx, cy, fw, fh))
+    let top = larger_of(
+        larger_of(0.0, distance2(cx, cy, 0.0, 0.0)),
+        distance2(cx, cy, fw, 0.0),
+    );
+    larger_of(
+        larger_of(top, distance2(cx, cy, 0.0, fh)),
+        distance2(cx, cy, fw, fh),
+    )
 }
 
 fn usable_only(m: f64) -> Reach
@@ -81,7 +87,8 @@ fn raise_pixel(row: &mut [f32], a: usize, e: usize, g: f32)
     }
 }
 
-// One plane to a pixel, so that each sample is a pixel. The column is counted as an f64, which holds every one exactly.
+// One plane to a pixel, so that each sample is a pixel. The column is counted as an f64, which holds every one exactly; what is asked
+// of the row's number is no matter here.
 fn raise_samples(row: &mut [f32], q: Radial, m2: f64, dy2: f64, cx: f64, x0: u32)
     requires { ⌜ RowFits x0 1 0 (length (now row)) ⌝ }
     ensures { λ _. ⌜ now (row .exit) ≡ each (wholeOnes q m2 dy2 cx x0 1 (length (now (row .entry)))) (now (row .entry)) ⌝ }
@@ -95,6 +102,7 @@ fn raise_samples(row: &mut [f32], q: Radial, m2: f64, dy2: f64, cx: f64, x0: u32
     }
 }
 
+// Several planes to a pixel; one that is not whole stays.
 fn raise_pixels(row: &mut [f32], q: Radial, m2: f64, dy2: f64, cx: f64, x0: u32, planes: usize)
     requires { ⌜ RowFits x0 planes 0 (length (now row)) ⌝ }
     ensures { λ _. ⌜ now (row .exit) ≡ each (wholeOnes q m2 dy2 cx x0 planes (length (now (row .entry)))) (now (row .entry)) ⌝ }
@@ -110,6 +118,7 @@ fn raise_pixels(row: &mut [f32], q: Radial, m2: f64, dy2: f64, cx: f64, x0: u32,
     }
 }
 
+// The common case, one plane, has a loop of its own.
 fn raise_row(row: &mut [f32], q: Radial, m2: f64, dy2: f64, cx: f64, x0: u32, planes: u32)
     requires { ⌜ RowFits x0 planes 0 (length (now row)) ⌝ }
     ensures { λ _. ⌜ now (row .exit) ≡ each (wholeOnes q m2 dy2 cx x0 planes (length (now (row .entry)))) (now (row .entry)) ⌝ }
@@ -122,16 +131,23 @@ fn raise_row(row: &mut [f32], q: Radial, m2: f64, dy2: f64, cx: f64, x0: u32, pl
 }
 
 // Every whole pixel of the row y, all planes; `m2` is what the function of that name answered for the run.
-pub fn vignette_row(row: &mut [f32], q: Radial, m2: f64, x0: u32, planes: u32, y: u32, full_width: u32, full_height: u32)
+pub fn vignette_row(
+    row: &mut [f32],
+    q: Radial,
+    m2: f64,
+    x0: u32,
+    planes: u32,
+    y: u32,
+    full_width: u32,
+    full_height: u32,
+)
     requires { ⌜ RowFits x0 planes y (length (now row)) × Reaches q m2 «full_width» «full_height» ⌝ }
-    ensures {
-        λ _.
+    ensures { λ _.
         ⌜ ((scale : Float)
         → now (row .exit)
         ≡ each
         (onRow x0 planes y (length (now (row .entry))) (vignette (frameAt scale «full_width» «full_height») q))
-        (now (row .entry))) ⌝
-    }
+        (now (row .entry))) ⌝ }
 {
     if full_height <= y {
         return;

@@ -2,10 +2,6 @@
 use borrow.Author.Needs.{needs}
 use Rattle.vignette.proofs.raise_row.Statement.{statement}
 use Rattle.vignette.proofs.raise_row.Tie as tie
-use Rattle.vignette.proofs.raise_row.Reads as reads
-use Rattle.vignette.proofs.raise_row.Lts as lts
-use Rattle.vignette.proofs.raise_pixels.Reads as raise-pixels-reads
-use Rattle.vignette.proofs.raise_samples.Reads as raise-samples-reads
 
 raise-samples-requires : tie.Need-raise-samples-requires
 raise-samples-requires c κs = search needs

@@ -4,18 +4,13 @@ use Rattle.vignette.proofs.Literals.{zero-is, infinite}
 use Rattle.vignette.proofs.Reaching.{reach-usable, reach-low, reach-high}
 use Rattle.vignette.proofs.usable_only.Statement.{statement}
 use Rattle.vignette.proofs.usable_only.Tie as tie
-use Rattle.vignette.proofs.usable_only.Reads as reads
-use Rattle.vignette.proofs.usable_only.Lts as lts
 
--- src/lib.rt:49:13
 returns : tie.Need-returns
 returns c = sym (reach-usable _ (rw zero-is at (c .before .if1 .taken)) (rw infinite at (c .if2 .taken)))
 
--- src/lib.rt:44:1
 returns-2 : tie.Need-returns-2
 returns-2 c = sym (reach-high _ (rw zero-is at (c .before .if1 .taken)) (rw infinite at (c .if2 .left)))
 
--- src/lib.rt:44:1
 returns-3 : tie.Need-returns-3
 returns-3 c = sym (reach-low _ (rw zero-is at (c .if1 .left)))
 
