@@ -11,8 +11,8 @@ use lib.Dec.{leb, ltb, eqb}
 use lib.ListN.{length, length-append}
 use Rattle.dng.specs.Repair.{countBelow}
 use Rattle.marks.specs.Marks.{chosen}
-use Rattle.marks.specs.Scratch.{alike, occ, has, Rises}
-use Rattle.marks.proofs.Occ.{by-cases, below-or, equal-or, alike-self, alike-other, alike-is, has-true, has-false, some-has, none-has, has-same, rises-low, rises-less}
+use Rattle.sorts.specs.Sorts.{alike, occ, has, Rises}
+use Rattle.sorts.proofs.Occ.{by-cases, below-or, equal-or, alike-self, alike-other, alike-is, has-true, has-false, some-has, none-has, has-same, rises-low, rises-less}
 
 -- the two values of a test are apart
 pub both : {C : Type 0} {b : Bool} → b ≡ true → b ≡ false → C

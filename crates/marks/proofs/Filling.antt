@@ -14,10 +14,11 @@ use lib.Seq.{take-take, take-append-le, take-suc-set, take-set-le, take-all, len
 use Rattle.dng.specs.Repair.{countBelow}
 use Rattle.marks.specs.declared.Kept.{Kept}
 use Rattle.marks.specs.declared.Kept.the-variants as K
-use Rattle.marks.specs.Scratch.{alike, occ, has, Rises, Climbs, Among, Sorted, Distinct, pastAll, Front, Packed, Gains, Joined, grownTo}
-use Rattle.marks.proofs.Occ.{by-cases, below-or, equal-or, occ-append, occ-parts, occ-some, has-true, has-false, some-has, none-has, has-same, has-append, has-one, rises-more}
+use Rattle.sorts.specs.Sorts.{alike, occ, has, Rises, Climbs, Among, Sorted, Distinct, pastAll}
+use Rattle.marks.specs.Scratch.{Front, Packed, Gains, Joined, grownTo}
+use Rattle.sorts.proofs.Occ.{by-cases, below-or, equal-or, occ-append, occ-parts, occ-some, has-true, has-false, some-has, none-has, has-same, has-append, has-one, rises-more}
 use Rattle.marks.proofs.Chosen.{both, count-le, too-many}
-use Rattle.marks.proofs.Searching.{past-above}
+use Rattle.sorts.proofs.Searching.{past-above}
 
 -- ---- compacting
 
@@ -28,14 +29,9 @@ packed-all top s n t f e =
       same = λ q. ap (λ (k : ℕ). has (take k s) q) e;
     }
 
--- what is held lies in the range that is sorted
-pub held-among : (top : ℕ) (s : List ℕ) (n t : ℕ) → Front top s n t → Among 0 top (take t s)
-held-among top s n t f =
-    record { order = omega arith; low = λ q h. omega arith; high = λ q h. f .below q (some-has (take t s) q h) }
-
-pub packed : (top : ℕ) (s : List ℕ) (n t : ℕ) (y z d : List ℕ) (k : ℕ) → Front top s n t → Sorted 0 (take t s) y → Distinct y z k
-    → length z ≡ length y → Packed top s t (z ++ d) k
-packed top s n t y z d k f r v e =
+pub packed : (top : ℕ) (s : List ℕ) (n t : ℕ) (z d : List ℕ) (k : ℕ) → Front top s n t → Distinct (take t s) z k → length z ≡ length (take t s)
+    → Packed top s t (z ++ d) k
+packed top s n t z d k f v e =
     record {
       front =
         record {
@@ -51,7 +47,7 @@ packed top s n t y z d k f r v e =
     front = take-append-le k z d (omega (arith, v .within))
 
     held : (q : ℕ) → has (take k (z ++ d)) q ≡ has (take t s) q
-    held q = rw front (v .same q ∙ has-same y (take t s) q (λ h. omega (arith, r .same q)) (λ h. omega (arith, r .same q)))
+    held q = rw front (v .same q)
 
 -- ---- placing one position
 

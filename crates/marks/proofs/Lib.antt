@@ -1,5 +1,4 @@
-pub mod Occ
 pub mod Chosen
-pub mod Sorting
-pub mod Searching
 pub mod Filling
+pub mod Joining
+pub mod Listing

@@ -7,7 +7,7 @@ use Rattle.marks.proofs.grown.Statement.{statement}
 use Rattle.marks.proofs.grown.Tie as tie
 use Rattle.marks.proofs.grown.Reads as reads
 use Rattle.marks.proofs.grown.Lts as lts
-use Rattle.marks.proofs.past.Reads as past-reads
+use Rattle.sorts.proofs.past.Reads as past-reads
 
 -- src/lib.rt:158:9
 returns : tie.Need-returns

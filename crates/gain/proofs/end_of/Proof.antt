@@ -1,0 +1,23 @@
+-- `gain::end_of` meets its contract.
+use native.Mathlib.Nat.{mul-le-mul-left}
+use native.Mathlib.Omega.{arith}
+use borrow.Author.Needs.{needs}
+use Rattle.gain.proofs.end_of.Statement.{statement}
+use Rattle.gain.proofs.end_of.Tie as tie
+
+less-requires : tie.Need-less-requires
+less-requires c κs = search needs
+
+mul-least : tie.Need-mul-least
+mul-least c =
+    let a = c .before in
+    omega (arith, a .pre .0, c .less .ensures, mul-le-mul-left (c .less .result) (a .pre .1))
+
+least-requires : tie.Need-least-requires
+least-requires c κs = search needs
+
+returns : tie.Need-returns
+returns c = cc
+
+pub end-of-spec : {M : Type 1} → statement M
+end-of-spec = tie.close (tie.spec less-requires mul-least least-requires returns)

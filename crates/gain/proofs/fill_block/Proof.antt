@@ -1,0 +1,131 @@
+-- `gain::fill_block` meets its contract: the first j entries are filled, and `at` is the next column.
+use Prim.Native.Nat.{ℕ, _+_, _-_, _*_, _≤_, _<_, min}
+use mathlib.Core.Path.{_≡_, sym, _∙_}
+use native.Mathlib.Nat.{mul-le-mul-right}
+use native.Mathlib.Omega.{arith}
+use borrow.Author.Needs.{needs}
+use lib.ListN.{length}
+use Rattle.gain.proofs.Laws.{floor-on}
+use Rattle.gain.proofs.Tables.{Filling, filling-begin, filling-next, in-room}
+use Rattle.gain.proofs.fill_block.Statement.{statement}
+use Rattle.gain.proofs.fill_block.Tie as tie
+
+abbrev Inv-loop : tie.InvT-loop
+Inv-loop hs₀ ts₀ x pitch end full origin spacing n r stop at₀ j₀ hs ts at j = Filling x pitch full origin spacing n hs₀ ts₀ hs ts at j
+
+abbrev μ-loop : tie.MeasureT-loop
+μ-loop hs₀ ts₀ x pitch end full origin spacing n r stop at₀ j₀ hs ts at j = stop - at
+
+abbrev Turn : Type 0
+Turn = tie.In-loop Inv-loop μ-loop
+
+abbrev entry : Turn → tie.Start Inv-loop μ-loop
+entry c = c .before .before .before .before .before .before
+
+-- in a turn, the tables have an entry j, and the column is before the end
+inside : (c : Turn) → c .before .loop .j < length (entry c .args .hs .now)
+inside c =
+    let a = entry c .args in
+    in-room (a .x) (a .pitch) (length (a .hs .now)) (c .before .loop .at) (c .before .loop .j) (c .before .loop .inv .place)
+    (omega (arith, c .loop-test .taken, c .before .before .least .ensures))
+
+ruler-of-requires : tie.Need-ruler-of-requires Inv-loop μ-loop
+ruler-of-requires c κs = search needs
+
+mul-least : tie.Need-mul-least Inv-loop μ-loop
+mul-least c = let a = c .before .before .before in omega (arith, a .pre .pitch32, mul-le-mul-right (a .args .pitch) (a .pre .few))
+
+add-least : tie.Need-add-least Inv-loop μ-loop
+add-least c =
+    let a = c .before .before .before in
+    omega (arith, a .pre .start, a .pre .pitch32, mul-le-mul-right (a .args .pitch) (a .pre .few))
+
+least-requires : tie.Need-least-requires Inv-loop μ-loop
+least-requires c κs = search needs
+
+loop-holds : tie.Need-loop-holds Inv-loop μ-loop
+loop-holds c = filling-begin
+
+cast-place : tie.Need-cast-place Inv-loop μ-loop
+cast-place c = omega (arith, c .loop-test .taken, c .before .before .least .ensures, entry c .pre .end32)
+
+place-requires : tie.Need-place-requires Inv-loop μ-loop
+place-requires c κs = search needs
+
+floor-requires : tie.Need-floor-requires Inv-loop μ-loop
+floor-requires c κs = search needs
+
+mul-hs : tie.Need-mul-hs Inv-loop μ-loop
+mul-hs c = omega (arith, inside (c .before .before), entry (c .before .before) .pre .few)
+
+slice-write-hs : tie.Need-slice-write-hs Inv-loop μ-loop
+slice-write-hs c = omega (arith, inside (c .before .before), c .before .before .before .loop .inv .same-h)
+
+to-f32-requires : tie.Need-to-f32-requires Inv-loop μ-loop
+to-f32-requires c κs = search needs
+
+mul-ts : tie.Need-mul-ts Inv-loop μ-loop
+mul-ts c = let t = c .before .before .before in omega (arith, inside t, entry t .pre .few)
+
+slice-write-ts : tie.Need-slice-write-ts Inv-loop μ-loop
+slice-write-ts c = let t = c .before .before .before in omega (arith, inside t, entry t .pre .same, t .before .loop .inv .same-t)
+
+add-at : tie.Need-add-at Inv-loop μ-loop
+add-at c =
+    let t = c .before .before .before in
+    omega (arith, t .loop-test .taken, t .before .before .least .ensures, entry t .pre .end32, entry t .pre .pitch32)
+
+add-j : tie.Need-add-j Inv-loop μ-loop
+add-j c = let t = c .before .before .before in omega (arith, inside t, entry t .pre .few)
+
+loop-less : tie.Need-loop-less Inv-loop μ-loop
+loop-less c = let t = c .before .before .before in omega (arith, t .loop-test .taken, entry t .pre .spaced)
+
+loop-again : tie.Need-loop-again Inv-loop μ-loop
+loop-again c =
+    let t = c .before .before .before in
+    let u = t .before .loop .inv in
+    filling-next u (omega (arith, inside t, u .same-h)) (omega (arith, inside t, entry t .pre .same, u .same-t))
+    (floor-on _ _ _ _ _ (t .before .before .before .ruler-of .ensures) _ _ (c .before .before .place .ensures) _ _ (c .before .floor .ensures))
+    (c .to-f32 .ensures)
+
+same-length : tie.Need-same-length Inv-loop μ-loop
+same-length c = c .before .loop .inv .same-h
+
+same-length-2 : tie.Need-same-length-2 Inv-loop μ-loop
+same-length-2 c = c .before .loop .inv .same-t
+
+returns : tie.Need-returns Inv-loop μ-loop
+returns c =
+    let u = c .before .loop .inv in
+    (u .filled, record {
+      fits = omega (arith, u .filled .room-h, u .same-h);
+      all = omega (arith, u .place, c .loop-test .left, c .before .before .least .ensures);
+    })
+
+pub fill-block-spec : {M : Type 1} → statement M
+fill-block-spec =
+    tie.close
+    (tie.spec
+    Inv-loop
+    μ-loop
+    ruler-of-requires
+    mul-least
+    add-least
+    least-requires
+    loop-holds
+    cast-place
+    place-requires
+    floor-requires
+    mul-hs
+    slice-write-hs
+    to-f32-requires
+    mul-ts
+    slice-write-ts
+    add-at
+    add-j
+    loop-less
+    loop-again
+    same-length
+    same-length-2
+    returns)

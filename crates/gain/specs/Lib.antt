@@ -1,0 +1,4 @@
+pub mod Blocks
+pub mod Gain
+pub mod Strip
+pub mod Worked
