@@ -6,7 +6,7 @@ use mathlib.Core.Path.{_≡_, refl}
 use lib.Ieee.{binary32, ofInt, add, div, round}
 use Rattle.convert.specs.Convert.{wholeIn}
 use Rattle.dng.specs.Repair.{Tally, moved, sound, steps, tallyOn, tallyAt, soundOn, meanOf}
-use Rattle.marks.specs.Scratch.{occ, has}
+use Rattle.sorts.specs.Sorts.{occ, has}
 
 -- three by three, so that (x, y) has the value 3·y + x + 1
 abbrev nine : (period : ℕ) → (ℕ → Bool) → (x y : ℕ) → Tally
