@@ -10,7 +10,7 @@ use lib.ListN.{length, take}
 use Rattle.dng.specs.declared.Window.{Window}
 use Rattle.dng.specs.Repair.{Tally, complete, sound}
 use Rattle.marks.specs.Marks.{Fits}
-use Rattle.marks.specs.Scratch.{has, Rises}
+use Rattle.sorts.specs.Sorts.{has, Rises}
 use Rattle.means.specs.declared.Step.{Step}
 use Rattle.means.specs.declared.Sum.{Sum}
 use Rattle.means.specs.declared.Neighbour.{Neighbour}

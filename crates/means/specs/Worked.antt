@@ -1,13 +1,12 @@
 -- Worked values of the tallies that the contracts of `means` cite, which the checker computes. Position q of the window has the value q + 1.
 use Prim.Native.Nat.{ℕ, _+_, _*_}
-use mathlib.Core.Bool.{Bool, cond}
+use mathlib.Core.Bool.{Bool}
 use mathlib.Core.List.{[], _∷_}
 use mathlib.Core.Path.{_≡_, refl}
-use lib.Dec.{eqb}
 use lib.Ieee.{binary32, ofInt, add, div, round}
 use Rattle.convert.specs.Convert.{wholeIn}
 use Rattle.dng.specs.Repair.{Tally, moved, sound, steps, tallyOn, tallyAt, soundOn, meanOf}
-use Rattle.marks.specs.Scratch.{occ, has}
+use Rattle.sorts.specs.Sorts.{occ, has}
 
 -- three by three, so that (x, y) has the value 3·y + x + 1
 abbrev nine : (period : ℕ) → (ℕ → Bool) → (x y : ℕ) → Tally
@@ -29,12 +28,8 @@ pub record Worked : Type 0 where
   pub last-column : nine 1 (has (5 ∷ [])) 2 1 ≡ record { sum = wholeIn binary32 27; n = 5 }
   -- every neighbour marked
   pub hemmed : soundOn 3 3 1 (has (0 ∷ 1 ∷ 3 ∷ 4 ∷ [])) 0 0 steps ≡ 0
-  -- the order: 2^24 from the left comes first, and each 1 after it is rounded away
-  pub ordered :
-      tallyAt 3 2 1 (has (1 ∷ [])) (λ xx yy. wholeIn binary32 (cond (eqb (yy * 3 + xx) 0) 16_777_216 1)) 1 0
-      ≡ record { sum = wholeIn binary32 16_777_216; n = 5 }
 
 pub worked : Worked
 unfolding moved sound tallyOn soundOn occ has ofInt add div round
 worked =
-    record { middle = refl; mean = refl; left-marked = refl; corner = refl; far-corner = refl; far-middle = refl; last-column = refl; hemmed = refl; ordered = refl }
+    record { middle = refl; mean = refl; left-marked = refl; corner = refl; far-corner = refl; far-middle = refl; last-column = refl; hemmed = refl }

@@ -8,7 +8,7 @@ ghost use lib.ListN.{length, take};
 ghost use Rattle.convert.specs.Convert.{wholeIn};
 ghost use Rattle.dng.specs.Repair.{sampleAt, steps, moved, soundOn, tallyAt, meanOf};
 ghost use Rattle.marks.specs.Marks.{Fits};
-ghost use Rattle.marks.specs.Scratch.{Rises};
+ghost use Rattle.sorts.specs.Sorts.{Rises};
 ghost use Rattle.means.specs.Looks.{Asks, Looks, tallyOf, marked, pairOf, oneStep, openAt, soundOf};
 use dng::Window;
 
@@ -68,7 +68,7 @@ fn sound_at(marks: &[u32], n: usize, width: usize, height: usize, x: usize, y: u
     if x < width {
         if y < height {
             let q = y * width + x;
-            if marks::find(marks, n, q as u32) {
+            if sorts::find(marks, n, q as u32) {
                 return Neighbour::Missing;
             }
             return Neighbour::At { x, y };
