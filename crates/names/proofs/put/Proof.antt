@@ -1,0 +1,41 @@
+-- `names::put` meets its contract, by whether the opcode is skipped and j is inside. Assumes nothing.
+use denote.Ref.{now}
+use Rattle.dng.specs.Run.{classOf, nameOf}
+use Rattle.names.specs.Names.{skippedIn}
+use Rattle.names.proofs.Laws.{stored, no-room, not-stored}
+use borrow.Author.Needs.{needs}
+use Rattle.names.proofs.put.Statement.{statement}
+use Rattle.names.proofs.put.Tie as tie
+
+skips-requires : tie.Need-skips-requires
+skips-requires c κs = search needs
+
+name-of-requires : tie.Need-name-of-requires
+name-of-requires c κs = search needs
+
+slice-write-names : tie.Need-slice-write-names
+slice-write-names c = search needs
+
+same-length : tie.Need-same-length
+same-length c = search needs
+
+returns : tie.Need-returns
+returns c = let a = c .before .before .before .before .before .args in stored (skippedIn (a .whole) (classOf (a .op))) (now (a .names)) (a .j) (nameOf (a .op)) (c .before .before .before .skips .ensures) (c .before .before .if1 .taken) (c .name-of .ensures)
+
+returns-2 : tie.Need-returns-2
+returns-2 c = let a = c .before .before .before .before .args in no-room (skippedIn (a .whole) (classOf (a .op))) (now (a .names)) (a .j) (nameOf (a .op)) (c .if2 .left)
+
+returns-3 : tie.Need-returns-3
+returns-3 c = let a = c .before .before .before .args in not-stored (skippedIn (a .whole) (classOf (a .op))) (now (a .names)) (a .j) (nameOf (a .op)) (c .before .skips .ensures) (c .if1 .left)
+
+pub put-spec : {M : Type 1} → statement M
+put-spec =
+    tie.close
+    (tie.spec
+    skips-requires
+    name-of-requires
+    slice-write-names
+    same-length
+    returns
+    returns-2
+    returns-3)

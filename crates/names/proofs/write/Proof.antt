@@ -1,0 +1,29 @@
+-- `names::write` meets its contract, by whether there is room. Assumes nothing.
+use Rattle.names.proofs.Laws.{room, no-names}
+use Rattle.names.specs.Names.{skippedIn}
+use Rattle.dng.specs.Run.{namesOf}
+use Rattle.dng.specs.List.{itemsOf}
+use denote.Ref.{now}
+use native.Mathlib.Omega.{arith}
+use mathlib.Core.Path.{_∙_}
+use borrow.Author.Needs.{needs}
+use Rattle.names.proofs.write.Statement.{statement}
+use Rattle.names.proofs.write.Tie as tie
+
+count-requires : tie.Need-count-requires
+count-requires c κs = search needs
+
+put-all-requires : tie.Need-put-all-requires
+put-all-requires c κs = search needs
+
+same-length : tie.Need-same-length
+same-length c = search needs
+
+returns : tie.Need-returns
+returns c = c .before .before .put-all .ensures ∙ room (namesOf (skippedIn (c .before .before .before .before .before .before .before .before .args .whole)) (itemsOf (now (c .before .before .before .before .before .before .before .before .args .list)))) (now (c .before .before .before .before .before .before .before .before .args .names)) (omega arith)
+
+returns-2 : tie.Need-returns-2
+returns-2 c = no-names (namesOf (skippedIn (c .before .before .before .before .args .whole)) (itemsOf (now (c .before .before .before .before .args .list)))) (now (c .before .before .before .before .args .names)) (omega arith)
+
+pub write-spec : {M : Type 1} → statement M
+write-spec = tie.close (tie.spec count-requires put-all-requires same-length returns returns-2)
