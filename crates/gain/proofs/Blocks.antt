@@ -33,6 +33,10 @@ module _ {A : Type 0} where
   unfolding within
   within-high a e g x k v = between-high a e (λ y. g y k) x v
 
+  pub within-agree : (a e : ℕ) (f g : ℕ → ℕ → A → A) (x k : ℕ) (v : A) → f x k v ≡ g x k v → within a e f x k v ≡ within a e g x k v
+  unfolding within between
+  within-agree a e f g x k v h = rw h
+
   -- one block after another
   within-within : (b a e : ℕ) (g : ℕ → ℕ → A → A) (x k : ℕ) (v : A) → b ≤ a → a ≤ e
       → within a e g x k (within b a g x k v) ≡ within b e g x k v

@@ -7,7 +7,7 @@ ghost use Rattle.select.specs.Walks.{walked, Walks};
 ghost use Rattle.dng.specs.Value.{position};
 ghost use Rattle.gain.specs.Gain.{AxisIs, Sized, timesGain};
 ghost use Rattle.gain.specs.Blocks.{within, Fillable, Filled, Counted, Begins};
-ghost use Rattle.gain.specs.Strip.{RulerIs, placeOn, Beside, StripIs, Reaches, PairIs, lineOf, alongStrip};
+ghost use Rattle.gain.specs.Strip.{RulerIs, placeOn, Beside, StripIs, StripAt, Reaches, PairIs, lineOf, alongStrip};
 use dng::Grid;
 use select::Walk;
 
@@ -105,6 +105,17 @@ fn strip_of(v: Axis, columns: u32, planes: u32, m: u32) -> Strip
         last: last_of(columns),
         share: v.share,
     }
+}
+
+// The strip of image row y.
+fn strip_at(y: u32, full: u32, g: Grid, points_v: u32, points_h: u32, map_planes: u32, m: u32) -> Strip
+    requires { ⌜ Sized «points_v» «points_h» «map_planes» m ⌝ }
+    ensures { λ r. ⌜
+        StripAt «points_v» «points_h» (max «map_planes» 1) m (position y full (g .«origin_v») (g .«spacing_v») «points_v») r
+        ⌝ }
+{
+    let v = axis_at(y, full, g.origin_v, g.spacing_v, points_v);
+    strip_of(v, points_h, at_least_one(map_planes), m)
 }
 
 // The gain of map column h between the two rows.
@@ -219,8 +230,7 @@ pub fn gain_row(
         (now (row .entry))
         ⌝ }
 {
-    let v = axis_at(y, full_height, g.origin_v, g.spacing_v, points_v);
-    let s = strip_of(v, points_h, at_least_one(map_planes), m);
+    let s = strip_at(y, full_height, g, points_v, points_h, map_planes, m);
     row_along(row, k, body, s, full_width, g.origin_h, g.spacing_h, points_h);
 }
 
@@ -333,7 +343,6 @@ pub fn gain_block(
         (now (row .entry))
         ⌝ }
 {
-    let v = axis_at(y, full_height, g.origin_v, g.spacing_v, points_v);
-    let s = strip_of(v, points_h, at_least_one(map_planes), m);
+    let s = strip_at(y, full_height, g, points_v, points_h, map_planes, m);
     block_along(row, k, from, w, hs, ts, body, s, full_width, g.origin_h, g.spacing_h, points_h);
 }
