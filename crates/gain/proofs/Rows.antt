@@ -22,7 +22,7 @@ use Rattle.gain.specs.declared.Pair.{Pair}
 use Rattle.gain.specs.Blocks.{within, Filled}
 use Rattle.gain.specs.Gain.{AxisIs, Sized, timesGain}
 use Rattle.gain.specs.Strip.{Beside, StripIs, StripAt, Reaches, PairIs, lineOf, alongStrip}
-use Rattle.gain.proofs.Blocks.{within-in}
+use Rattle.gain.proofs.Blocks.{within-in, within-agree}
 
 -- a value raised by the pair of its own map column is what `alongStrip` says
 pub raised-is : (b : List ℕ) (s : Strip) (full : ℕ) (origin spacing : Float) (n x p : ℕ) (q : Pair) (t v : Float) → PairIs b s q
@@ -151,11 +151,19 @@ walked-agree {A} k g g′ l same =
     at : (x p : ℕ) (v : A) → p ≡ k .plane → g x p v ≡ g′ x p v
     at x p v e = subst (λ (j : ℕ). g x j v ≡ g′ x j v) (sym e) (same x v)
 
--- with the row's own place and the plane's own map plane, it is the rule of a gain map
-pub gained-is : (fr : Frame) (b : List ℕ) (r : Region) (pv ph : ℕ) (g : Grid) (mp y m : ℕ) (k : Walk) (l : List Float)
-    → m ≡ min (k .plane - r .plane) (max mp 1 - 1)
-    → walked k
-    (timesGain b g pv ph (max mp 1) m (fr .fullWidth) (position y (fr .fullHeight) (g .«origin_v») (g .«spacing_v») pv)) l
-    ≡ walked k (gained fr b r pv ph g mp y) l
-unfolding timesGain gained
-gained-is fr b r pv ph g mp y m k l e = walked-agree k _ _ l (λ x v. rw e)
+-- with the row's own place and the plane's own map plane, it is the rule of a gain map: at a sample, in a row, in a block of a row
+module _ (fr : Frame) (b : List ℕ) (r : Region) (pv ph : ℕ) (g : Grid) (mp y m : ℕ) where
+  abbrev rule : ℕ → ℕ → Float → Float
+  rule = timesGain b g pv ph (max mp 1) m (fr .fullWidth) (position y (fr .fullHeight) (g .«origin_v») (g .«spacing_v») pv)
+
+  pub gained-at : (x k : ℕ) (v : Float) → m ≡ min (k - r .plane) (max mp 1 - 1) → rule x k v ≡ gained fr b r pv ph g mp y x k v
+  unfolding timesGain gained
+  gained-at x k v e = rw e
+
+  pub gained-row : (k : Walk) (l : List Float) → m ≡ min (k .plane - r .plane) (max mp 1 - 1)
+      → walked k rule l ≡ walked k (gained fr b r pv ph g mp y) l
+  gained-row k l e = walked-agree k _ _ l (λ x v. gained-at x (k .plane) v e)
+
+  pub gained-block : (k : Walk) (a z : ℕ) (l : List Float) → m ≡ min (k .plane - r .plane) (max mp 1 - 1)
+      → walked k (within a z rule) l ≡ walked k (within a z (gained fr b r pv ph g mp y)) l
+  gained-block k a z l e = walked-agree k _ _ l (λ x v. within-agree a z _ _ x (k .plane) v (gained-at x (k .plane) v e))
