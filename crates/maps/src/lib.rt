@@ -1,1 +1,275 @@
 // Tables, f32 and u16, and polynomials, on one plane of a lent row.
+ghost use mathlib.Core.Path.{_≡_};
+ghost use Prim.Native.Nat.{suc, _+_, _-_, _*_, _≤_, _<_, min};
+ghost use lib.ListN.{length};
+ghost use lib.Ieee.{binary32, mul};
+ghost use Rattle.whole.specs.Whole.{roundHeld};
+ghost use Rattle.select.specs.Walks.{walked, Walks};
+ghost use Rattle.dng.specs.Value.{mapTable, mapTable16, tableAt, mapPolynomial, horner, nought};
+ghost use Rattle.maps.specs.Terms.{termAt, Holds};
+use select::Walk;
+
+// ---- the end of a walk
+
+fn less(a: usize, b: usize) -> usize
+    ensures { λ r. ⌜ r ≡ a - b ⌝ }
+{
+    if b < a { a - b } else { 0 }
+}
+
+fn smaller(a: usize, b: usize) -> usize
+    ensures { λ r. ⌜ r ≡ min a b ⌝ }
+{
+    if a < b { a } else { b }
+}
+
+// Past the last sample that may be touched.
+fn stop_of(k: Walk, n: usize) -> usize
+    requires { ⌜ Walks k n ⌝ }
+    ensures { λ r. ⌜ r ≡ min n ((k .right - k .x0) * k .planes) ⌝ }
+{
+    smaller(n, less(k.right, k.x0) * k.planes)
+}
+
+// ---- entries of a table
+
+fn last_of(n: u32) -> u32
+    ensures { λ r. ⌜ r ≡ n - 1 ⌝ }
+{
+    if 0 < n { n - 1 } else { 0 }
+}
+
+// An entry that may lie across or past the end of the body.
+fn entry(body: &[u8], i: u32) -> u16
+    ensures { λ r. ⌜ r ≡ tableAt (now (body .entry)) i ⌝ }
+{
+    words::u16_at(body, 36 + 2 * (i as usize))
+}
+
+// x, with its bound for the sum below.
+fn wide(x: u8) -> u64
+    ensures { λ r. ⌜ (r ≡ x) × (r < 256) ⌝ }
+{
+    x as u64
+}
+
+// An entry of a body that has the whole table, as every body does that was read: one load, no test.
+fn full_entry(body: &[u8], i: u32) -> u16
+    requires { ⌜ 38 + 2 * i ≤ length (now body) ⌝ }
+    ensures { λ r. ⌜ r ≡ tableAt (now (body .entry)) i ⌝ }
+{
+    let at = 36 + 2 * (i as usize);
+    (wide(body[at]) * 256 + wide(body[at + 1])) as u16
+}
+
+// ---- tables, f32
+
+fn index_of(n: u32, scale: f32, v: f32) -> u32
+    ensures { λ r. ⌜ r ≡ roundHeld (n - 1) (mul binary32 v scale) ⌝ }
+{
+    whole::round_held(v * scale, last_of(n))
+}
+
+fn table_value(body: &[u8], n: u32, scale: f32, v: f32) -> f32
+    ensures { λ r. ⌜ r ≡ mapTable scale n (now (body .entry)) v ⌝ }
+{
+    convert::f32_of_u16(entry(body, index_of(n, scale, v))) / scale
+}
+
+fn full_value(body: &[u8], n: u32, scale: f32, v: f32) -> f32
+    requires { ⌜ (1 ≤ n) × (36 + 2 * n ≤ length (now body)) ⌝ }
+    ensures { λ r. ⌜ r ≡ mapTable scale n (now (body .entry)) v ⌝ }
+{
+    convert::f32_of_u16(full_entry(body, index_of(n, scale, v))) / scale
+}
+
+fn short_row(row: &mut [f32], k: Walk, body: &[u8], n: u32, scale: f32)
+    requires { ⌜ Walks k (length (now row)) ⌝ }
+    ensures { λ _. ⌜ now (row .exit) ≡ walked k (λ x p v. mapTable scale n (now (body .entry)) v) (now (row .entry)) ⌝ }
+{
+    let stop = stop_of(k, row.len());
+    let step = k.pitch * k.planes;
+    let mut i = k.col * k.planes + k.plane;
+    let mut c = k.col;
+    while i < stop {
+        row[i] = table_value(body, n, scale, row[i]);
+        i += step;
+        c += k.pitch;
+    }
+}
+
+fn full_row(row: &mut [f32], k: Walk, body: &[u8], n: u32, scale: f32)
+    requires { ⌜ (Walks k (length (now row))) × (1 ≤ n) × (36 + 2 * n ≤ length (now body)) ⌝ }
+    ensures { λ _. ⌜ now (row .exit) ≡ walked k (λ x p v. mapTable scale n (now (body .entry)) v) (now (row .entry)) ⌝ }
+{
+    let stop = stop_of(k, row.len());
+    let step = k.pitch * k.planes;
+    let mut i = k.col * k.planes + k.plane;
+    let mut c = k.col;
+    while i < stop {
+        row[i] = full_value(body, n, scale, row[i]);
+        i += step;
+        c += k.pitch;
+    }
+}
+
+pub fn table_row(row: &mut [f32], k: Walk, body: &[u8], n: u32, scale: f32)
+    requires { ⌜ (Walks k (length (now row))) × (1 ≤ n) ⌝ }
+    ensures { λ _. ⌜ now (row .exit) ≡ walked k (λ x p v. mapTable scale n (now (body .entry)) v) (now (row .entry)) ⌝ }
+{
+    if 36 + 2 * (n as usize) <= body.len() {
+        full_row(row, k, body, n, scale);
+    } else {
+        short_row(row, k, body, n, scale);
+    }
+}
+
+// ---- tables, u16
+
+fn held_to(v: u16, last: u32) -> u32
+    ensures { λ r. ⌜ r ≡ min v last ⌝ }
+{
+    let w = v as u32;
+    if w < last { w } else { last }
+}
+
+fn table_value16(body: &[u8], n: u32, v: u16) -> u16
+    ensures { λ r. ⌜ r ≡ mapTable16 n (now (body .entry)) v ⌝ }
+{
+    entry(body, held_to(v, last_of(n)))
+}
+
+fn full_value16(body: &[u8], n: u32, v: u16) -> u16
+    requires { ⌜ (1 ≤ n) × (36 + 2 * n ≤ length (now body)) ⌝ }
+    ensures { λ r. ⌜ r ≡ mapTable16 n (now (body .entry)) v ⌝ }
+{
+    full_entry(body, held_to(v, last_of(n)))
+}
+
+fn short_row16(row: &mut [u16], k: Walk, body: &[u8], n: u32)
+    requires { ⌜ Walks k (length (now row)) ⌝ }
+    ensures { λ _. ⌜ now (row .exit) ≡ walked k (λ x p v. mapTable16 n (now (body .entry)) v) (now (row .entry)) ⌝ }
+{
+    let stop = stop_of(k, row.len());
+    let step = k.pitch * k.planes;
+    let mut i = k.col * k.planes + k.plane;
+    let mut c = k.col;
+    while i < stop {
+        row[i] = table_value16(body, n, row[i]);
+        i += step;
+        c += k.pitch;
+    }
+}
+
+fn full_row16(row: &mut [u16], k: Walk, body: &[u8], n: u32)
+    requires { ⌜ (Walks k (length (now row))) × (1 ≤ n) × (36 + 2 * n ≤ length (now body)) ⌝ }
+    ensures { λ _. ⌜ now (row .exit) ≡ walked k (λ x p v. mapTable16 n (now (body .entry)) v) (now (row .entry)) ⌝ }
+{
+    let stop = stop_of(k, row.len());
+    let step = k.pitch * k.planes;
+    let mut i = k.col * k.planes + k.plane;
+    let mut c = k.col;
+    while i < stop {
+        row[i] = full_value16(body, n, row[i]);
+        i += step;
+        c += k.pitch;
+    }
+}
+
+pub fn table_row16(row: &mut [u16], k: Walk, body: &[u8], n: u32)
+    requires { ⌜ (Walks k (length (now row))) × (1 ≤ n) ⌝ }
+    ensures { λ _. ⌜ now (row .exit) ≡ walked k (λ x p v. mapTable16 n (now (body .entry)) v) (now (row .entry)) ⌝ }
+{
+    if 36 + 2 * (n as usize) <= body.len() {
+        full_row16(row, k, body, n);
+    } else {
+        short_row16(row, k, body, n);
+    }
+}
+
+// ---- polynomials
+
+// Nine coefficients, the missing high ones 0.0: a row reads them once.
+struct Terms {
+    c0: f64,
+    c1: f64,
+    c2: f64,
+    c3: f64,
+    c4: f64,
+    c5: f64,
+    c6: f64,
+    c7: f64,
+    c8: f64,
+}
+
+fn term(body: &[u8], degree: u32, k: u32) -> f64
+    ensures { λ r. ⌜ r ≡ termAt degree (now (body .entry)) k ⌝ }
+{
+    if k <= degree { words::f64_at(body, 36 + 8 * (k as usize)) } else { 0.0 }
+}
+
+fn terms_of(body: &[u8], degree: u32) -> Terms
+    ensures { λ r. ⌜ Holds r degree (now (body .entry)) ⌝ }
+{
+    Terms {
+        c0: term(body, degree, 0),
+        c1: term(body, degree, 1),
+        c2: term(body, degree, 2),
+        c3: term(body, degree, 3),
+        c4: term(body, degree, 4),
+        c5: term(body, degree, 5),
+        c6: term(body, degree, 6),
+        c7: term(body, degree, 7),
+        c8: term(body, degree, 8),
+    }
+}
+
+// Horner from 0 over all nine. A 0 above the highest coefficient changes nothing.
+fn along_nine(t: Terms, body: &[u8], degree: u32, x: f64) -> f64
+    requires { ⌜ (Holds t degree (now body)) × (degree ≤ 8) ⌝ }
+    ensures { λ r. ⌜ r ≡ horner (now (body .entry)) x (suc degree) nought ⌝ }
+{
+    let high = (((0.0 * x + t.c8) * x + t.c7) * x + t.c6) * x + t.c5;
+    ((((high * x + t.c4) * x + t.c3) * x + t.c2) * x + t.c1) * x + t.c0
+}
+
+// The same over the low five.
+fn along_five(t: Terms, body: &[u8], degree: u32, x: f64) -> f64
+    requires { ⌜ (Holds t degree (now body)) × (degree ≤ 4) ⌝ }
+    ensures { λ r. ⌜ r ≡ horner (now (body .entry)) x (suc degree) nought ⌝ }
+{
+    ((((0.0 * x + t.c4) * x + t.c3) * x + t.c2) * x + t.c1) * x + t.c0
+}
+
+fn along(t: Terms, body: &[u8], degree: u32, x: f64) -> f64
+    requires { ⌜ (Holds t degree (now body)) × (degree ≤ 8) ⌝ }
+    ensures { λ r. ⌜ r ≡ horner (now (body .entry)) x (suc degree) nought ⌝ }
+{
+    if degree <= 4 { along_five(t, body, degree, x) } else { along_nine(t, body, degree, x) }
+}
+
+// `wide` is the scale as an f64, widened once.
+fn polynomial_value(t: Terms, body: &[u8], degree: u32, scale: f32, wide: f64, v: f32) -> f32
+    requires { ⌜ (Holds t degree (now body)) × (degree ≤ 8) × (wide ≡ scale) ⌝ }
+    ensures { λ r. ⌜ r ≡ mapPolynomial scale degree (now (body .entry)) v ⌝ }
+{
+    let x = convert::widen(v * scale / 65535.0);
+    narrow::to_f32(along(t, body, degree, x) * 65535.0 / wide)
+}
+
+pub fn polynomial_row(row: &mut [f32], k: Walk, body: &[u8], degree: u32, scale: f32)
+    requires { ⌜ (Walks k (length (now row))) × (degree ≤ 8) ⌝ }
+    ensures { λ _. ⌜ now (row .exit) ≡ walked k (λ x p v. mapPolynomial scale degree (now (body .entry)) v) (now (row .entry)) ⌝ }
+{
+    let t = terms_of(body, degree);
+    let wide = convert::widen(scale);
+    let stop = stop_of(k, row.len());
+    let step = k.pitch * k.planes;
+    let mut i = k.col * k.planes + k.plane;
+    let mut c = k.col;
+    while i < stop {
+        row[i] = polynomial_value(t, body, degree, scale, wide, row[i]);
+        i += step;
+        c += k.pitch;
+    }
+}

@@ -1,1 +1,214 @@
-// The mean of the sound neighbours of a marked position.
+// The sum over the sound neighbours of a position, and their mean.
+ghost use mathlib.Core.Path.{_≡_};
+ghost use mathlib.Core.Bool.{true};
+ghost use lib.Ieee.{nan, binary32};
+ghost use mathlib.Core.List.{map};
+ghost use Prim.Native.Nat.{_+_, _*_, _≤_, _<_};
+ghost use lib.ListN.{length, take};
+ghost use Rattle.convert.specs.Convert.{wholeIn};
+ghost use Rattle.dng.specs.Repair.{sampleAt, steps, moved, soundOn, tallyAt, meanOf};
+ghost use Rattle.marks.specs.Marks.{Fits};
+ghost use Rattle.marks.specs.Scratch.{Rises};
+ghost use Rattle.means.specs.Looks.{Asks, Looks, tallyOf, marked, pairOf, oneStep, openAt, soundOf};
+use dng::Window;
+
+// One step to a neighbour, in columns and rows of the period.
+pub struct Step {
+    pub dx: i64,
+    pub dy: i64,
+}
+
+// A sound neighbour's column and row, or none.
+pub enum Neighbour {
+    At { x: usize, y: usize },
+    Missing,
+}
+
+// What the sound neighbours add up to, and how many they are.
+pub struct Sum {
+    pub sum: f32,
+    pub n: u32,
+}
+
+// Left, right, up, down, up-left, down-right, down-left, up-right.
+pub fn steps() -> [Step; 8]
+    ensures { λ r. ⌜ map pairOf r ≡ steps ⌝ }
+{
+    [
+        Step { dx: -1, dy: 0 },
+        Step { dx: 1, dy: 0 },
+        Step { dx: 0, dy: -1 },
+        Step { dx: 0, dy: 1 },
+        Step { dx: -1, dy: -1 },
+        Step { dx: 1, dy: 1 },
+        Step { dx: -1, dy: 1 },
+        Step { dx: 1, dy: -1 },
+    ]
+}
+
+// One coordinate, d steps of the period on; `outside` where that would be below 0.
+fn shifted(at: usize, d: i64, period: usize, outside: usize) -> usize
+    requires { ⌜ (oneStep d ≡ true) × (at ≤ 65536) × (period ≤ 65536) ⌝ }
+    ensures { λ r. ⌜ r ≡ moved at d period outside ⌝ }
+{
+    if d == 0 {
+        return at;
+    }
+    if d == 1 {
+        return at + period;
+    }
+    if at < period { outside } else { at - period }
+}
+
+// Whether the position lies in the window and is not marked.
+fn sound_at(marks: &[u32], n: usize, width: usize, height: usize, x: usize, y: usize) -> Neighbour
+    requires { ⌜ (width ≤ 65536) × (height ≤ 65536) × (n ≤ length (now marks)) × Rises 0 (take n (now marks)) ⌝ }
+    ensures { λ r. ⌜ r ≡ openAt width height (marked (now (marks .entry)) n) x y ⌝ }
+{
+    if x < width {
+        if y < height {
+            let q = y * width + x;
+            if marks::find(marks, n, q as u32) {
+                return Neighbour::Missing;
+            }
+            return Neighbour::At { x, y };
+        }
+    }
+    Neighbour::Missing
+}
+
+// The neighbour one step away, where it is sound.
+fn beside(marks: &[u32], n: usize, w: Window, period: usize, x: usize, y: usize, s: Step) -> Neighbour
+    requires { ⌜ Asks (now marks) n w period x y × ((oneStep (s .dx) ≡ true) × (oneStep (s .dy) ≡ true)) ⌝ }
+    ensures { λ r. ⌜ r ≡ soundOf (w .width) (w .height) period (marked (now (marks .entry)) n) x y (pairOf s) ⌝ }
+{
+    let dx = s.dx;
+    let dy = s.dy;
+    let width = w.width;
+    let height = w.height;
+    let xx = shifted(x, dx, period, width);
+    let yy = shifted(y, dy, period, height);
+    sound_at(marks, n, width, height, xx, yy)
+}
+
+// Where the sample of a plane lies.
+fn place(w: Window, x: usize, y: usize, plane: usize) -> usize
+    requires { ⌜ Fits w × ((x < w .width) × (y < w .height) × (plane < w .planes)) ⌝ }
+    ensures { λ r. ⌜ r ≡ (y * w .stride + x) * w .planes + plane ⌝ }
+{
+    (y * w.stride + x) * w.planes + plane
+}
+
+// The sum of the sound neighbours' samples in one plane, in the order of the steps, from 0.
+pub fn sum_f32(
+    samples: &[f32],
+    marks: &[u32],
+    n: usize,
+    w: Window,
+    period: usize,
+    x: usize,
+    y: usize,
+    plane: usize,
+) -> Sum
+    requires { ⌜ Looks (length (now samples)) (now marks) n w period x y plane ⌝ }
+    ensures {
+        λ r.
+        ⌜ tallyOf r
+            ≡ tallyAt (w .width) (w .height) period (marked (now (marks .entry)) n)
+            (λ xx yy. sampleAt nan w (now (samples .entry)) xx yy plane) x y ⌝
+    }
+{
+    let all = steps();
+    let mut sum: f32 = 0.0;
+    let mut count: u32 = 0;
+    let mut i = 0;
+    while i < 8 {
+        let s = all[i];
+        let near = beside(marks, n, w, period, x, y, s);
+        match near {
+            Neighbour::At { x: xx, y: yy } => {
+                let at = place(w, xx, yy, plane);
+                sum = sum + samples[at];
+                count += 1;
+                i += 1;
+            }
+            Neighbour::Missing => {
+                i += 1;
+            }
+        }
+    }
+    Sum { sum, n: count }
+}
+
+// The same of u16 samples, each exact in an f32.
+pub fn sum_u16(
+    samples: &[u16],
+    marks: &[u32],
+    n: usize,
+    w: Window,
+    period: usize,
+    x: usize,
+    y: usize,
+    plane: usize,
+) -> Sum
+    requires { ⌜ Looks (length (now samples)) (now marks) n w period x y plane ⌝ }
+    ensures {
+        λ r.
+        ⌜ tallyOf r
+            ≡ tallyAt (w .width) (w .height) period (marked (now (marks .entry)) n)
+            (λ xx yy. wholeIn binary32 (sampleAt 0 w (now (samples .entry)) xx yy plane)) x y ⌝
+    }
+{
+    let all = steps();
+    let mut sum: f32 = 0.0;
+    let mut count: u32 = 0;
+    let mut i = 0;
+    while i < 8 {
+        let s = all[i];
+        let near = beside(marks, n, w, period, x, y, s);
+        match near {
+            Neighbour::At { x: xx, y: yy } => {
+                let at = place(w, xx, yy, plane);
+                sum = sum + convert::f32_of_u16(samples[at]);
+                count += 1;
+                i += 1;
+            }
+            Neighbour::Missing => {
+                i += 1;
+            }
+        }
+    }
+    Sum { sum, n: count }
+}
+
+// How many sound neighbours a position has: whether it can be repaired at all depends on the marks only.
+pub fn sound_count(marks: &[u32], n: usize, w: Window, period: usize, x: usize, y: usize) -> u32
+    requires { ⌜ Asks (now marks) n w period x y ⌝ }
+    ensures { λ r. ⌜ r ≡ soundOn (w .width) (w .height) period (marked (now (marks .entry)) n) x y steps ⌝ }
+{
+    let all = steps();
+    let mut count: u32 = 0;
+    let mut i = 0;
+    while i < 8 {
+        let s = all[i];
+        let near = beside(marks, n, w, period, x, y, s);
+        match near {
+            Neighbour::At { x: _, y: _ } => {
+                count += 1;
+                i += 1;
+            }
+            Neighbour::Missing => {
+                i += 1;
+            }
+        }
+    }
+    count
+}
+
+// The mean: one division.
+pub fn mean(s: Sum) -> f32
+    requires { ⌜ s .n ≤ 8 ⌝ }
+    ensures { λ r. ⌜ r ≡ meanOf (tallyOf s) ⌝ }
+{
+    s.sum / convert::f32_of_u16(s.n as u16)
+}

@@ -1,4 +1,8 @@
 // Which rows, columns and planes a region selects, worked out once per row and handed to the steps as a walk.
+// The numbers are those of a region as the list has them: a pitch of 0 counts as 1.
+ghost use mathlib.Core.Path.{_≡_};
+ghost use Prim.Native.Nat.{_+_, _-_, min, max};
+ghost use Rattle.points.specs.Select.{selects, First};
 
 // The selected samples of one plane of a row: the row starts at image column x0 and has `planes` samples to a pixel; the columns left..right are
 // selected, `pitch` apart; the first of them at or after x0 is x0 + col, the `nth` counted from left.
@@ -11,4 +15,67 @@ pub struct Walk {
     pub plane: usize,
     pub col: usize,
     pub nth: usize,
+}
+
+// The first selected column at or after x0: x0 + col, the `nth` counted from left.
+pub struct Start {
+    pub col: usize,
+    pub nth: usize,
+}
+
+pub fn larger(a: usize, b: usize) -> usize
+    ensures { λ r. ⌜ r ≡ max a b ⌝ }
+{
+    if a < b { b } else { a }
+}
+
+pub fn smaller(a: usize, b: usize) -> usize
+    ensures { λ r. ⌜ r ≡ min a b ⌝ }
+{
+    if a < b { a } else { b }
+}
+
+// a − b, or 0 where b is larger.
+pub fn less(a: usize, b: usize) -> usize
+    ensures { λ r. ⌜ r ≡ a - b ⌝ }
+{
+    if b < a { a - b } else { 0 }
+}
+
+// The distance from left, rounded up to whole steps.
+pub fn first_column(left: u32, pitch: u32, x0: u32) -> Start
+    ensures { λ r. ⌜ First left pitch x0 (r .col) (r .nth) ⌝ }
+{
+    let lo = left as usize;
+    let at = x0 as usize;
+    let step = larger(pitch as usize, 1);
+    let start = larger(lo, at);
+    let nth = (start - lo + (step - 1)) / step;
+    Start {
+        col: lo + nth * step - at,
+        nth,
+    }
+}
+
+// Whether a region from top to bottom selects the image row y.
+pub fn row_selected(top: u32, bottom: u32, pitch: u32, y: usize) -> bool
+    ensures { λ r. ⌜ r ≡ selects top bottom pitch y ⌝ }
+{
+    let lo = top as usize;
+    let hi = bottom as usize;
+    let step = larger(pitch as usize, 1);
+    if y < lo {
+        return false;
+    }
+    if hi <= y {
+        return false;
+    }
+    (y - lo) % step == 0
+}
+
+// Past the last plane that a region selects of a window's planes.
+pub fn plane_end(plane: u32, planes: u32, window: usize) -> usize
+    ensures { λ r. ⌜ r ≡ min (plane + planes) window ⌝ }
+{
+    smaller(plane as usize + planes as usize, window)
 }

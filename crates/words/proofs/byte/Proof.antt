@@ -1,25 +1,19 @@
-use lib.ListN.{List·getD-eq-default}
+-- `byte` meets its contract: past the end the byte is 0. Assumes nothing.
 use mathlib.Core.Path.{sym}
+use lib.ListN.{List·getD-eq-default}
 use borrow.Author.Needs.{needs}
 use Rattle.words.proofs.byte.Statement.{statement}
 use Rattle.words.proofs.byte.Tie as tie
-use Rattle.words.proofs.byte.Reads as reads
-use Rattle.words.proofs.byte.Lts as lts
-use Rattle.words.proofs.wide.Reads as wide-reads
 
--- src/lib.rt:26:28
 shared-slice-read-wide : tie.Need-shared-slice-read-wide
 shared-slice-read-wide c = search needs
 
--- src/lib.rt:26:23
 wide-requires : tie.Need-wide-requires
 wide-requires c κs = search needs
 
--- src/lib.rt:23:1
 returns : tie.Need-returns
 returns c = search needs
 
--- src/lib.rt:23:1
 returns-2 : tie.Need-returns-2
 returns-2 c = (sym (List·getD-eq-default (c .before .before .args .s .now) 0 (c .if1 .left)), search needs)
 

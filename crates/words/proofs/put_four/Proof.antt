@@ -1,61 +1,47 @@
-use Rattle.words.proofs.Laws.{put-one, put-next}
+-- `put_four` meets its contract: byte after byte, as the definition puts them. Assumes nothing.
 use native.Mathlib.Omega.{arith}
 use lib.ListN.{length-set}
 use borrow.Author.Needs.{needs}
+use Rattle.words.proofs.Laws.{put-one, put-next}
 use Rattle.words.proofs.put_four.Statement.{statement}
 use Rattle.words.proofs.put_four.Tie as tie
-use Rattle.words.proofs.put_four.Reads as reads
-use Rattle.words.proofs.put_four.Lts as lts
 
--- src/lib.rt:185:13
 cast-s : tie.Need-cast-s
 cast-s c = search needs
 
--- src/lib.rt:185:5
 slice-write-s : tie.Need-slice-write-s
 slice-write-s c = search needs
 
--- src/lib.rt:186:17
 cast-s-2 : tie.Need-cast-s-2
 cast-s-2 c = search needs
 
--- src/lib.rt:186:7
 add-s : tie.Need-add-s
 add-s c = search needs
 
--- src/lib.rt:186:5
 slice-write-s-2 : tie.Need-slice-write-s-2
 slice-write-s-2 c = simp length-set (omega arith)
 
--- src/lib.rt:187:17
 cast-s-3 : tie.Need-cast-s-3
 cast-s-3 c = search needs
 
--- src/lib.rt:187:7
 add-s-2 : tie.Need-add-s-2
 add-s-2 c = search needs
 
--- src/lib.rt:187:5
 slice-write-s-3 : tie.Need-slice-write-s-3
 slice-write-s-3 c = simp length-set (omega arith)
 
--- src/lib.rt:188:17
 cast-s-4 : tie.Need-cast-s-4
 cast-s-4 c = search needs
 
--- src/lib.rt:188:7
 add-s-3 : tie.Need-add-s-3
 add-s-3 c = search needs
 
--- src/lib.rt:188:5
 slice-write-s-4 : tie.Need-slice-write-s-4
 slice-write-s-4 c = simp length-set (omega arith)
 
--- src/lib.rt:181:1
 same-length : tie.Need-same-length
 same-length c = search needs
 
--- src/lib.rt:181:1
 returns : tie.Need-returns
 returns c = put-next 3 _ _ _ (put-next 2 _ _ _ (put-next 1 _ _ _ (put-one _ _ _)))
 

@@ -1,46 +1,35 @@
-use Rattle.words.proofs.Laws.{little-join, little-one}
+-- `two_low` meets its contract: the word is its bytes. Assumes nothing.
 use borrow.Author.Needs.{needs}
+use Rattle.words.proofs.Laws.{little-one, little-next}
 use Rattle.words.proofs.two_low.Statement.{statement}
 use Rattle.words.proofs.two_low.Tie as tie
-use Rattle.words.proofs.two_low.Reads as reads
-use Rattle.words.proofs.two_low.Lts as lts
-use Rattle.words.proofs.wide.Reads as wide-reads
 
--- src/lib.rt:135:11
 shared-slice-read-wide : tie.Need-shared-slice-read-wide
 shared-slice-read-wide c = search needs
 
--- src/lib.rt:135:6
 wide-requires : tie.Need-wide-requires
 wide-requires c κs = search needs
 
--- src/lib.rt:135:27
 add-wide : tie.Need-add-wide
 add-wide c = search needs
 
--- src/lib.rt:135:25
 shared-slice-read-wide-2 : tie.Need-shared-slice-read-wide-2
 shared-slice-read-wide-2 c = search needs
 
--- src/lib.rt:135:20
 wide-requires-2 : tie.Need-wide-requires-2
 wide-requires-2 c κs = search needs
 
--- src/lib.rt:135:20
 mul-result : tie.Need-mul-result
 mul-result c = search needs
 
--- src/lib.rt:135:6
 add-result : tie.Need-add-result
 add-result c = search needs
 
--- src/lib.rt:135:5
 cast-result : tie.Need-cast-result
 cast-result c = search needs
 
--- src/lib.rt:131:1
 returns : tie.Need-returns
-returns c = little-join 1 1 _ _ (little-one _ _ (c .before .before .wide .ensures .0)) (little-one _ _ (c .wide2 .ensures .0))
+returns c = little-next 1 _ _ (little-one _ _ (c .before .before .wide .ensures .0)) (c .wide2 .ensures .0)
 
 pub two-low-spec : {M : Type 1} → statement M
 two-low-spec =

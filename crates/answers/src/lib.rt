@@ -1,0 +1,137 @@
+// The ranges of document 01, its number for each answer, and the verdict.
+use dng::Answer;
+use dng::Numbers;
+use dng::Reading;
+use dng::RowAnswer;
+use dng::RowWindow;
+use dng::Settings;
+use dng::Window;
+ghost use mathlib.Core.Path.{_≡_};
+ghost use Rattle.dng.specs.Answer.{inRange, rowInRange, numbersOf, readingNumbersOf, rowNumbersOf, wholeFrame, wholeRow};
+
+// Whether every number of a window and a period is in its range: refusal 1 where not.
+pub fn in_range(w: Window, period: usize) -> bool
+    ensures { λ r. ⌜ r ≡ inRange w period ⌝ }
+{
+    (w.width <= Window::MAX_SIZE)
+        & ((w.height <= Window::MAX_SIZE)
+            & ((w.stride <= Window::MAX_SIZE)
+                & ((1 <= w.planes)
+                    & ((w.planes <= Window::MAX_PLANES)
+                        & ((w.x0 <= Window::MAX_PLACE)
+                            & ((w.y0 <= Window::MAX_PLACE)
+                                & ((w.full_width <= Window::MAX_PLACE)
+                                    & ((w.full_height <= Window::MAX_PLACE)
+                                        & (period <= Settings::MAX_PERIOD)))))))))
+}
+
+// The same for a lent row of n samples, the row y of the image. The product is asked for only where it cannot wrap.
+pub fn row_in_range(w: RowWindow, y: usize, n: usize) -> bool
+    ensures { λ r. ⌜ r ≡ rowInRange w y n ⌝ }
+{
+    let width = w.width;
+    let planes = w.planes;
+    if Window::MAX_SIZE < width {
+        return false;
+    }
+    if planes < 1 {
+        return false;
+    }
+    if Window::MAX_PLANES < planes {
+        return false;
+    }
+    (w.x0 <= Window::MAX_PLACE)
+        & ((w.full_width <= Window::MAX_PLACE)
+            & ((w.full_height <= Window::MAX_PLACE)
+                & ((y <= RowWindow::MAX_ROW) & (n <= width * planes))))
+}
+
+fn refused(number: u32, entry: usize, opcode: usize) -> Numbers
+    ensures { λ r. ⌜ r ≡ record { number = number; entry = entry; opcode = opcode; names = 0; repaired = 0; left = 0 } ⌝ }
+{
+    Numbers {
+        number: number,
+        entry: entry,
+        opcode: opcode,
+        names: 0,
+        repaired: 0,
+        left: 0,
+    }
+}
+
+// The paper's number and values for an answer of a run.
+pub fn numbers(a: Answer) -> Numbers
+    ensures { λ r. ⌜ r ≡ numbersOf a ⌝ }
+{
+    match a {
+        Answer::Done {
+            names,
+            repaired,
+            left,
+        } => Numbers {
+            number: 0,
+            entry: 0,
+            opcode: 0,
+            names: names,
+            repaired: repaired,
+            left: left,
+        },
+        Answer::Range => refused(1, 0, 0),
+        Answer::Malformed { entry } => refused(2, entry, 0),
+        Answer::NotTaken => refused(3, 0, 0),
+        Answer::Names => refused(4, 0, 0),
+        Answer::Marks { opcode } => refused(5, 0, opcode),
+        Answer::Values { opcode } => refused(6, 0, opcode),
+    }
+}
+
+// The same for reading alone, and for a row.
+pub fn reading_numbers(a: Reading) -> Numbers
+    ensures { λ r. ⌜ r ≡ readingNumbersOf a ⌝ }
+{
+    match a {
+        Reading::Whole { opcodes: _ } => refused(0, 0, 0),
+        Reading::Malformed { after } => refused(2, after, 0),
+    }
+}
+
+pub fn row_numbers(a: RowAnswer) -> Numbers
+    ensures { λ r. ⌜ r ≡ rowNumbersOf a ⌝ }
+{
+    match a {
+        RowAnswer::Done { skipped: _ } => refused(0, 0, 0),
+        RowAnswer::Range => refused(1, 0, 0),
+        RowAnswer::Malformed { entry } => refused(2, entry, 0),
+        RowAnswer::NotTaken => refused(3, 0, 0),
+    }
+}
+
+// The verdict: a frame is whole when a run answers 0 and skips nothing.
+pub fn whole_frame(a: Answer) -> bool
+    ensures { λ r. ⌜ r ≡ wholeFrame a ⌝ }
+{
+    match a {
+        Answer::Done {
+            names,
+            repaired: _,
+            left: _,
+        } => names == 0,
+        Answer::Range => false,
+        Answer::Malformed { entry: _ } => false,
+        Answer::NotTaken => false,
+        Answer::Names => false,
+        Answer::Marks { opcode: _ } => false,
+        Answer::Values { opcode: _ } => false,
+    }
+}
+
+pub fn whole_row(a: RowAnswer) -> bool
+    ensures { λ r. ⌜ r ≡ wholeRow a ⌝ }
+{
+    match a {
+        RowAnswer::Done { skipped } => skipped == 0,
+        RowAnswer::Range => false,
+        RowAnswer::Malformed { entry: _ } => false,
+        RowAnswer::NotTaken => false,
+    }
+}

@@ -1,0 +1,31 @@
+-- `bodies::line` meets its contract, by its test. Assumes nothing.
+use Rattle.bodies.specs.Bodies.{lineOf}
+use Rattle.dng.specs.declared.Parsed.the-variants as P
+use mathlib.Core.Path.{ap, _∙_}
+use Rattle.bodies.proofs.Laws.{values-read, values-not}
+use borrow.Author.Needs.{needs}
+use Rattle.bodies.proofs.line.Statement.{statement}
+use Rattle.bodies.proofs.line.Tie as tie
+
+values-fit-requires : tie.Need-values-fit-requires
+values-fit-requires c κs = search needs
+
+region-requires : tie.Need-region-requires
+region-requires c κs = search needs
+
+word-requires : tie.Need-word-requires
+word-requires c κs = search needs
+
+line-of-requires : tie.Need-line-of-requires
+line-of-requires c κs = search needs
+
+returns : tie.Need-returns
+returns c = ap P.Read (c .line-of .ensures) ∙ values-read _ _ _ 4 (lineOf (c .before .before .before .before .before .before .args .id)) (c .before .before .before .before .values-fit .ensures) (c .before .before .before .if1 .taken) (c .before .before .region .ensures) (c .before .word .ensures)
+
+returns-2 : tie.Need-returns-2
+returns-2 c = values-not _ _ _ 4 (lineOf (c .before .before .before .args .id)) (c .before .values-fit .ensures) (c .if1 .left)
+
+pub line-spec : {M : Type 1} → statement M
+line-spec =
+    tie.close
+    (tie.spec values-fit-requires region-requires word-requires line-of-requires returns returns-2)

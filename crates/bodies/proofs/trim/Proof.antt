@@ -1,0 +1,28 @@
+-- `bodies::trim` meets its contract, by its test. Assumes nothing.
+use Rattle.bodies.proofs.Laws.{trim-short, trim-read}
+use borrow.Author.Needs.{needs}
+use Rattle.bodies.proofs.trim.Statement.{statement}
+use Rattle.bodies.proofs.trim.Tie as tie
+
+returns : tie.Need-returns
+returns c = trim-short _ _ _ (c .if1 .taken)
+
+word-requires : tie.Need-word-requires
+word-requires c κs = search needs
+
+word-requires-2 : tie.Need-word-requires-2
+word-requires-2 c κs = search needs
+
+word-requires-3 : tie.Need-word-requires-3
+word-requires-3 c κs = search needs
+
+word-requires-4 : tie.Need-word-requires-4
+word-requires-4 c κs = search needs
+
+returns-2 : tie.Need-returns-2
+returns-2 c = trim-read _ _ _ (c .before .before .before .before .if1 .left) (c .before .before .before .word .ensures) (c .before .before .word2 .ensures) (c .before .word3 .ensures) (c .word4 .ensures)
+
+pub trim-spec : {M : Type 1} → statement M
+trim-spec =
+    tie.close
+    (tie.spec returns word-requires word-requires-2 word-requires-3 word-requires-4 returns-2)

@@ -1,0 +1,81 @@
+-- `counts::gains_fit` meets its contract: each return says how far the comparisons came. The product of three factors is made only
+-- where that of the first two is within the limit. Assumes nothing.
+use Prim.Native.Nat.{_*_}
+use native.Mathlib.Omega.{arith}
+use Rattle.counts.proofs.Laws.{gains-no, gains-yes, product, grows, below}
+use borrow.Author.Needs.{needs}
+use Rattle.counts.proofs.gains_fit.Statement.{statement}
+use Rattle.counts.proofs.gains_fit.Tie as tie
+
+word-requires : tie.Need-word-requires
+word-requires c κs = search needs
+
+cast-v : tie.Need-cast-v
+cast-v c = search needs
+
+word-requires-2 : tie.Need-word-requires-2
+word-requires-2 c κs = search needs
+
+cast-h : tie.Need-cast-h
+cast-h c = search needs
+
+word-requires-3 : tie.Need-word-requires-3
+word-requires-3 c κs = search needs
+
+planes-of-requires : tie.Need-planes-of-requires
+planes-of-requires c κs = search needs
+
+returns : tie.Need-returns
+returns c = gains-no (product (c .before .before .before .before .word .ensures) (c .before .before .before .word2 .ensures) (c .before .before .word3 .ensures) (c .before .planes-of .ensures)) (λ h i j k. omega arith)
+
+mul-points : tie.Need-mul-points
+mul-points c = record { fits = below 32 32 (search needs) (search needs) }
+
+cast-if2 : tie.Need-cast-if2
+cast-if2 c = search needs
+
+returns-2 : tie.Need-returns-2
+returns-2 c = gains-no (product (c .before .before .before .before .before .word .ensures) (c .before .before .before .before .word2 .ensures) (c .before .before .before .word3 .ensures) (c .before .before .planes-of .ensures)) (λ h i j k. omega (arith, grows (c .before .before .before .before .before .word .result * c .before .before .before .before .word2 .result) _ (c .before .before .planes-of .ensures)))
+
+mul-total : tie.Need-mul-total
+mul-total c = record { fits = omega (arith, below 25 32 {a = c .before .before .before .before .before .word .result * c .before .before .before .before .word2 .result} {b = c .before .before .planes-of .result} (omega arith) (omega arith)) }
+
+returns-3 : tie.Need-returns-3
+returns-3 c = gains-no (product (c .before .before .before .before .before .before .word .ensures) (c .before .before .before .before .before .word2 .ensures) (c .before .before .before .before .word3 .ensures) (c .before .before .before .planes-of .ensures)) (λ h i j k. omega arith)
+
+cast-if4 : tie.Need-cast-if4
+cast-if4 c = search needs
+
+returns-4 : tie.Need-returns-4
+returns-4 c = gains-no (product (c .before .before .before .before .before .before .before .word .ensures) (c .before .before .before .before .before .before .word2 .ensures) (c .before .before .before .before .before .word3 .ensures) (c .before .before .before .before .planes-of .ensures)) (λ h i j k. omega arith)
+
+mul-if5 : tie.Need-mul-if5
+mul-if5 c = search needs
+
+returns-5 : tie.Need-returns-5
+returns-5 c = gains-no (product (c .before .before .before .before .before .before .before .before .word .ensures) (c .before .before .before .before .before .before .before .word2 .ensures) (c .before .before .before .before .before .before .word3 .ensures) (c .before .before .before .before .before .planes-of .ensures)) (λ h i j k. omega arith)
+
+returns-6 : tie.Need-returns-6
+returns-6 c = gains-yes (product (c .before .before .before .before .before .before .before .before .word .ensures) (c .before .before .before .before .before .before .before .word2 .ensures) (c .before .before .before .before .before .before .word3 .ensures) (c .before .before .before .before .before .planes-of .ensures)) (omega arith) (omega arith) (omega arith) (omega arith)
+
+pub gains-fit-spec : {M : Type 1} → statement M
+gains-fit-spec =
+    tie.close
+    (tie.spec
+    word-requires
+    cast-v
+    word-requires-2
+    cast-h
+    word-requires-3
+    planes-of-requires
+    returns
+    mul-points
+    cast-if2
+    returns-2
+    mul-total
+    returns-3
+    cast-if4
+    returns-4
+    mul-if5
+    returns-5
+    returns-6)

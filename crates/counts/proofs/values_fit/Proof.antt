@@ -1,0 +1,35 @@
+-- `counts::values_fit` meets its contract: each return says how far the comparisons came. Assumes nothing.
+use Rattle.counts.proofs.Laws.{values-no, values-yes, below}
+use native.Mathlib.Omega.{arith}
+use borrow.Author.Needs.{needs}
+use Rattle.counts.proofs.values_fit.Statement.{statement}
+use Rattle.counts.proofs.values_fit.Tie as tie
+
+word-requires : tie.Need-word-requires
+word-requires c κs = search needs
+
+cast-n : tie.Need-cast-n
+cast-n c = search needs
+
+returns : tie.Need-returns
+returns c = values-no _ (c .before .word .ensures) (λ h i j. omega arith)
+
+cast-if2 : tie.Need-cast-if2
+cast-if2 c = search needs
+
+returns-2 : tie.Need-returns-2
+returns-2 c = values-no _ (c .before .before .word .ensures) (λ h i j. omega arith)
+
+mul-if3 : tie.Need-mul-if3
+mul-if3 c = record { fits = below 32 32 (search needs) (search needs) }
+
+returns-3 : tie.Need-returns-3
+returns-3 c = values-no _ (c .before .before .before .word .ensures) (λ h i j. omega arith)
+
+returns-4 : tie.Need-returns-4
+returns-4 c = values-yes _ (c .before .before .before .word .ensures) (omega arith) (omega arith) (omega arith)
+
+pub values-fit-spec : {M : Type 1} → statement M
+values-fit-spec =
+    tie.close
+    (tie.spec word-requires cast-n returns cast-if2 returns-2 mul-if3 returns-3 returns-4)

@@ -1,0 +1,52 @@
+-- `counts::warp_fits` meets its contract: each return says how far the comparisons came. Assumes nothing.
+use native.Mathlib.Nat.{add-zero}
+use Rattle.counts.proofs.Laws.{warp-no, warp-yes}
+use native.Mathlib.Omega.{arith}
+use borrow.Author.Needs.{needs}
+use Rattle.counts.proofs.warp_fits.Statement.{statement}
+use Rattle.counts.proofs.warp_fits.Tie as tie
+
+word-requires : tie.Need-word-requires
+word-requires c κs = search needs
+
+cast-n : tie.Need-cast-n
+cast-n c = search needs
+
+returns : tie.Need-returns
+returns c = warp-no (simp add-zero at (c .before .word .ensures)) (λ h i j k. omega arith)
+
+returns-2 : tie.Need-returns-2
+returns-2 c = warp-no (simp add-zero at (c .before .before .word .ensures)) (λ h i j k. omega arith)
+
+returns-3 : tie.Need-returns-3
+returns-3 c = warp-no (simp add-zero at (c .before .before .before .word .ensures)) (λ h i j k. omega arith)
+
+mul-if4 : tie.Need-mul-if4
+mul-if4 c = search needs
+
+add-if4 : tie.Need-add-if4
+add-if4 c = search needs
+
+mul-if4-2 : tie.Need-mul-if4-2
+mul-if4-2 c = search needs
+
+returns-4 : tie.Need-returns-4
+returns-4 c = warp-no (simp add-zero at (c .before .before .before .before .word .ensures)) (λ h i j k. omega arith)
+
+returns-5 : tie.Need-returns-5
+returns-5 c = warp-yes (simp add-zero at (c .before .before .before .before .word .ensures)) (omega arith) (omega arith) (omega arith) (omega arith)
+
+pub warp-fits-spec : {M : Type 1} → statement M
+warp-fits-spec =
+    tie.close
+    (tie.spec
+    word-requires
+    cast-n
+    returns
+    returns-2
+    returns-3
+    mul-if4
+    add-if4
+    mul-if4-2
+    returns-4
+    returns-5)

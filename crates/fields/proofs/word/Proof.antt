@@ -1,0 +1,18 @@
+-- `fields::word` meets its contract. Assumes nothing.
+use mathlib.Core.Path.{_∙_}
+use Rattle.fields.proofs.Laws.{clamped}
+use borrow.Author.Needs.{needs}
+use Rattle.fields.proofs.word.Statement.{statement}
+use Rattle.fields.proofs.word.Tie as tie
+
+place-requires : tie.Need-place-requires
+place-requires c κs = search needs
+
+u32-at-requires : tie.Need-u32-at-requires
+u32-at-requires c κs = search needs
+
+returns : tie.Need-returns
+returns c = c .u32-at .ensures ∙ clamped 4 _ _ (c .before .place .ensures)
+
+pub word-spec : {M : Type 1} → statement M
+word-spec = tie.close (tie.spec place-requires u32-at-requires returns)

@@ -1,0 +1,26 @@
+-- `add_row` meets its contract: the places of the walk, and the run over them. Assumes nothing.
+use mathlib.Core.Path.{refl}
+use borrow.Author.Needs.{needs}
+use lib.Ieee.{add, binary32}
+use Rattle.lines.proofs.add_row.Statement.{statement}
+use Rattle.lines.proofs.add_row.Tie as tie
+use Rattle.lines.proofs.Spanned.{spanned}
+
+span-of-requires : tie.Need-span-of-requires
+span-of-requires c κs = search needs
+
+add-steps-requires : tie.Need-add-steps-requires
+add-steps-requires c κs = search needs
+
+same-length : tie.Need-same-length
+same-length c = search needs
+
+returns : tie.Need-returns
+returns c =
+    let s = c .before .before .before .before .before .before in
+    spanned (s .args .k) (λ j v. add binary32 v (s .args .d)) (λ x p v. add binary32 v (s .args .d)) (s .args .row .now) (s .pre)
+    (c .before .before .before .before .span-of .ensures) (λ m v. refl) _
+    (c .before .before .add-steps .ensures)
+
+pub add-row-spec : {M : Type 1} → statement M
+add-row-spec = tie.close (tie.spec span-of-requires add-steps-requires same-length returns)

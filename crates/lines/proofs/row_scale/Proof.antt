@@ -1,0 +1,19 @@
+-- `row_scale` meets its contract: a missing scale is 1.0. Assumes nothing.
+use mathlib.Core.Path.{_∙_, ap}
+use borrow.Author.Needs.{needs}
+use lib.Ieee.{Float}
+use Rattle.dng.specs.Value.{nth}
+use Rattle.lines.proofs.row_scale.Statement.{statement}
+use Rattle.lines.proofs.row_scale.Tie as tie
+use Rattle.lines.proofs.Literals.{one-is}
+
+value-at-requires : tie.Need-value-at-requires
+value-at-requires c κs = search needs
+
+returns : tie.Need-returns
+returns c =
+    let s = c .before .before in
+    c .value-at .ensures ∙ ap (λ (x : Float). nth (s .args .n) (s .args .body .now) x (s .args .i)) one-is
+
+pub row-scale-spec : {M : Type 1} → statement M
+row-scale-spec = tie.close (tie.spec value-at-requires returns)

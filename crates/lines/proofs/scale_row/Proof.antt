@@ -1,0 +1,26 @@
+-- `scale_row` meets its contract: the places of the walk, and the run over them. Assumes nothing.
+use mathlib.Core.Path.{refl}
+use borrow.Author.Needs.{needs}
+use Rattle.dng.specs.Value.{scaled}
+use Rattle.lines.proofs.scale_row.Statement.{statement}
+use Rattle.lines.proofs.scale_row.Tie as tie
+use Rattle.lines.proofs.Spanned.{spanned}
+
+span-of-requires : tie.Need-span-of-requires
+span-of-requires c κs = search needs
+
+scale-steps-requires : tie.Need-scale-steps-requires
+scale-steps-requires c κs = search needs
+
+same-length : tie.Need-same-length
+same-length c = search needs
+
+returns : tie.Need-returns
+returns c =
+    let s = c .before .before .before .before .before .before in
+    spanned (s .args .k) (λ j v. scaled (s .args .s) v) (λ x p v. scaled (s .args .s) v) (s .args .row .now) (s .pre)
+    (c .before .before .before .before .span-of .ensures) (λ m v. refl) _
+    (c .before .before .scale-steps .ensures)
+
+pub scale-row-spec : {M : Type 1} → statement M
+scale-row-spec = tie.close (tie.spec span-of-requires scale-steps-requires same-length returns)

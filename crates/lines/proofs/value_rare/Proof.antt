@@ -1,0 +1,20 @@
+-- `value_rare` meets its contract: the value there, or the missing one. Assumes nothing.
+use borrow.Author.Needs.{needs}
+use borrow.Author.Tests.{lt-ltb, le-ltb}
+use Rattle.lines.proofs.value_rare.Statement.{statement}
+use Rattle.lines.proofs.value_rare.Tie as tie
+use Rattle.lines.specs.Bytes.{valueFrom}
+
+f32-at-requires : tie.Need-f32-at-requires
+f32-at-requires c κs = search needs
+
+returns : tie.Need-returns
+unfolding valueFrom
+returns c = rw (lt-ltb _ _ (c .before .if1 .taken)) (c .f32-at .ensures)
+
+returns-2 : tie.Need-returns-2
+unfolding valueFrom
+returns-2 c = rw (le-ltb _ _ (c .if1 .left))
+
+pub value-rare-spec : {M : Type 1} → statement M
+value-rare-spec = tie.close (tie.spec f32-at-requires returns returns-2)

@@ -1,0 +1,28 @@
+-- `full_value` meets its contract: the definition's steps, one after another. The rounded number is at most the last, so the entry is inside.
+-- Assumes nothing.
+use Prim.Native.Nat.{_-_}
+use native.Mathlib.Omega.{arith}
+use borrow.Author.Needs.{needs}
+use lib.Ieee.{binary32, mul}
+use Rattle.whole.proofs.Laws.{round-le}
+use Rattle.dng.specs.Value.{mapTable}
+use Rattle.maps.proofs.full_value.Statement.{statement}
+use Rattle.maps.proofs.full_value.Tie as tie
+
+index-of-requires : tie.Need-index-of-requires
+index-of-requires c κs = search needs
+
+full-entry-requires : tie.Need-full-entry-requires
+full-entry-requires c κs =
+    let a = c .before .before .args in
+    omega (arith, c .index-of .ensures, round-le (a .n - 1) (mul binary32 (a .v) (a .scale)))
+
+f32-of-u16-requires : tie.Need-f32-of-u16-requires
+f32-of-u16-requires c κs = search needs
+
+returns : tie.Need-returns
+unfolding mapTable
+returns c = cc
+
+pub full-value-spec : {M : Type 1} → statement M
+full-value-spec = tie.close (tie.spec index-of-requires full-entry-requires f32-of-u16-requires returns)

@@ -1,0 +1,25 @@
+-- `stop_of` meets its contract: the product fits, since a right end is below 2^32. Assumes nothing.
+use Prim.Native.Nat.{ℕ, _*_, min}
+use mathlib.Core.Path.{ap, _∙_}
+use borrow.Author.Needs.{needs}
+use native.Mathlib.Omega.{arith}
+use Rattle.maps.proofs.Sizes.{by-planes}
+use Rattle.maps.proofs.stop_of.Statement.{statement}
+use Rattle.maps.proofs.stop_of.Tie as tie
+
+less-requires : tie.Need-less-requires
+less-requires c κs = search needs
+
+mul-smaller : tie.Need-mul-smaller
+mul-smaller c = omega (arith, by-planes (c .before .before .pre) (c .before .less .result), c .before .less .ensures, c .before .before .pre .right32)
+
+smaller-requires : tie.Need-smaller-requires
+smaller-requires c κs = search needs
+
+returns : tie.Need-returns
+returns c =
+    let s = c .before .before .before in
+    c .smaller .ensures ∙ ap (λ (q : ℕ). min (s .args .n) (q * s .args .k .planes)) (c .before .before .less .ensures)
+
+pub stop-of-spec : {M : Type 1} → statement M
+stop-of-spec = tie.close (tie.spec less-requires mul-smaller smaller-requires returns)

@@ -1,0 +1,24 @@
+-- `term` meets its contract: the coefficient that is there, or 0. Assumes nothing.
+use mathlib.Core.Path.{_∙_, sym}
+use borrow.Author.Needs.{needs}
+use Rattle.maps.proofs.Horner.{term-in, term-out, from-zero}
+use Rattle.maps.proofs.term.Statement.{statement}
+use Rattle.maps.proofs.term.Tie as tie
+
+mul-f64-at : tie.Need-mul-f64-at
+mul-f64-at c = search needs
+
+add-f64-at : tie.Need-add-f64-at
+add-f64-at c = search needs
+
+f64-at-requires : tie.Need-f64-at-requires
+f64-at-requires c κs = search needs
+
+returns : tie.Need-returns
+returns c = c .f64-at .ensures ∙ sym (term-in _ _ _ (c .before .if1 .taken))
+
+returns-2 : tie.Need-returns-2
+returns-2 c = from-zero ∙ sym (term-out _ _ _ (c .if1 .left))
+
+pub term-spec : {M : Type 1} → statement M
+term-spec = tie.close (tie.spec mul-f64-at add-f64-at f64-at-requires returns returns-2)

@@ -1,0 +1,4 @@
+pub mod Chosen
+pub mod Filling
+pub mod Joining
+pub mod Listing

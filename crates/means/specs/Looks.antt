@@ -1,0 +1,60 @@
+-- What a sum over sound neighbours asks of its caller and answers, and the steps and neighbours as the code has them.
+-- Document 01, 'What each does to a value', Repair.
+use Prim.Native.Nat.{ℕ, _+_, _*_, _≤_, _<_}
+use mathlib.Core.Bool.{Bool, true, not, _&&_, cond}
+use mathlib.Core.List.{List}
+use mathlib.Core.Path.{_≡_}
+use lib.Dec.{leb, ltb, eqb}
+use lib.IntN.{ℤ, pos, negsuc}
+use lib.ListN.{length, take}
+use Rattle.dng.specs.declared.Window.{Window}
+use Rattle.dng.specs.Repair.{Tally, complete, sound}
+use Rattle.marks.specs.Marks.{Fits}
+use Rattle.marks.specs.Scratch.{has, Rises}
+use Rattle.means.specs.declared.Step.{Step}
+use Rattle.means.specs.declared.Sum.{Sum}
+use Rattle.means.specs.declared.Neighbour.{Neighbour}
+use Rattle.means.specs.declared.Neighbour.the-variants as N
+
+-- the position lies in the window, the period is in range, and the first n entries of the scratch ascend
+pub record Asks (marks : List ℕ) (n : ℕ) (w : Window) (period x y : ℕ) : Type 0 where
+  pub fits : Fits w
+  pub column : x < w .width
+  pub row : y < w .height
+  pub step : 1 ≤ period
+  pub far : period ≤ 65536
+  pub held : n ≤ length marks
+  pub rises : Rises 0 (take n marks)
+
+-- and the window's samples are all there, among them those of the plane
+pub record Looks (samples : ℕ) (marks : List ℕ) (n : ℕ) (w : Window) (period x y plane : ℕ) : Type 0 where
+  pub asks : Asks marks n w period x y
+  pub full : complete w samples ≡ true
+  pub layer : plane < w .planes
+
+-- the first n entries as marks
+abbrev pub marked : List ℕ → ℕ → ℕ → Bool
+marked marks n = has (take n marks)
+
+-- a sum and its count as the definition has them
+abbrev pub tallyOf : Sum → Tally
+tallyOf s = record { sum = s .sum; n = s .n }
+
+-- ---- the parts
+
+-- a step of the code as the definition has it
+abbrev pub pairOf : Step → ℤ × ℤ
+pairOf s = (s .dx, s .dy)
+
+-- back, none, or on
+unfoldable pub oneStep : ℤ → Bool
+oneStep (pos k) = leb k 1
+oneStep (negsuc k) = eqb k 0
+
+-- the position (x, y), where it lies in the window and is not marked
+unfoldable pub openAt : (width height : ℕ) → (ℕ → Bool) → (x y : ℕ) → Neighbour
+openAt width height bad x y = cond (ltb x width && (ltb y height && not (bad (y * width + x)))) (N.At x y) N.Missing
+
+-- the neighbour one step away, where it is sound
+unfoldable pub soundOf : (width height period : ℕ) → (ℕ → Bool) → (x y : ℕ) → ℤ × ℤ → Neighbour
+soundOf width height period bad x y d = sound width height period bad x y d (λ xx yy. N.At xx yy) N.Missing

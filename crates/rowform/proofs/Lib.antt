@@ -1,0 +1,7 @@
+pub mod Place
+pub mod Rows
+pub mod Fused
+pub mod Calls
+pub mod Order
+pub mod Theorem
+pub mod Worked

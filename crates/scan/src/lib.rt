@@ -1,0 +1,1 @@
+// The positions of a window whose plane 0 equals a constant, in the u32 scratch.

@@ -1,0 +1,3 @@
+pub mod RoundUp
+pub mod Steps
+pub mod Worked

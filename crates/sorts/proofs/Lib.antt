@@ -1,0 +1,3 @@
+pub mod Occ
+pub mod Sorting
+pub mod Searching

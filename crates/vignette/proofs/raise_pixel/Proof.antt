@@ -1,0 +1,83 @@
+-- `raise_pixel` meets its contract: each turn is one store of the run from a up to e. Assumes nothing.
+use Prim.Native.Nat.{_-_, _≤_}
+use mathlib.Core.Path.{_≡_, refl, sym, ap, _∙_}
+use native.Mathlib.Omega.{arith}
+use lib.Ieee.{nan, binary32, mul}
+use lib.ListN.{length}
+use Rattle.points.specs.Points.{each, between}
+use Rattle.points.proofs.Each.{length-each}
+use Rattle.points.proofs.Parts.{each-between-empty, store}
+use Rattle.vignette.proofs.raise_pixel.Statement.{statement}
+use Rattle.vignette.proofs.raise_pixel.Tie as tie
+use Rattle.vignette.proofs.raise_pixel.Reads as reads
+use Rattle.vignette.proofs.raise_pixel.Lts as lts
+
+abbrev Inv-loop : tie.InvT-loop
+Inv-loop row₀ a e g i₀ row i =
+    (row ≡ each (between a i (λ j v. mul binary32 v g)) row₀) × (a ≤ i) × (i ≤ e) × (length row ≡ length row₀)
+
+abbrev μ-loop : tie.MeasureT-loop
+μ-loop row₀ a e g i₀ row i = e - i
+
+-- src/lib.rt:78:5
+loop-holds : tie.Need-loop-holds Inv-loop μ-loop
+loop-holds c = (sym (each-between-empty _ _ _ _ (omega arith)), omega arith, omega arith, refl)
+
+-- src/lib.rt:79:18
+mul-row : tie.Need-mul-row Inv-loop μ-loop
+mul-row c = omega arith
+
+-- src/lib.rt:79:18
+slice-read-row : tie.Need-slice-read-row Inv-loop μ-loop
+slice-read-row c = omega arith
+
+-- src/lib.rt:79:9
+mul-row-2 : tie.Need-mul-row-2 Inv-loop μ-loop
+mul-row-2 c = omega arith
+
+-- src/lib.rt:79:9
+slice-write-row : tie.Need-slice-write-row Inv-loop μ-loop
+slice-write-row c = omega arith
+
+-- src/lib.rt:80:9
+add-i : tie.Need-add-i Inv-loop μ-loop
+add-i c = omega arith
+
+-- src/lib.rt:78:5
+loop-less : tie.Need-loop-less Inv-loop μ-loop
+loop-less c = omega arith
+
+-- src/lib.rt:78:5
+loop-again : tie.Need-loop-again Inv-loop μ-loop
+loop-again c =
+    let u = c .before .before .loop .inv in
+    let grown = store nan _ _ _ _ _ _ (u .0) refl (u .1) (omega arith) in
+    (grown, omega arith, omega arith, ap length grown ∙ length-each _ _)
+
+-- src/lib.rt:73:1
+same-length : tie.Need-same-length Inv-loop μ-loop
+same-length c = omega arith
+
+-- src/lib.rt:73:1
+returns : tie.Need-returns Inv-loop μ-loop
+returns c =
+    let u = c .before .loop .inv in
+    let end : c .before .loop .i ≡ c .before .before .args .e = omega arith in
+    rw end at (u .0)
+
+pub raise-pixel-spec : {M : Type 1} → statement M
+raise-pixel-spec =
+    tie.close
+    (tie.spec
+    Inv-loop
+    μ-loop
+    loop-holds
+    mul-row
+    slice-read-row
+    mul-row-2
+    slice-write-row
+    add-i
+    loop-less
+    loop-again
+    same-length
+    returns)

@@ -1,0 +1,3 @@
+pub mod Reach
+pub mod Rows
+pub mod Worked

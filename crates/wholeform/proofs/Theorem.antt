@@ -1,0 +1,73 @@
+-- Demand 3 for the whole-number form: it equals widen, run at scale 1, round once and hold. Assumes nothing.
+use Prim.Native.Nat.{ℕ, _≤_, _<_}
+use mathlib.Core.Path.{_≡_, refl, sym, ap, ap₂, _∙_}
+use mathlib.Core.Bool.{Bool, true, cond}
+use mathlib.Core.List.{List}
+use borrow.Author.Tests.{leb-true, le-leb}
+use lib.Dec.{leb}
+use lib.Ieee.{Float}
+use lib.ListN.{length}
+use Rattle.dng.specs.declared.Window.{Window}
+use Rattle.dng.specs.declared.Reading.{Reading}
+use Rattle.dng.specs.declared.Reading.the-variants as R
+use Rattle.dng.specs.declared.Answer.the-variants as Ans
+use Rattle.dng.specs.List.{Item, readingOf, itemsOf}
+use Rattle.dng.specs.Value.{one}
+use Rattle.dng.specs.Run.{Class, Kind, f32Kind, u16Kind, skipped, skipped16, takes16, namesOf, going, Room, performAll}
+use Rattle.dng.specs.Answer.{Out, inRange, unchanged, finished, ranOn, readOut, runOut, takesAll, frameOf}
+use Rattle.wholeform.specs.WholeForm.{Whole-form, widened, narrowed, atOne}
+use Rattle.wholeform.proofs.Pairs.{pairs-widened, pairs-narrowed}
+use Rattle.wholeform.proofs.Marks.{and-first, and-second}
+use Rattle.wholeform.proofs.Run.{kind32, runs}
+use Rattle.wholeform.proofs.Names.{names-without}
+
+some-planes : (w : Window) (period : ℕ) → inRange w period ≡ true → 0 < w .planes
+unfolding inRange
+some-planes w period e =
+    leb-true 1 (w .planes)
+    (and-first (leb 1 (w .planes)) _
+    (and-second (leb (w .stride) 65536) _ (and-second (leb (w .height) 65536) _ (and-second (leb (w .width) 65536) _ e))))
+
+at-one : (period : ℕ) → atOne period .scale ≡ one
+at-one period = refl
+
+-- a run that nothing refuses, in either form
+run-is : {A : Type 0} (kind : Kind A) (takes : List Item → Bool) (skip : Class → Bool) (w : Window) (period : ℕ) (room : Room)
+    (list : List ℕ) (s : List A) (names : List ℕ) (n : ℕ)
+    → inRange w period ≡ true → readingOf list ≡ R.Whole n → takes (itemsOf list) ≡ true
+    → length (namesOf skip (itemsOf list)) ≤ length names
+    → runOut kind takes skip w period room list s names
+    ≡ finished (namesOf skip (itemsOf list)) names (performAll kind w period room list 0 (itemsOf list) (going s 0 0))
+unfolding runOut ranOn
+run-is {A} kind takes skip w period room list s names n ranges whole taken roomy =
+    ap₂ (λ (z : Bool) (r : Reading). cond z (readOut kind takes skip w period room list s names r) (unchanged Ans.Range s names))
+    ranges whole
+    ∙ ap₂ (λ (y z : Bool). cond y (cond z done (unchanged Ans.Names s names)) (unchanged Ans.NotTaken s names))
+    taken (le-leb (length (namesOf skip (itemsOf list))) (length names) roomy)
+  where
+    done : Out A
+    done = finished (namesOf skip (itemsOf list)) names (performAll kind w period room list 0 (itemsOf list) (going s 0 0))
+
+pub whole-form : Whole-form
+whole-form w period room room′ list s names names′ h =
+    let ends =
+    runs w period room room′ (some-planes w period (h .ranges)) (h .enough) (h .enough′) list (h .bytes) true (itemsOf list) 0
+    s (widened s) 0 0 (h .taken) (pairs-widened s (h .words)) in
+    let out16 : runOut u16Kind takes16 skipped16 w period room list s names
+    ≡ finished (namesOf skipped16 (itemsOf list)) names (going (ends .samples16) (ends .repaired) (ends .left)) =
+    run-is u16Kind takes16 skipped16 w period room list s names (h .opcodes) (h .ranges) (h .whole) (h .taken) (h .roomy)
+    ∙ ap (finished (namesOf skipped16 (itemsOf list)) names) (ends .is16) in
+    let out32 : runOut (f32Kind (frameOf w (atOne period .scale))) takesAll skipped w period room′ list (widened s) names′
+    ≡ finished (namesOf skipped (itemsOf list)) names′ (going (ends .samples32) (ends .repaired) (ends .left)) =
+    ap (λ (z : Float). runOut (f32Kind (frameOf w z)) takesAll skipped w period room′ list (widened s) names′) (at-one period)
+    ∙ run-is (kind32 w) takesAll skipped w period room′ list (widened s) names′ (h .opcodes) (h .ranges) (h .whole) refl (h .roomy′)
+    ∙ ap (finished (namesOf skipped (itemsOf list)) names′) (ends .is32) in
+    record {
+      repaired = ends .repaired;
+      left = ends .left;
+      run16 = ap (λ (o : Out ℕ). o .answer) out16;
+      run32 = ap (λ (o : Out Float). o .answer) out32;
+      samples = ap (λ (o : Out ℕ). o .samples) out16 ∙ pairs-narrowed (ends .samples16) (ends .samples32) (ends .pairs)
+          ∙ sym (ap (λ (o : Out Float). narrowed (o .samples)) out32);
+      named = names-without (itemsOf list);
+    }
