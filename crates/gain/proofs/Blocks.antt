@@ -4,7 +4,7 @@ use Prim.Native.Nat.{ℕ, _+_, _-_, _*_, _/_, _%_, _≤_, _<_, min, max}
 use mathlib.Core.Path.{_≡_, refl, sym, ap, _∙_}
 use mathlib.Core.Bool.{Bool, true, false, cond}
 use mathlib.Core.List.{List, [], _∷_}
-use native.Mathlib.Nat.{add-mul, mul-le-mul-right, lt-of-mul-lt-mul-right, div-mul-le-self, le-div-iff-mul-le, div-lt-iff-lt-mul}
+use native.Mathlib.Nat.{add-mul, zero-mul, one-mul, mul-le-mul-right, lt-of-mul-lt-mul-right, div-mul-le-self, le-div-iff-mul-le, div-lt-iff-lt-mul}
 use native.Mathlib.Omega.{arith}
 use lib.Dec.{leb, ltb}
 use lib.ListN.{length}
@@ -13,10 +13,10 @@ use Rattle.points.specs.Select.{selects, inRow, onColumns, First}
 use Rattle.points.proofs.Each.{below-or, each-agree, each-none, each-each}
 use Rattle.points.proofs.Parts.{before-in, before-out, between-in, between-low, between-high}
 use Rattle.points.proofs.Select.{selects-high, on-unselected}
-use Rattle.points.proofs.Walk.{in-row, Upto}
+use Rattle.points.proofs.Walk.{in-row, first-bound, Upto}
 use Rattle.select.specs.declared.Walk.{Walk}
 use Rattle.select.specs.Walks.{walked, Walks}
-use Rattle.gain.specs.Blocks.{within}
+use Rattle.gain.specs.Blocks.{within, Begins, Counted}
 
 module _ {A : Type 0} where
   -- ---- the cases of `within`
@@ -33,8 +33,12 @@ module _ {A : Type 0} where
   unfolding within
   within-high a e g x k v = between-high a e (λ y. g y k) x v
 
+  pub within-agree : (a e : ℕ) (f g : ℕ → ℕ → A → A) (x k : ℕ) (v : A) → f x k v ≡ g x k v → within a e f x k v ≡ within a e g x k v
+  unfolding within between
+  within-agree a e f g x k v h = rw h
+
   -- one block after another
-  within-within : (b a e : ℕ) (g : ℕ → ℕ → A → A) (x k : ℕ) (v : A) → b ≤ a → a ≤ e
+  pub within-within : (b a e : ℕ) (g : ℕ → ℕ → A → A) (x k : ℕ) (v : A) → b ≤ a → a ≤ e
       → within a e g x k (within b a g x k v) ≡ within b e g x k v
   within-within b a e g x k v ba ae =
       below-or x b
@@ -198,3 +202,34 @@ module _ {A : Type 0} where
       ap (inBlocks k g a es) (sym (block-none k a a g l (omega arith)))
       ∙ blocks-are k a a es g l (omega arith) up
       ∙ block-all k a (lastOf a es) g l w (omega arith) past
+
+-- ---- where a block begins
+
+pub begins-first : (k : Walk) (n w : ℕ) → Walks k n → w ≤ 65536 → Begins k (k .col) w
+begins-first k n w is few =
+    record {
+      number = k .nth;
+      here = is .first .here ∙ ap (λ (q : ℕ). k .left + k .nth * q) (omega (arith, is .spaced));
+      near = omega (arith, first-bound _ _ _ _ _ (is .first), is .left32, is .pitch32);
+      few = few;
+    }
+
+-- the block after w columns; `fill_block` says how far that is (`Counted`, `near`)
+pub begins-next : (k : Walk) (from w w′ : ℕ) → Begins k from w → from + w * k .pitch < 8589934592 → w′ ≤ 65536 → Begins k (from + w * k .pitch) w′
+begins-next k from w w′ b near few =
+    record { number = b .number + w; here = omega (arith, b .here, add-mul (b .number) w (k .pitch)); near = near; few = few }
+
+-- there is some column in each block, so that blocks come to an end
+pub some-counted : (x pitch end room w : ℕ) → Counted x pitch end room w → 1 ≤ pitch → 1 ≤ room → x < end → 1 ≤ w
+some-counted x pitch end room w c spaced some h =
+    below-or w 1
+    (λ q.
+    let none : w * pitch ≡ 0 = ap (λ (i : ℕ). i * pitch) (omega arith) ∙ zero-mul pitch in
+    omega (arith, c .all, none, mul-le-mul-right {m = 1} {n = room} pitch some, one-mul pitch))
+    (λ q. q)
+
+-- where the room was not the limit, the end is reached
+pub all-counted : (x pitch end room w : ℕ) → Counted x pitch end room w → w < room → 1 ≤ pitch → end ≤ x + w * pitch
+all-counted x pitch end room w c h spaced =
+    let more : (w + 1) * pitch ≤ room * pitch = mul-le-mul-right pitch (omega arith) in
+    omega (arith, c .all, add-mul w 1 pitch, one-mul pitch)

@@ -21,8 +21,8 @@ use Rattle.gain.specs.declared.Strip.{Strip}
 use Rattle.gain.specs.declared.Pair.{Pair}
 use Rattle.gain.specs.Blocks.{within, Filled}
 use Rattle.gain.specs.Gain.{AxisIs, Sized, timesGain}
-use Rattle.gain.specs.Strip.{Beside, StripIs, Reaches, PairIs, lineOf, alongStrip}
-use Rattle.gain.proofs.Blocks.{within-in}
+use Rattle.gain.specs.Strip.{Beside, StripIs, StripAt, Reaches, PairIs, lineOf, alongStrip}
+use Rattle.gain.proofs.Blocks.{within-in, within-agree}
 
 -- a value raised by the pair of its own map column is what `alongStrip` says
 pub raised-is : (b : List ℕ) (s : Strip) (full : ℕ) (origin spacing : Float) (n x p : ℕ) (q : Pair) (t v : Float) → PairIs b s q
@@ -62,13 +62,13 @@ line-is b v pv ph mp m fv s h a is =
     let far : s .far + h * s .step ≡ 76 + 4 * ((v .upper * ph + h) * mp + m) = place (v .upper) ph h mp m _ _ (is .far-is) (is .step-is) in
     cc
 
-pub along-is : (b : List ℕ) (g : Grid) (v : Axis) (pv ph mp m full : ℕ) (fv : Float) (s : Strip) → AxisIs fv pv v → StripIs v ph mp m s
-    → (x k : ℕ) (w : Float)
-    → alongStrip b s full (g .«origin_h») (g .«spacing_h») ph x k w ≡ timesGain b g pv ph mp m full fv x k w
+-- so that along the strip of its position a row is changed as the definitions say
+pub along-is : (b : List ℕ) (g : Grid) (pv ph mp m full : ℕ) (fv : Float) (s : Strip) → StripAt pv ph mp m fv s → (x k : ℕ) (v : Float)
+    → alongStrip b s full (g .«origin_h») (g .«spacing_h») ph x k v ≡ timesGain b g pv ph mp m full fv x k v
 unfolding alongStrip timesGain gainOf
-along-is b g v pv ph mp m full fv s a is x k w =
+along-is b g pv ph mp m full fv s is x k v =
     let f : Float = position x full (g .«origin_h») (g .«spacing_h») ph in
-    ap₂ (λ (i j : Float). mul binary32 w (mix i j (share f))) (line-is b v pv ph mp m fv s (lower f) a is) (line-is b v pv ph mp m fv s (upper ph f) a is)
+    ap₂ (λ (i j : Float). mul binary32 v (mix i j (share f))) (is .lines b (lower f)) (is .lines b (upper ph f))
 
 -- ---- no position wraps
 
@@ -118,6 +118,17 @@ reaches v ph mp m s b is =
       far = reach (v .upper) ph mp m _ _ _ (b .some) (b .plane) (b .upper-in) (is .far-is) (is .step-is) (is .last-is);
     }
 
+-- the strip of an axis is that of its position
+pub strip-at : (v : Axis) (pv ph mp m n : ℕ) (fv : Float) (s : Strip) → n ≡ max mp 1 → Sized pv ph mp m → AxisIs fv pv v → lower fv ≤ pv - 1
+    → StripIs v ph n m s → StripAt pv ph (max mp 1) m fv s
+strip-at v pv ph mp m n fv s e z a l is =
+    subst (λ (i : ℕ). StripAt pv ph i m fv s) e
+    (record {
+      lines = λ b h. line-is b v pv ph n m fv s h a is;
+      last-is = is .last-is;
+      reaches = reaches v ph n m s (beside v pv ph mp m n fv e z a l) is;
+    })
+
 -- ---- rules that agree on the walk's plane
 
 pub walked-agree : {A : Type 0} (k : Walk) (g g′ : ℕ → ℕ → A → A) (l : List A) → ((x : ℕ) (v : A) → g x (k .plane) v ≡ g′ x (k .plane) v)
@@ -140,19 +151,19 @@ walked-agree {A} k g g′ l same =
     at : (x p : ℕ) (v : A) → p ≡ k .plane → g x p v ≡ g′ x p v
     at x p v e = subst (λ (j : ℕ). g x j v ≡ g′ x j v) (sym e) (same x v)
 
--- along the strip of its position a row is changed as the definitions say
-pub row-is : (b : List ℕ) (g : Grid) (v : Axis) (pv ph mp m full n : ℕ) (fv : Float) (s : Strip) (k : Walk) (l : List Float) → n ≡ max mp 1
-    → AxisIs fv pv v → StripIs v ph n m s
-    → walked k (alongStrip b s full (g .«origin_h») (g .«spacing_h») ph) l ≡ walked k (timesGain b g pv ph (max mp 1) m full fv) l
-row-is b g v pv ph mp m full n fv s k l e a is =
-    walked-agree k _ _ l (λ x w. along-is b g v pv ph n m full fv s a is x (k .plane) w)
-    ∙ ap (λ (j : ℕ). walked k (timesGain b g pv ph j m full fv) l) e
+-- with the row's own place and the plane's own map plane, it is the rule of a gain map: at a sample, in a row, in a block of a row
+module _ (fr : Frame) (b : List ℕ) (r : Region) (pv ph : ℕ) (g : Grid) (mp y m : ℕ) where
+  abbrev rule : ℕ → ℕ → Float → Float
+  rule = timesGain b g pv ph (max mp 1) m (fr .fullWidth) (position y (fr .fullHeight) (g .«origin_v») (g .«spacing_v») pv)
 
--- with the row's own place and the plane's own map plane, it is the rule of a gain map
-pub gained-is : (fr : Frame) (b : List ℕ) (r : Region) (pv ph : ℕ) (g : Grid) (mp y m : ℕ) (k : Walk) (l : List Float)
-    → m ≡ min (k .plane - r .plane) (max mp 1 - 1)
-    → walked k
-    (timesGain b g pv ph (max mp 1) m (fr .fullWidth) (position y (fr .fullHeight) (g .«origin_v») (g .«spacing_v») pv)) l
-    ≡ walked k (gained fr b r pv ph g mp y) l
-unfolding timesGain gained
-gained-is fr b r pv ph g mp y m k l e = walked-agree k _ _ l (λ x v. rw e)
+  pub gained-at : (x k : ℕ) (v : Float) → m ≡ min (k - r .plane) (max mp 1 - 1) → rule x k v ≡ gained fr b r pv ph g mp y x k v
+  unfolding timesGain gained
+  gained-at x k v e = rw e
+
+  pub gained-row : (k : Walk) (l : List Float) → m ≡ min (k .plane - r .plane) (max mp 1 - 1)
+      → walked k rule l ≡ walked k (gained fr b r pv ph g mp y) l
+  gained-row k l e = walked-agree k _ _ l (λ x v. gained-at x (k .plane) v e)
+
+  pub gained-block : (k : Walk) (a z : ℕ) (l : List Float) → m ≡ min (k .plane - r .plane) (max mp 1 - 1)
+      → walked k (within a z rule) l ≡ walked k (within a z (gained fr b r pv ph g mp y)) l
+  gained-block k a z l e = walked-agree k _ _ l (λ x v. within-agree a z _ _ x (k .plane) v (gained-at x (k .plane) v e))

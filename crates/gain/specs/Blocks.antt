@@ -1,5 +1,5 @@
 -- A row done in blocks of columns, whose positions stand in two lent tables. proofs/Blocks says that all blocks, one after another, are the row.
-use Prim.Native.Nat.{ℕ, _+_, _*_, _≤_, _<_, min}
+use Prim.Native.Nat.{ℕ, _+_, _*_, _≤_, _<_, min, max}
 use mathlib.Core.Path.{_≡_}
 use mathlib.Core.List.{List}
 use lib.ListN.{length, getD}
@@ -28,10 +28,11 @@ pub record Fillable (x pitch end nh nt : ℕ) : Type 0 where
   pub few : nh ≤ 65536
   pub same : nh ≤ nt
 
--- w columns are those before `end`, or as many as the tables have room for
+-- the w columns from x on are those before `end`, or as many as there is room for
 pub record Counted (x pitch end room w : ℕ) : Type 0 where
   pub fits : w ≤ room
   pub all : min end (x + room * pitch) ≤ x + w * pitch
+  pub near : x + w * pitch < max x end + pitch
 
 -- column x0 + from of a walk lies on its pitch, and the w columns from there on are not so far that a sum would wrap
 pub record Begins (k : Walk) (from w : ℕ) : Type 0 where

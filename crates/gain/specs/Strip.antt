@@ -6,7 +6,7 @@ use mathlib.Core.Path.{_≡_}
 use mathlib.Core.List.{List}
 use lib.Ieee.{Float, binary32, binary64, sub, mul, div, lt}
 use Rattle.convert.specs.Convert.{wholeIn, heldTo}
-use Rattle.dng.specs.Value.{nought, f32At, mix, position, lower, upper, share}
+use Rattle.dng.specs.Value.{nought, f32At, mix, position, lower, upper, share, lineAt}
 use Rattle.gain.specs.declared.Axis.{Axis}
 use Rattle.gain.specs.declared.Ruler.{Ruler}
 use Rattle.gain.specs.declared.Strip.{Strip}
@@ -51,6 +51,13 @@ pub record Reaches (s : Strip) : Type 0 where
 unfoldable pub lineOf : List ℕ → Strip → ℕ → Float
 lineOf b s h = mix (f32At b (s .near + h * s .step)) (f32At b (s .far + h * s .step)) (s .share)
 
+-- the strip of the row whose position is fv: its lines are those of the map
+pub record StripAt (pv ph mp m : ℕ) (fv : Float) (s : Strip) : Type 0 where
+  pub lines : (b : List ℕ) (h : ℕ) → lineOf b s h ≡ lineAt b pv ph mp m fv h
+  pub last-is : s .last ≡ ph - 1
+  pub reaches : Reaches s
+
+-- the lines of map column q .h and of the next, the second less the first
 pub record PairIs (b : List ℕ) (s : Strip) (q : Pair) : Type 0 where
   pub line : q .a ≡ lineOf b s (q .h)
   pub rise : q .d ≡ sub binary32 (lineOf b s (min (q .h + 1) (s .last))) (lineOf b s (q .h))

@@ -7,7 +7,7 @@ ghost use Rattle.select.specs.Walks.{walked, Walks};
 ghost use Rattle.dng.specs.Value.{position};
 ghost use Rattle.gain.specs.Gain.{AxisIs, Sized, timesGain};
 ghost use Rattle.gain.specs.Blocks.{within, Fillable, Filled, Counted, Begins};
-ghost use Rattle.gain.specs.Strip.{RulerIs, placeOn, Beside, StripIs, Reaches, PairIs, lineOf, alongStrip};
+ghost use Rattle.gain.specs.Strip.{RulerIs, placeOn, Beside, StripIs, StripAt, Reaches, PairIs, lineOf, alongStrip};
 use dng::Grid;
 use select::Walk;
 
@@ -20,6 +20,7 @@ fn last_of(n: u32) -> u32
     if 0 < n { n - 1 } else { 0 }
 }
 
+// A size or a count of 0 counts as 1.
 fn at_least_one(n: u32) -> u32
     ensures { λ r. ⌜ r ≡ max n 1 ⌝ }
 {
@@ -52,11 +53,16 @@ fn ruler_of(full: u32, origin: f64, spacing: f64, n: u32) -> Ruler
     }
 }
 
+// The position of an image coordinate, held to the points; 0 unless the spacing is above 0.
 fn place(at: u32, r: Ruler) -> f64
     ensures { λ f. ⌜ f ≡ placeOn r at ⌝ }
 {
     if r.spacing > 0.0 {
-        convert::held((convert::f64_of_u32(at) / r.full - r.origin) / r.spacing, 0.0, r.last)
+        convert::held(
+            (convert::f64_of_u32(at) / r.full - r.origin) / r.spacing,
+            0.0,
+            r.last,
+        )
     } else {
         0.0
     }
@@ -107,6 +113,25 @@ fn strip_of(v: Axis, columns: u32, planes: u32, m: u32) -> Strip
     }
 }
 
+// The strip of image row y.
+fn strip_at(
+    y: u32,
+    full: u32,
+    g: Grid,
+    points_v: u32,
+    points_h: u32,
+    map_planes: u32,
+    m: u32,
+) -> Strip
+    requires { ⌜ Sized «points_v» «points_h» «map_planes» m ⌝ }
+    ensures { λ r. ⌜
+        StripAt «points_v» «points_h» (max «map_planes» 1) m (position y full (g .«origin_v») (g .«spacing_v») «points_v») r
+        ⌝ }
+{
+    let v = axis_at(y, full, g.origin_v, g.spacing_v, points_v);
+    strip_of(v, points_h, at_least_one(map_planes), m)
+}
+
 // The gain of map column h between the two rows.
 fn line_at(body: &[u8], s: Strip, h: u32) -> f32
     requires { ⌜ Reaches s × (h ≤ s .last) ⌝ }
@@ -151,6 +176,7 @@ fn raised(q: Pair, t: f32, v: f32) -> f32
 
 // ---- one row
 
+// a - b, or 0.
 fn less(a: usize, b: usize) -> usize
     ensures { λ r. ⌜ r ≡ a - b ⌝ }
 {
@@ -171,7 +197,17 @@ fn end_of(len: usize, x0: usize, right: usize, planes: usize) -> usize
     least(len, less(right, x0) * planes)
 }
 
-fn row_along(row: &mut [f32], k: Walk, body: &[u8], s: Strip, full: u32, origin: f64, spacing: f64, n: u32)
+// The selected columns of a row between the lines of a strip. Neighbours mostly lie between the same two map columns, so the pair is kept.
+fn row_along(
+    row: &mut [f32],
+    k: Walk,
+    body: &[u8],
+    s: Strip,
+    full: u32,
+    origin: f64,
+    spacing: f64,
+    n: u32,
+)
     requires { ⌜ Walks k (length (now row)) × Reaches s × (s .last ≡ n - 1) ⌝ }
     ensures { λ _. ⌜ now (row .exit) ≡ walked k (alongStrip (now (body .entry)) s full origin spacing n) (now (row .entry)) ⌝ }
 {
@@ -219,9 +255,17 @@ pub fn gain_row(
         (now (row .entry))
         ⌝ }
 {
-    let v = axis_at(y, full_height, g.origin_v, g.spacing_v, points_v);
-    let s = strip_of(v, points_h, at_least_one(map_planes), m);
-    row_along(row, k, body, s, full_width, g.origin_h, g.spacing_h, points_h);
+    let s = strip_at(y, full_height, g, points_v, points_h, map_planes, m);
+    row_along(
+        row,
+        k,
+        body,
+        s,
+        full_width,
+        g.origin_h,
+        g.spacing_h,
+        points_h,
+    );
 }
 
 // ---- a block of columns: the positions are worked out once and serve every row
@@ -257,7 +301,8 @@ pub fn fill_block(
     j
 }
 
-// The w columns of a row from image column x0 + from on, whose positions the tables have; full, origin, spacing and n say which those are.
+// The w selected columns of a row from image column x0 + from on. Their positions are the tables'; full, origin, spacing and n stand here for the
+// contract alone, which says which positions those are.
 fn block_along(
     row: &mut [f32],
     k: Walk,
@@ -287,7 +332,10 @@ fn block_along(
     let right = k.right;
     let pitch = k.pitch;
     let plane = k.plane;
-    let stop = least(end_of(row.len(), x0, right, planes), (from + w * pitch) * planes);
+    let stop = least(
+        end_of(row.len(), x0, right, planes),
+        (from + w * pitch) * planes,
+    );
     let step = pitch * planes;
     let mut c = from;
     let mut i = c * planes + plane;
@@ -302,7 +350,7 @@ fn block_along(
     }
 }
 
-// One row, one plane, w selected columns from image column x0 + from on, with their positions from `fill_block`.
+// One row, one plane, the w selected columns from image column x0 + from on, with their positions from `fill_block`.
 pub fn gain_block(
     row: &mut [f32],
     k: Walk,
@@ -333,7 +381,19 @@ pub fn gain_block(
         (now (row .entry))
         ⌝ }
 {
-    let v = axis_at(y, full_height, g.origin_v, g.spacing_v, points_v);
-    let s = strip_of(v, points_h, at_least_one(map_planes), m);
-    block_along(row, k, from, w, hs, ts, body, s, full_width, g.origin_h, g.spacing_h, points_h);
+    let s = strip_at(y, full_height, g, points_v, points_h, map_planes, m);
+    block_along(
+        row,
+        k,
+        from,
+        w,
+        hs,
+        ts,
+        body,
+        s,
+        full_width,
+        g.origin_h,
+        g.spacing_h,
+        points_h,
+    );
 }

@@ -68,8 +68,17 @@ past c h x q =
     (λ r.
     let more : (d + 1) * k .planes ≤ e * k .planes = mul-le-mul-right (k .planes) (omega arith) in
     let sum : (d + 1) * k .planes ≡ d * k .planes + k .planes = add-mul d 1 (k .planes) ∙ ap (λ (m : ℕ). d * k .planes + m) (one-mul (k .planes)) in
-    omega (arith, h, more, sum, a .pre .0 .inside, c .before .loop .inv .0 .place, c .loop-test .left, c .before .before .before .least .ensures,
-    c .before .before .before .before .end-of .ensures))
+    omega (
+      arith,
+      h,
+      more,
+      sum,
+      a .pre .0 .inside,
+      c .before .loop .inv .0 .place,
+      c .loop-test .left,
+      c .before .before .before .least .ensures,
+      c .before .before .before .before .end-of .ensures,
+    ))
     (λ r. omega (arith, r, q))
 
 end-of-requires : tie.Need-end-of-requires Inv-loop μ-loop
@@ -88,8 +97,13 @@ add-least c =
 mul-least-2 : tie.Need-mul-least-2 Inv-loop μ-loop
 mul-least-2 c =
     let a = c .before .before .before .before .before in
-    omega (arith, a .pre .0 .pitch32, a .pre .1 .near, mul-le-mul-right (a .args .k .pitch) (a .pre .1 .few),
-    mul-le-mul-left (a .args .from + a .args .w * a .args .k .pitch) (a .pre .0 .few))
+    omega (
+      arith,
+      a .pre .0 .pitch32,
+      a .pre .1 .near,
+      mul-le-mul-right (a .args .k .pitch) (a .pre .1 .few),
+      mul-le-mul-left (a .args .from + a .args .w * a .args .k .pitch) (a .pre .0 .few),
+    )
 
 least-requires : tie.Need-least-requires Inv-loop μ-loop
 least-requires c κs = search needs
@@ -117,9 +131,12 @@ loop-holds : tie.Need-loop-holds Inv-loop μ-loop
 loop-holds c =
     let a = c .before .before .before .before .before .before .before in
     let w = a .pre .0 in
-    let b = a .pre .1 in
-    (upto-from (b .number) (w .some) (b .here ∙ ap (λ (q : ℕ). a .args .k .left + b .number * q) (omega (arith, w .spaced)))
-    (λ x k v h. within-low _ _ _ x k v h), c .pair-at .ensures .0, omega arith)
+    let b = a .pre .1 in (
+      upto-from (b .number) (w .some) (b .here ∙ ap (λ (q : ℕ). a .args .k .left + b .number * q) (omega (arith, w .spaced)))
+          (λ x k v h. within-low _ _ _ x k v h),
+      c .pair-at .ensures .0,
+      omega arith,
+    )
 
 mul-pair-for : tie.Need-mul-pair-for Inv-loop μ-loop
 mul-pair-for c = omega (arith, numbered c, entry c .pre .1 .few)
@@ -181,11 +198,14 @@ loop-again c =
     let a = entry t in
     let w = a .pre .0 in
     let u = t .before .loop .inv in
-    let q = c .before .before .before .pair-for .ensures in
-    (upto-next-by nan _ _ (omega (arith, w .spaced)) refl (w .inside) (u .0) (below t)
-    (c .raised .ensures
-    ∙ block-value _ _ _ _ _ _ _ _ _ _ _ _ (t .before .loop .j) (a .args .k .plane) _ _ _ (q .0) (a .pre .4) (a .pre .2) (w .spaced) (numbered t)
-    (omega (arith, u .2)) (q .1) refl), q .0, omega (arith, u .2, add-mul (t .before .loop .j) 1 (a .args .k .pitch), one-mul (a .args .k .pitch)))
+    let q = c .before .before .before .pair-for .ensures in (
+      upto-next-by nan _ _ (omega (arith, w .spaced)) refl (w .inside) (u .0) (below t)
+          (c .raised .ensures
+          ∙ block-value _ _ _ _ _ _ _ _ _ _ _ _ (t .before .loop .j) (a .args .k .plane) _ _ _ (q .0) (a .pre .4) (a .pre .2) (w .spaced) (numbered t)
+          (omega (arith, u .2)) (q .1) refl),
+      q .0,
+      omega (arith, u .2, add-mul (t .before .loop .j) 1 (a .args .k .pitch), one-mul (a .args .k .pitch)),
+    )
 
 same-length : tie.Need-same-length Inv-loop μ-loop
 same-length c = c .before .loop .inv .0 .same

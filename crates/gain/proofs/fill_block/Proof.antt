@@ -1,5 +1,5 @@
 -- `gain::fill_block` meets its contract: the first j entries are filled, and `at` is the next column.
-use Prim.Native.Nat.{ℕ, _+_, _-_, _*_, _≤_, _<_, min}
+use Prim.Native.Nat.{ℕ, _+_, _-_, _*_, _≤_, _<_, min, max}
 use mathlib.Core.Path.{_≡_, sym, _∙_}
 use native.Mathlib.Nat.{mul-le-mul-right}
 use native.Mathlib.Omega.{arith}
@@ -11,7 +11,8 @@ use Rattle.gain.proofs.fill_block.Statement.{statement}
 use Rattle.gain.proofs.fill_block.Tie as tie
 
 abbrev Inv-loop : tie.InvT-loop
-Inv-loop hs₀ ts₀ x pitch end full origin spacing n r stop at₀ j₀ hs ts at j = Filling x pitch full origin spacing n hs₀ ts₀ hs ts at j
+Inv-loop hs₀ ts₀ x pitch end full origin spacing n r stop at₀ j₀ hs ts at j =
+    Filling x pitch full origin spacing n hs₀ ts₀ hs ts at j × (at < max x end + pitch)
 
 abbrev μ-loop : tie.MeasureT-loop
 μ-loop hs₀ ts₀ x pitch end full origin spacing n r stop at₀ j₀ hs ts at j = stop - at
@@ -26,7 +27,7 @@ entry c = c .before .before .before .before .before .before
 inside : (c : Turn) → c .before .loop .j < length (entry c .args .hs .now)
 inside c =
     let a = entry c .args in
-    in-room (a .x) (a .pitch) (length (a .hs .now)) (c .before .loop .at) (c .before .loop .j) (c .before .loop .inv .place)
+    in-room (a .x) (a .pitch) (length (a .hs .now)) (c .before .loop .at) (c .before .loop .j) (c .before .loop .inv .0 .place)
     (omega (arith, c .loop-test .taken, c .before .before .least .ensures))
 
 ruler-of-requires : tie.Need-ruler-of-requires Inv-loop μ-loop
@@ -44,7 +45,7 @@ least-requires : tie.Need-least-requires Inv-loop μ-loop
 least-requires c κs = search needs
 
 loop-holds : tie.Need-loop-holds Inv-loop μ-loop
-loop-holds c = filling-begin
+loop-holds c = (filling-begin, omega (arith, c .before .before .before .before .pre .spaced))
 
 cast-place : tie.Need-cast-place Inv-loop μ-loop
 cast-place c = omega (arith, c .loop-test .taken, c .before .before .least .ensures, entry c .pre .end32)
@@ -59,7 +60,7 @@ mul-hs : tie.Need-mul-hs Inv-loop μ-loop
 mul-hs c = omega (arith, inside (c .before .before), entry (c .before .before) .pre .few)
 
 slice-write-hs : tie.Need-slice-write-hs Inv-loop μ-loop
-slice-write-hs c = omega (arith, inside (c .before .before), c .before .before .before .loop .inv .same-h)
+slice-write-hs c = omega (arith, inside (c .before .before), c .before .before .before .loop .inv .0 .same-h)
 
 to-f32-requires : tie.Need-to-f32-requires Inv-loop μ-loop
 to-f32-requires c κs = search needs
@@ -68,7 +69,7 @@ mul-ts : tie.Need-mul-ts Inv-loop μ-loop
 mul-ts c = let t = c .before .before .before in omega (arith, inside t, entry t .pre .few)
 
 slice-write-ts : tie.Need-slice-write-ts Inv-loop μ-loop
-slice-write-ts c = let t = c .before .before .before in omega (arith, inside t, entry t .pre .same, t .before .loop .inv .same-t)
+slice-write-ts c = let t = c .before .before .before in omega (arith, inside t, entry t .pre .same, t .before .loop .inv .0 .same-t)
 
 add-at : tie.Need-add-at Inv-loop μ-loop
 add-at c =
@@ -84,24 +85,29 @@ loop-less c = let t = c .before .before .before in omega (arith, t .loop-test .t
 loop-again : tie.Need-loop-again Inv-loop μ-loop
 loop-again c =
     let t = c .before .before .before in
-    let u = t .before .loop .inv in
-    filling-next u (omega (arith, inside t, u .same-h)) (omega (arith, inside t, entry t .pre .same, u .same-t))
-    (floor-on _ _ _ _ _ (t .before .before .before .ruler-of .ensures) _ _ (c .before .before .place .ensures) _ _ (c .before .floor .ensures))
-    (c .to-f32 .ensures)
+    let u = t .before .loop .inv .0 in (
+      filling-next u (omega (arith, inside t, u .same-h)) (omega (arith, inside t, entry t .pre .same, u .same-t))
+          (floor-on _ _ _ _ _ (t .before .before .before .ruler-of .ensures) _ _ (c .before .before .place .ensures) _ _ (c .before .floor .ensures))
+          (c .to-f32 .ensures),
+      omega (arith, t .loop-test .taken, t .before .before .least .ensures),
+    )
 
 same-length : tie.Need-same-length Inv-loop μ-loop
-same-length c = c .before .loop .inv .same-h
+same-length c = c .before .loop .inv .0 .same-h
 
 same-length-2 : tie.Need-same-length-2 Inv-loop μ-loop
-same-length-2 c = c .before .loop .inv .same-t
+same-length-2 c = c .before .loop .inv .0 .same-t
 
 returns : tie.Need-returns Inv-loop μ-loop
 returns c =
-    let u = c .before .loop .inv in
-    (u .filled, record {
-      fits = omega (arith, u .filled .room-h, u .same-h);
-      all = omega (arith, u .place, c .loop-test .left, c .before .before .least .ensures);
-    })
+    let u = c .before .loop .inv .0 in (
+      u .filled,
+      record {
+        fits = omega (arith, u .filled .room-h, u .same-h);
+        all = omega (arith, u .place, c .loop-test .left, c .before .before .least .ensures);
+        near = omega (arith, u .place, c .before .loop .inv .1);
+      },
+    )
 
 pub fill-block-spec : {M : Type 1} → statement M
 fill-block-spec =

@@ -140,11 +140,13 @@ loop-again : tie.Need-loop-again Inv-loop μ-loop
 loop-again c =
     let w = entry (turn c) .pre .0 in
     let f = found (c .before .before .before .before) in
-    let q = c .before .before .before .pair-for .ensures in
-    (upto-next-by nan _ _ (omega (arith, w .spaced)) refl (w .inside) (turn c .before .loop .inv .0) (below (turn c))
-    (c .raised .ensures
-    ∙ raised-is _ _ _ _ _ _ _ (entry (turn c) .args .k .plane) _ _ _ (q .0) (entry (turn c) .pre .2) (q .1 ∙ f .index-is)
-    (c .before .before .to-f32 .ensures ∙ ap narrow (f .rest-is))), q .0)
+    let q = c .before .before .before .pair-for .ensures in (
+      upto-next-by nan _ _ (omega (arith, w .spaced)) refl (w .inside) (turn c .before .loop .inv .0) (below (turn c))
+          (c .raised .ensures
+          ∙ raised-is _ _ _ _ _ _ _ (entry (turn c) .args .k .plane) _ _ _ (q .0) (entry (turn c) .pre .2) (q .1 ∙ f .index-is)
+          (c .before .before .to-f32 .ensures ∙ ap narrow (f .rest-is))),
+      q .0,
+    )
 
 same-length : tie.Need-same-length Inv-loop μ-loop
 same-length c = c .before .loop .inv .0 .same

@@ -1,0 +1,27 @@
+-- `gain::gain_block` meets its contract: along the strip of the row's position the rule is `timesGain`, in the block as in the row.
+use mathlib.Core.Path.{_∙_}
+use borrow.Author.Needs.{needs}
+use Rattle.gain.proofs.Blocks.{within-agree}
+use Rattle.gain.proofs.Rows.{walked-agree, along-is}
+use Rattle.gain.proofs.gain_block.Statement.{statement}
+use Rattle.gain.proofs.gain_block.Tie as tie
+
+strip-at-requires : tie.Need-strip-at-requires
+strip-at-requires c κs = search needs
+
+block-along-requires : tie.Need-block-along-requires
+block-along-requires c κs = search needs
+
+same-length : tie.Need-same-length
+same-length c = search needs
+
+returns : tie.Need-returns
+returns c =
+    let a = c .before .before .before .before .before .before .before .before .before .args in
+    let is = c .before .before .before .before .strip-at .ensures in
+    c .before .before .block-along .ensures
+    ∙ walked-agree (a .k) _ _ _
+    (λ x v. within-agree _ _ _ _ x (a .k .plane) v (along-is _ (a .g) _ _ _ _ (a .full-width) _ _ is x (a .k .plane) v))
+
+pub gain-block-spec : {M : Type 1} → statement M
+gain-block-spec = tie.close (tie.spec strip-at-requires block-along-requires same-length returns)
