@@ -17,7 +17,7 @@ use Rattle.marks.specs.declared.Kept.the-variants as K
 use Rattle.marks.specs.Marks.{chosen}
 use Rattle.sorts.specs.Sorts.{occ, has, Rises, Cut}
 use Rattle.marks.specs.Scratch.{Front, Packed, Gains, Joined, span}
-use Rattle.sorts.proofs.Occ.{by-cases, below-or, equal-or, occ-parts, occ-some, has-true, some-has, rises-take, rises-drop, rises-from}
+use Rattle.sorts.proofs.Occ.{by-cases, below-or, equal-or, occ-parts, occ-at, occ-some, has-true, some-has, rises-take, rises-drop, rises-from, rises-places}
 use Rattle.marks.proofs.Filling.{has-more}
 use Rattle.marks.proofs.Chosen.{both, count-le, count-same, chosen-full, is-chosen}
 
@@ -56,6 +56,10 @@ gains-held top m s n t f h =
 
 pub gains-packed : (top : ℕ) (s : List ℕ) (t : ℕ) (s₁ : List ℕ) (k : ℕ) → Packed top s t s₁ k → Gains top (λ q. false) s t s₁ k k
 gains-packed top s t s₁ k v = record { front = v .front; same = λ q l. v .same q ∙ sym (or-false (has (take t s) q)) }
+
+-- what a step leaves that found room
+pub held-front : (top : ℕ) (m : ℕ → Bool) (s : List ℕ) (t₀ : ℕ) (s₁ : List ℕ) (r : Kept) (n t : ℕ) → r ≡ K.Held n t → Joined top m s t₀ s₁ r → Gains top m s t₀ s₁ n t
+held-front top m s t₀ s₁ r n t e j = subst (λ (x : Kept). Joined top m s t₀ s₁ x) e j
 
 -- one step after another
 pub joined-next : (top : ℕ) (m₁ m₂ m : ℕ → Bool) (s : List ℕ) (t : ℕ) (s₁ : List ℕ) (n₁ t₁ : ℕ) (s₂ : List ℕ) (r : Kept)
@@ -144,6 +148,29 @@ covered l a b i j u v r h e q lo hi =
         (λ x o. (omega (arith, at x o .1), some-has part x o))
         (λ x p k t. has-true part x t)
 
+-- the same, by the number that stands where b - 1 must
+pub covered-by : (s : List ℕ) (n h a b : ℕ) → n ≤ length s → a < b → h + (b - a) - 1 < n → getD s (h + (b - a) - 1) 0 ≡ b - 1
+    → Rises 0 (take n s) → Cut (take n s) a h → (q : ℕ) → a ≤ q → q < b → has (take n s) q ≡ true
+covered-by s n h a b m l k e r u = covered (take n s) a b h (h + (b - a)) u cut r l refl
+  where
+    j : ℕ
+    j = h + (b - a) - 1
+
+    long : length (take n s) ≡ n
+    long = length-take-le n s m
+
+    there : getD (take n s) j 0 ≡ b - 1
+    there = getD-take n s j 0 k ∙ e
+
+    cut : Cut (take n s) b (h + (b - a))
+    cut =
+        record {
+          within = omega (arith, long, k);
+          low = λ _ i g. equal-or i j (λ d. subst (λ (y : ℕ). getD (take n s) y 0 < b) (sym d) (omega (arith, there)))
+              (λ d. omega (arith, there, rises-places 0 (take n s) i j (omega arith) (omega (arith, long, k)) r));
+          high = λ _ i g o. omega (arith, there, rises-places 0 (take n s) j i (omega arith) o r);
+        }
+
 -- ---- a loop of steps: after i of them what f i marks is held besides what was held at the start
 
 pub record Steps (top : ℕ) (f : ℕ → ℕ → Bool) (s₀ : List ℕ) (t₀ : ℕ) (s : List ℕ) (k u i : ℕ) : Type 0 where
@@ -184,6 +211,12 @@ pub span-whole : (a b p q : ℕ) → b ≤ p → p ≤ max a b → span a p q �
 span-whole a b p q h k =
     iff-eq _ _ (λ e. let w = span-is a p q e in span-of a b q (w .0) (omega (arith, w .0, w .1)))
     (λ e. let w = span-is a b q e in span-of a p q (w .0) (omega (arith, w .1)))
+
+-- a position that is entry h of the front
+pub stands-there : (s : List ℕ) (n h p : ℕ) → n ≤ length s → h < n → getD s h 0 ≡ p → has (take n s) p ≡ true
+stands-there s n h p m k e =
+    some-has (take n s) p
+    (subst (λ (y : ℕ). 1 ≤ occ (take n s) y) (getD-take n s h 0 k ∙ e) (occ-at (take n s) h (omega (arith, length-take-le n s m))))
 
 pub run-covered : (top a b : ℕ) (s : List ℕ) (n t : ℕ) → Front top s n t → ((q : ℕ) → a ≤ q → q < b → has (take n s) q ≡ true) → Gains top (span a b) s t s n t
 run-covered top a b s n t f h =

@@ -4,7 +4,7 @@ use Prim.Native.Nat.{ℕ, zero, suc, _+_, _-_, _*_, _/_, _%_, _≤_, _<_, min, m
 use mathlib.Core.Path.{_≡_, refl, sym, ap, ap₂, subst, _∙_}
 use mathlib.Core.Bool.{Bool, true, false, _&&_, _||_, or-comm, and-assoc}
 use mathlib.Core.List.{List, []}
-use native.Mathlib.Nat.{not-suc-le-zero, div-add-mod', mod-lt, div-lt-iff-lt-mul, mul-comm, mul-le-mul, mul-le-mul-right, suc-mul, zero-add}
+use native.Mathlib.Nat.{not-suc-le-zero, le-trans, div-add-mod', mod-lt, le-div-iff-mul-le, div-lt-iff-lt-mul, mul-comm, mul-le-mul, mul-le-mul-right, suc-mul, zero-add}
 use native.Mathlib.Numerals.{add-one}
 use native.Mathlib.Omega.{arith}
 use borrow.Author.Tests.{eq-eqb, eqb-true}
@@ -22,7 +22,7 @@ use Rattle.sorts.specs.Sorts.{occ, has, Rises}
 use Rattle.marks.specs.Scratch.{Front, Packed, Gains, Joined, span, block, Inside, inImage, atPoint, inRect}
 use Rattle.sorts.proofs.Occ.{by-cases, below-or, equal-or, none-has}
 use Rattle.marks.proofs.Chosen.{both, count-le, count-same, chosen-count, is-chosen-has}
-use Rattle.marks.proofs.Joining.{iff-eq, or-cases, or-left, or-right, and-both, and-of, span-of, span-is, gains-held, joined-next, joined-as}
+use Rattle.marks.proofs.Joining.{iff-eq, or-cases, or-left, or-right, and-both, and-of, span-of, span-is, held-front, gains-held, joined-next, joined-as}
 
 -- ---- rows
 
@@ -85,6 +85,24 @@ block-whole width r0 c0 r1 c1 y q h k =
 pub row-in : (width y r1 top c : ℕ) → y < r1 → r1 * width ≤ top → c ≤ width → y * width + c ≤ top
 row-in width y r1 top c h k l = omega (arith, suc-mul y width, mul-le-mul-right {m = suc y} {n = r1} width h)
 
+-- whole rows are one span
+pub block-rows : (width r0 r1 q : ℕ) → 1 ≤ width → span (r0 * width) (r1 * width) q ≡ block width r0 0 r1 width q
+block-rows width r0 r1 q h =
+    let lo = le-div-iff-mul-le {k = width} {x = r0} {y = q} h in
+    let hi = div-lt-iff-lt-mul {k = width} {x = q} {y = r1} h in
+    iff-eq _ _
+    (λ e. let w = span-is (r0 * width) (r1 * width) q e in block-of width r0 0 r1 width q (lo .1 (w .0)) (hi .1 (w .1)) (omega arith) (mod-lt q h))
+    (λ e. let w = block-is width r0 0 r1 width q e in span-of (r0 * width) (r1 * width) q (lo .0 (w .0)) (hi .0 (w .1)))
+
+pub patch-rows : (width r0 c0 r1 c1 top q : ℕ) → Inside width c0 r1 c1 top → c1 - c0 ≡ width → span (r0 * width) (r1 * width) q ≡ block width r0 c0 r1 c1 q
+patch-rows width r0 c0 r1 c1 top q i e =
+    let z : c0 ≡ 0 = omega (arith, i .wide, i .order, i .columns) in
+    let w : c1 ≡ width = omega (arith, i .wide, i .order, i .columns) in
+    rw (z, w) (block-rows width r0 r1 q (i .wide))
+
+pub patch-start : (width r0 c0 r1 c1 top : ℕ) → Inside width c0 r1 c1 top → r0 ≤ r1 → r0 * width ≤ top
+patch-start width r0 c0 r1 c1 top i h = le-trans (mul-le-mul-right width h) (i .rows)
+
 -- ---- image positions, cut to the window
 
 cut-span : (a b o n y : ℕ) → y < n → span a b (o + y) ≡ span (a - o) (min (b - o) n) y
@@ -110,6 +128,11 @@ pub record Cutting (w : Window) (r0 c0 r1 c1 y0 x0 y1 x1 : ℕ) : Type 0 where
   pub bottom : y1 ≡ min (r1 - w .y0) (w .height)
   pub right : x1 ≡ min (c1 - w .x0) (w .width)
 
+pub cutting : (w : Window) (r0 c0 r1 c1 y0 x0 y1 x1 dy dx : ℕ) → y0 ≡ r0 - w .y0 → dy ≡ r1 - w .y0 → y1 ≡ min dy (w .height) → x0 ≡ c0 - w .x0
+    → dx ≡ c1 - w .x0 → x1 ≡ min dx (w .width) → Cutting w r0 c0 r1 c1 y0 x0 y1 x1
+cutting w r0 c0 r1 c1 y0 x0 y1 x1 dy dx a b c d e f =
+    record { top = a; left = d; bottom = c ∙ ap (λ (n : ℕ). min n (w .height)) b; right = f ∙ ap (λ (n : ℕ). min n (w .width)) e }
+
 module _ (w : Window) (r0 c0 r1 c1 y0 x0 y1 x1 : ℕ) (f : Fits w) (v : Cutting w r0 c0 r1 c1 y0 x0 y1 x1) where
   pub cut-marks : (q : ℕ) → q < positions w → block (w .width) y0 x0 y1 x1 q ≡ inImage w r0 c0 r1 c1 q
   cut-marks q l = rw (v .top, v .left, v .bottom, v .right) (cut-window w r0 c0 r1 c1 q (f .wide) l)
@@ -118,6 +141,11 @@ module _ (w : Window) (r0 c0 r1 c1 y0 x0 y1 x1 : ℕ) (f : Fits w) (v : Cutting 
   cut-none h s n t g =
       gains-held (positions w) (inImage w r0 c0 r1 c1) s n t g
       (λ q l e. let b = block-is (w .width) y0 x0 y1 x1 q (cut-marks q l ∙ e) in absurd (omega (arith, b .2, b .3)))
+
+  pub cut-no-rows : y1 ≤ y0 → (s : List ℕ) (n t : ℕ) → Front (positions w) s n t → Gains (positions w) (inImage w r0 c0 r1 c1) s t s n t
+  cut-no-rows h s n t g =
+      gains-held (positions w) (inImage w r0 c0 r1 c1) s n t g
+      (λ q l e. let b = block-is (w .width) y0 x0 y1 x1 q (cut-marks q l ∙ e) in absurd (omega (arith, b .0, b .1)))
 
   pub cut-inside : x0 < x1 → Inside (w .width) x0 y1 x1 (w .width * w .height)
   cut-inside h =
@@ -206,9 +234,6 @@ pub listed-both : (w : Window) (b : List ℕ) (np nr : ℕ) (q : ℕ)
     → listedAt w b np nr q ≡ (anyBelow np (λ i. atPoint w b i q) || anyBelow nr (λ i. inRect w b np i q))
 unfolding listed
 listed-both w b np nr q = refl
-
-pub held-front : (top : ℕ) (m : ℕ → Bool) (s : List ℕ) (t₀ : ℕ) (s₁ : List ℕ) (r : Kept) (n t : ℕ) → r ≡ K.Held n t → Joined top m s t₀ s₁ r → Gains top m s t₀ s₁ n t
-held-front top m s t₀ s₁ r n t e j = subst (λ (x : Kept). Joined top m s t₀ s₁ x) e j
 
 module _ (w : Window) (b : List ℕ) (np nr : ℕ) (s s₁ : List ℕ) (r : Kept) (j : Joined (positions w) (λ q. anyBelow np (λ i. atPoint w b i q)) s 0 s₁ r) where
   -- the points alone are too many

@@ -1,4 +1,5 @@
-use Rattle.marks.proofs.Listing.{area, held-front, points-over, rects-over, list-done}
+use Rattle.marks.proofs.Joining.{held-front}
+use Rattle.marks.proofs.Listing.{area, points-over, rects-over, list-done}
 use native.Mathlib.Omega.{arith}
 use borrow.Author.Needs.{needs}
 use Rattle.marks.proofs.list_marks.Statement.{statement}
