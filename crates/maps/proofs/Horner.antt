@@ -1,13 +1,13 @@
 -- Horner over coefficients of which the high ones are 0: a 0 above the highest changes nothing, whatever x is, since at least one follows.
 -- Assumes nothing.
 use Prim.Native.Nat.{ℕ, zero, suc, _+_, _-_, _*_, _≤_, _<_}
-use mathlib.Core.Path.{_≡_, refl, sym, ap, _∙_}
+use mathlib.Core.Path.{_≡_, refl, ap, _∙_}
 use mathlib.Core.Bool.{Bool, true, false}
 use mathlib.Core.List.{List}
 use native.Mathlib.Omega.{arith}
-use lib.IntN.{ℤ, pos, negsuc}
-use lib.Dec.{leb, lit≤}
-use lib.Ieee.{Float, nan, inf, fin, Format, binary64, round, add, mul, sum, units, odd, size, span, climb, up, down, unlike, ofBits}
+use lib.IntN.{ℤ, pos}
+use lib.Dec.{lit≤}
+use lib.Ieee.{Float, nan, inf, fin, binary64, round, add, mul, sum, units, odd, size, span, climb, up, down, unlike, ofBits}
 use lib.Ieee.Scale.{round-same}
 use lib.Ieee.Fits.{down-pos}
 use borrow.Author.Tests.{le-leb, lt-leb}
@@ -55,7 +55,8 @@ one-less c x n z =
     ap (λ (a : Float). over c x (suc n) (step x nought a)) z
     ∙ ap (λ (a : Float). over c x n (add binary64 a (c n))) (again x)
 
-pub fewer : (c : ℕ → Float) (x : Float) (n j : ℕ) → ((k : ℕ) → n < k → c k ≡ nought) → over c x (suc (j + n)) nought ≡ over c x (suc n) nought
+pub fewer : (c : ℕ → Float) (x : Float) (n j : ℕ) → ((k : ℕ) → n < k → c k ≡ nought)
+    → over c x (suc (j + n)) nought ≡ over c x (suc n) nought
 fewer c x n zero z = ap (λ (m : ℕ). over c x (suc m) nought) (omega arith)
 fewer c x n (suc j) z =
     ap (λ (m : ℕ). over c x (suc m) nought) (omega arith)
@@ -82,7 +83,8 @@ pub term-out : (degree : ℕ) (b : List ℕ) (k : ℕ) → degree < k → termAt
 unfolding termAt
 term-out degree b k h = simp (lt-leb _ _ h)
 
-pub padded : (degree top : ℕ) (b : List ℕ) (x : Float) → degree ≤ top → over (termAt degree b) x (suc top) nought ≡ horner b x (suc degree) nought
+pub padded : (degree top : ℕ) (b : List ℕ) (x : Float) → degree ≤ top
+    → over (termAt degree b) x (suc top) nought ≡ horner b x (suc degree) nought
 padded degree top b x h =
     ap (λ (n : ℕ). over (termAt degree b) x (suc n) nought) (omega arith)
     ∙ fewer (termAt degree b) x degree (top - degree) (term-out degree b)
@@ -101,8 +103,8 @@ unfolding over
 five t degree b x h low = simp (from-zero, h .is0, h .is1, h .is2, h .is3, h .is4) (padded degree 4 b x low)
 
 pub nine : (t : Terms) (degree : ℕ) (b : List ℕ) (x : Float) → Holds t degree b → degree ≤ 8
-    → step x (step x (step x (step x (step x (step x (step x (step x (step x (ofBits binary64 0) (t .c8)) (t .c7)) (t .c6)) (t .c5)) (t .c4)) (t .c3)) (t .c2)) (t .c1)) (t .c0)
-    ≡ horner b x (suc degree) nought
+    → let high = step x (step x (step x (step x (ofBits binary64 0) (t .c8)) (t .c7)) (t .c6)) (t .c5) in
+    step x (step x (step x (step x (step x high (t .c4)) (t .c3)) (t .c2)) (t .c1)) (t .c0) ≡ horner b x (suc degree) nought
 unfolding over
 nine t degree b x h low =
     simp (from-zero, h .is0, h .is1, h .is2, h .is3, h .is4, h .is5, h .is6, h .is7, h .is8) (padded degree 8 b x low)

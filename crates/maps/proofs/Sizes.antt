@@ -17,7 +17,8 @@ module _ {k : Walk} {n : ℕ} (w : Walks k n) where
 
   pub begin-small : k .col * k .planes + k .plane < 68719476736
   begin-small =
-      omega (arith, by-planes (k .col), first-bound (k .left) (k .pitch) (k .x0) (k .col) (k .nth) (w .first), w .left32, w .pitch32, w .inside, w .few)
+      let first : k .col ≤ max (k .left) (max (k .pitch) 1) = first-bound (k .left) (k .pitch) (k .x0) (k .col) (k .nth) (w .first) in
+      omega (arith, by-planes (k .col), w .left32, w .pitch32, w .inside, w .few)
 
   pub step-small : k .pitch * k .planes < 34359738368
   step-small = omega (arith, by-planes (k .pitch), w .pitch32)

@@ -1,4 +1,5 @@
-// Tables, f32 and u16, and polynomials, on one plane of a lent row. In each loop `i` is the sample, and `c` its column, which only the proof needs.
+// Tables, f32 and u16, and polynomials, on one plane of a lent row.
+// In each loop `i` is the sample and `c` its column, which only the proof needs.
 ghost use mathlib.Core.Path.{_≡_};
 ghost use Prim.Native.Nat.{suc, _+_, _-_, _*_, _≤_, _<_, min};
 ghost use lib.ListN.{length};

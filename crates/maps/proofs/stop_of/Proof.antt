@@ -11,7 +11,9 @@ less-requires : tie.Need-less-requires
 less-requires c κs = search needs
 
 mul-smaller : tie.Need-mul-smaller
-mul-smaller c = omega (arith, by-planes (c .before .before .pre) (c .before .less .result), c .before .less .ensures, c .before .before .pre .right32)
+mul-smaller c =
+    let w = c .before .before .pre in
+    omega (arith, by-planes w (c .before .less .result), c .before .less .ensures, w .right32)
 
 smaller-requires : tie.Need-smaller-requires
 smaller-requires c κs = search needs
