@@ -166,10 +166,10 @@ fn value_rare(body: &[u8], at: usize, past: usize, missing: f32) -> f32
 }
 
 // The same, with one comparison where the value is there whole: `sure` is past neither the values nor the last four bytes of the body.
-fn value_from(body: &[u8], at: usize, sure: usize, past: usize, missing: f32) -> f32
-    requires { ⌜ sure ≤ past ⌝ }
+fn value_from(body: &[u8], at: usize, past: usize, missing: f32) -> f32
     ensures { λ r. ⌜ r ≡ valueFrom (now (body .entry)) past missing at ⌝ }
 {
+    let sure = smaller(past, less(body.len(), 3));
     if at < sure {
         words::f32_at(body, at)
     } else {
@@ -193,11 +193,11 @@ fn add_values(
         ≡ each (stepped begin stop step (λ m v. delta scale (nth n (now (body .entry)) nought (first + m)) v)) (now (row .entry)) ⌝ }
 {
     let past = 36 + 4 * (n as usize);
-    let sure = smaller(past, less(body.len(), 3));
     let mut i = begin;
     let mut at = 36 + 4 * first;
     while i < stop {
-        row[i] = row[i] + over_scale(value_from(body, at, sure, past, 0.0), scale);
+        let d = over_scale(value_from(body, at, past, 0.0), scale);
+        row[i] = row[i] + d;
         i += step;
         at += 4;
     }
@@ -218,11 +218,11 @@ fn scale_values(
         ≡ each (stepped begin stop step (λ m v. scaled (nth n (now (body .entry)) one (first + m)) v)) (now (row .entry)) ⌝ }
 {
     let past = 36 + 4 * (n as usize);
-    let sure = smaller(past, less(body.len(), 3));
     let mut i = begin;
     let mut at = 36 + 4 * first;
     while i < stop {
-        row[i] = row[i] * value_from(body, at, sure, past, 1.0);
+        let s = value_from(body, at, past, 1.0);
+        row[i] = row[i] * s;
         i += step;
         at += 4;
     }

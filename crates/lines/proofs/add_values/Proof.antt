@@ -11,23 +11,17 @@ use Rattle.lines.proofs.add_values.Tie as tie
 use Rattle.lines.proofs.Values.{added}
 
 abbrev Inv-loop : tie.InvT-loop
-Inv-loop row₀ begin stop step body n first scale past sure i₀ at₀ row i at =
+Inv-loop row₀ begin stop step body n first scale past i₀ at₀ row i at =
     (m : ℕ) × (Steps begin stop step (λ q v. delta scale (nth n body nought (first + q)) v) row₀ row m i) × (at ≡ 36 + 4 * (first + m))
 
 abbrev μ-loop : tie.MeasureT-loop
-μ-loop row₀ begin stop step body n first scale past sure i₀ at₀ row i at = stop - i
+μ-loop row₀ begin stop step body n first scale past i₀ at₀ row i at = stop - i
 
 mul-past : tie.Need-mul-past Inv-loop μ-loop
 mul-past c = omega arith
 
 add-past : tie.Need-add-past Inv-loop μ-loop
 add-past c = omega arith
-
-less-requires : tie.Need-less-requires Inv-loop μ-loop
-less-requires c κs = search needs
-
-smaller-requires : tie.Need-smaller-requires Inv-loop μ-loop
-smaller-requires c κs = search needs
 
 mul-at : tie.Need-mul-at Inv-loop μ-loop
 mul-at c = omega arith
@@ -38,17 +32,17 @@ add-at c = omega arith
 loop-holds : tie.Need-loop-holds Inv-loop μ-loop
 loop-holds c = (0, steps-begin _ _ _ _ _, omega arith)
 
-mul-row : tie.Need-mul-row Inv-loop μ-loop
-mul-row c = omega arith
-
-slice-read-row : tie.Need-slice-read-row Inv-loop μ-loop
-slice-read-row c = omega arith
-
 value-from-requires : tie.Need-value-from-requires Inv-loop μ-loop
 value-from-requires c κs = search needs
 
 over-scale-requires : tie.Need-over-scale-requires Inv-loop μ-loop
 over-scale-requires c κs = search needs
+
+mul-row : tie.Need-mul-row Inv-loop μ-loop
+mul-row c = omega arith
+
+slice-read-row : tie.Need-slice-read-row Inv-loop μ-loop
+slice-read-row c = omega arith
 
 mul-row-2 : tie.Need-mul-row-2 Inv-loop μ-loop
 mul-row-2 c = omega arith
@@ -70,7 +64,7 @@ loop-less c = omega arith
 loop-again : tie.Need-loop-again Inv-loop μ-loop
 loop-again c =
     let u = c .before .before .before .before .loop .inv in
-    let value = added _ _ _ _ _ _ _ _ (c .before .value-from .ensures) (c .over-scale .ensures) (u .2) in
+    let value = added _ _ _ _ _ _ _ _ (c .before .before .value-from .ensures) (c .before .over-scale .ensures) (u .2) in
     (u .0 + 1, steps-next nan (omega arith) (u .1) (omega arith) value, omega (arith, u .2))
 
 same-length : tie.Need-same-length Inv-loop μ-loop
@@ -87,15 +81,13 @@ add-values-spec =
     μ-loop
     mul-past
     add-past
-    less-requires
-    smaller-requires
     mul-at
     add-at
     loop-holds
-    mul-row
-    slice-read-row
     value-from-requires
     over-scale-requires
+    mul-row
+    slice-read-row
     mul-row-2
     slice-write-row
     add-i

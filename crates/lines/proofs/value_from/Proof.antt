@@ -6,6 +6,12 @@ use Rattle.lines.proofs.value_from.Statement.{statement}
 use Rattle.lines.proofs.value_from.Tie as tie
 use Rattle.lines.specs.Bytes.{valueFrom}
 
+less-requires : tie.Need-less-requires
+less-requires c κs = search needs
+
+smaller-requires : tie.Need-smaller-requires
+smaller-requires c κs = search needs
+
 f32-at-requires : tie.Need-f32-at-requires
 f32-at-requires c κs = search needs
 
@@ -14,10 +20,14 @@ value-rare-requires c κs = search needs
 
 returns : tie.Need-returns
 unfolding valueFrom
-returns c = rw (lt-ltb (c .before .before .before .args .at) (c .before .before .before .args .past) (omega arith)) (c .f32-at .ensures)
+returns c =
+    let s = c .before .before .before .before .before in
+    rw (lt-ltb (s .args .at) (s .args .past) (omega arith)) (c .f32-at .ensures)
 
 returns-2 : tie.Need-returns-2
 returns-2 c = search needs
 
 pub value-from-spec : {M : Type 1} → statement M
-value-from-spec = tie.close (tie.spec f32-at-requires value-rare-requires returns returns-2)
+value-from-spec =
+    tie.close
+    (tie.spec less-requires smaller-requires f32-at-requires value-rare-requires returns returns-2)
