@@ -4,12 +4,12 @@ use Prim.Native.Nat.{ℕ, _+_, _-_, _*_, _/_, _%_, _≤_, _<_, min, max}
 use mathlib.Core.Path.{_≡_, refl, sym, ap, _∙_}
 use mathlib.Core.Bool.{Bool, true, false, cond}
 use mathlib.Core.List.{List, [], _∷_}
-use native.Mathlib.Nat.{add-mul, zero-mul, one-mul, mul-le-mul-right, lt-of-mul-lt-mul-right, div-mul-le-self, le-div-iff-mul-le, div-lt-iff-lt-mul}
+use native.Mathlib.Nat.{mul-le-mul-right, lt-of-mul-lt-mul-right, div-mul-le-self, le-div-iff-mul-le, div-lt-iff-lt-mul}
 use native.Mathlib.Omega.{arith}
 use lib.Dec.{leb, ltb}
 use lib.ListN.{length}
 use Rattle.points.specs.Points.{each, before, between}
-use Rattle.points.specs.Select.{selects, inRow, onColumns, First}
+use Rattle.points.specs.Select.{selects, inRow, onColumns}
 use Rattle.points.proofs.Each.{below-or, each-agree, each-none, each-each}
 use Rattle.points.proofs.Parts.{before-in, before-out, between-in, between-low, between-high}
 use Rattle.points.proofs.Select.{selects-high, on-unselected}
@@ -163,8 +163,6 @@ module _ {A : Type 0} where
       below-or x (k .right)
       (λ r.
       let more : (x + 1) * k .planes ≤ k .right * k .planes = mul-le-mul-right (k .planes) (omega arith) in
-      let sum : (x + 1) * k .planes ≡ x * k .planes + 1 * k .planes = add-mul x 1 (k .planes) in
-      let split : x * k .planes ≡ k .x0 * k .planes + c * k .planes = add-mul (k .x0) c (k .planes) in
       let t : x < e = lt-of-mul-lt-mul-right (k .planes) (omega (arith, w .some, div-mul-le-self i (k .planes))) in
       on-agree (k .left) (k .right) (k .pitch) (k .plane) 1 (within b e g) g x p v (within-in b e g x p v q t))
       (λ r.
@@ -215,21 +213,22 @@ begins-first k n w is few =
     }
 
 -- the block after w columns; `fill_block` says how far that is (`Counted`, `near`)
-pub begins-next : (k : Walk) (from w w′ : ℕ) → Begins k from w → from + w * k .pitch < 8589934592 → w′ ≤ 65536 → Begins k (from + w * k .pitch) w′
+pub begins-next : (k : Walk) (from w w′ : ℕ) → Begins k from w → from + w * k .pitch < 8589934592 → w′ ≤ 65536
+    → Begins k (from + w * k .pitch) w′
 begins-next k from w w′ b near few =
-    record { number = b .number + w; here = omega (arith, b .here, add-mul (b .number) w (k .pitch)); near = near; few = few }
+    record { number = b .number + w; here = omega (arith, b .here); near = near; few = few }
 
 -- there is some column in each block, so that blocks come to an end
 pub some-counted : (x pitch end room w : ℕ) → Counted x pitch end room w → 1 ≤ pitch → 1 ≤ room → x < end → 1 ≤ w
 some-counted x pitch end room w c spaced some h =
     below-or w 1
     (λ q.
-    let none : w * pitch ≡ 0 = ap (λ (i : ℕ). i * pitch) (omega arith) ∙ zero-mul pitch in
-    omega (arith, c .all, none, mul-le-mul-right {m = 1} {n = room} pitch some, one-mul pitch))
+    let none : w * pitch ≡ 0 * pitch = ap (λ (i : ℕ). i * pitch) (omega arith) in
+    omega (arith, c .all, mul-le-mul-right {m = 1} {n = room} pitch some))
     (λ q. q)
 
 -- where the room was not the limit, the end is reached
 pub all-counted : (x pitch end room w : ℕ) → Counted x pitch end room w → w < room → 1 ≤ pitch → end ≤ x + w * pitch
 all-counted x pitch end room w c h spaced =
     let more : (w + 1) * pitch ≤ room * pitch = mul-le-mul-right pitch (omega arith) in
-    omega (arith, c .all, add-mul w 1 pitch, one-mul pitch)
+    omega (arith, c .all)

@@ -1,16 +1,14 @@
 -- A position held to 0..n−1 lies between two points of the map. Assumes nothing.
-use Prim.Native.Nat.{ℕ, zero-le, _+_, _-_, _*_, _≤_, _<_, _^_, min, max}
-use mathlib.Core.Path.{_≡_, refl, sym, ap, ap₂, subst, _∙_}
-use mathlib.Core.Bool.{Bool, true, false, cond}
+use Prim.Native.Nat.{ℕ, zero-le, _-_, _≤_, _<_, _^_}
+use mathlib.Core.Path.{_≡_, refl, subst, _∙_}
+use mathlib.Core.Bool.{Bool, true, false}
 use native.Mathlib.Omega.{arith}
-use native.Mathlib.Nat.{le-of-eq, le-trans}
-use lib.IntN.{pos}
-use lib.Dec.{lit≤}
-use lib.Ieee.{Float, binary64, lt, ofInt, toUnsigned}
+use native.Mathlib.Nat.{le-of-eq}
+use lib.Ieee.{Float, binary64, lt, toUnsigned}
 use Rattle.whole.specs.Whole.{floorOf, FloorIs}
 use Rattle.whole.proofs.Laws.{floor-le, floor-at-whole}
 use Rattle.convert.specs.Convert.{wholeIn, heldTo}
-use Rattle.dng.specs.Value.{nought, position, lower, upper, share}
+use Rattle.dng.specs.Value.{nought, position, lower, upper}
 use Rattle.gain.specs.declared.Ruler.{Ruler}
 use Rattle.gain.specs.Strip.{RulerIs, placeOn}
 
@@ -47,9 +45,10 @@ unfolding placeOn position
 place-is full origin spacing n r is at = rw (is .full-is, is .origin-is, is .spacing-is, is .last-is)
 
 -- and so are its whole part and the rest
-pub floor-on : (full : ℕ) (origin spacing : Float) (n : ℕ) (r : Ruler) → RulerIs full origin spacing n r → (at : ℕ) (f : Float) → f ≡ placeOn r at
-    → (i : ℕ) (t : Float) → FloorIs f i t → FloorIs (position at full origin spacing n) i t
+pub floor-on : (full : ℕ) (origin spacing : Float) (n : ℕ) (r : Ruler) → RulerIs full origin spacing n r → (at : ℕ) (f : Float)
+    → f ≡ placeOn r at → (i : ℕ) (t : Float) → FloorIs f i t → FloorIs (position at full origin spacing n) i t
 floor-on full origin spacing n r is at f e i t fl = subst (λ (g : Float). FloorIs g i t) (e ∙ place-is full origin spacing n r is at) fl
 
-pub index-le : (at full : ℕ) (origin spacing : Float) (n i : ℕ) (t : Float) → FloorIs (position at full origin spacing n) i t → n ≤ 2 ^ 32 → i ≤ n - 1
+pub index-le : (at full : ℕ) (origin spacing : Float) (n i : ℕ) (t : Float) → FloorIs (position at full origin spacing n) i t → n ≤ 2 ^ 32
+    → i ≤ n - 1
 index-le at full origin spacing n i t f h = omega (arith, f .index-is, lower-le at full origin spacing n h)

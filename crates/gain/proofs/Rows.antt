@@ -1,21 +1,20 @@
 -- What the steps of a row come to in the words of the definitions. Assumes nothing.
 use Prim.Native.Nat.{ℕ, _+_, _-_, _*_, _/_, _%_, _≤_, _<_, min, max}
-use mathlib.Core.Path.{_≡_, refl, sym, ap, ap₂, subst, _∙_}
-use mathlib.Core.Bool.{Bool, cond}
+use mathlib.Core.Path.{_≡_, sym, ap, ap₂, subst, _∙_}
+use mathlib.Core.Bool.{cond}
 use mathlib.Core.List.{List}
-use native.Mathlib.Nat.{add-mul, mul-assoc, mul-comm, suc-mul, one-mul, zero-mul, mul-zero, mul-le-mul-right}
+use native.Mathlib.Nat.{mul-assoc, mul-le-mul-right}
 use native.Mathlib.Omega.{arith}
 use lib.ListN.{getD}
 use lib.Ieee.{Float, nan, binary32, add, mul, sub}
-use Rattle.points.specs.Points.{each}
-use Rattle.points.specs.Select.{selects, inRow, onColumns}
+use Rattle.points.specs.Select.{selects, inRow}
 use Rattle.points.proofs.Each.{below-or, each-agree}
 use Rattle.points.proofs.Select.{on-plane, on-below, on-above}
 use Rattle.select.specs.declared.Walk.{Walk}
 use Rattle.select.specs.Walks.{walked}
 use Rattle.dng.specs.declared.Grid.{Grid}
 use Rattle.dng.specs.declared.Region.{Region}
-use Rattle.dng.specs.Value.{Frame, f32At, mix, position, lower, upper, share, gainAt, lineAt, gainOf, gained}
+use Rattle.dng.specs.Value.{Frame, mix, position, lower, upper, share, lineAt, gainOf, gained}
 use Rattle.gain.specs.declared.Axis.{Axis}
 use Rattle.gain.specs.declared.Strip.{Strip}
 use Rattle.gain.specs.declared.Pair.{Pair}
@@ -41,7 +40,6 @@ pub block-value : (b : List ℕ) (s : Strip) (a pitch full : ℕ) (origin spacin
     → mul binary32 v (add binary32 (q .a) (mul binary32 (q .d) t)) ≡ within a (a + w * pitch) (alongStrip b s full origin spacing n) x p v
 block-value b s a pitch full origin spacing n w hs ts x j p q t v is l f some h at i e =
     let more : (j + 1) * pitch ≤ w * pitch = mul-le-mul-right pitch (omega arith) in
-    let sum : (j + 1) * pitch ≡ j * pitch + 1 * pitch = add-mul j 1 pitch in
     raised-is b s full origin spacing n (a + j * pitch) p q t v is l (i ∙ f .lowers j h) (e ∙ f .shares j h)
     ∙ ap (λ (y : ℕ). alongStrip b s full origin spacing n y p v) (sym at)
     ∙ sym (within-in a (a + w * pitch) (alongStrip b s full origin spacing n) x p v (omega arith) (omega arith))
@@ -51,7 +49,7 @@ block-value b s a pitch full origin spacing n w hs ts x j p q t v is l f some h 
 -- gains stand planes fastest, rows slowest
 place : (v ph h mp m near step : ℕ) → near ≡ 76 + 4 * (v * (ph * mp) + m) → step ≡ 4 * mp → near + h * step ≡ 76 + 4 * ((v * ph + h) * mp + m)
 place v ph h mp m near step e f =
-    rw (e, f) (omega (arith, add-mul (v * ph) h mp, mul-assoc v ph mp, mul-assoc h 4 mp, mul-comm h 4, mul-assoc 4 h mp))
+    rw (e, f) (omega arith)
 
 -- the gain of a map column on the strip is the one of the definitions
 pub line-is : (b : List ℕ) (v : Axis) (pv ph mp m : ℕ) (fv : Float) (s : Strip) (h : ℕ) → AxisIs fv pv v → StripIs v ph mp m s
@@ -92,7 +90,7 @@ beside v pv ph mp m n fv e z a l =
     rows : 1 ≤ pv
     rows =
         below-or pv 1
-        (λ q. let none : pv ≡ 0 = omega arith in omega (arith, z .some, all, ap (λ (i : ℕ). i * (ph * n)) none, zero-mul (ph * n)))
+        (λ q. let none : pv ≡ 0 = omega arith in omega (arith, z .some, all, ap (λ (i : ℕ). i * (ph * n)) none))
         (λ q. q)
 
     columns : 1 ≤ ph
@@ -100,16 +98,15 @@ beside v pv ph mp m n fv e z a l =
         below-or ph 1
         (λ q.
         let none : ph ≡ 0 = omega arith in
-        omega (arith, z .some, all, ap (λ (i : ℕ). pv * (i * n)) none, ap (λ (i : ℕ). pv * i) (zero-mul n), mul-zero pv))
+        omega (arith, z .some, all, ap (λ (i : ℕ). pv * (i * n)) none))
         (λ q. q)
 
 reach : (i ph mp m near last step : ℕ) → 1 ≤ ph → m < mp → (i + 1) * (ph * mp) ≤ 16777216 → near ≡ 76 + 4 * (i * (ph * mp) + m)
     → step ≡ 4 * mp → last ≡ ph - 1 → near + last * step < 4294967296
 reach i ph mp m near last step some plane few e f l =
-    let columns : (ph - 1) * mp + mp ≡ ph * mp =
-    sym (ap (λ (n : ℕ). (ph - 1) * mp + n) (one-mul mp)) ∙ sym (add-mul (ph - 1) 1 mp) ∙ ap (λ (n : ℕ). n * mp) (omega arith) in
+    let columns : (ph - 1 + 1) * mp ≡ ph * mp = ap (λ (n : ℕ). n * mp) (omega arith) in
     rw (e, f, l)
-    (omega (arith, columns, few, plane, add-mul i 1 (ph * mp), one-mul (ph * mp), mul-assoc (ph - 1) 4 mp, mul-comm (ph - 1) 4, mul-assoc 4 (ph - 1) mp))
+    (omega arith)
 
 pub reaches : (v : Axis) (ph mp m : ℕ) (s : Strip) → Beside v ph mp m → StripIs v ph mp m s → Reaches s
 reaches v ph mp m s b is =

@@ -1,8 +1,8 @@
 -- How two tables are filled with the positions of a block of columns. Assumes nothing.
 use Prim.Native.Nat.{ℕ, _+_, _-_, _*_, _^_, _≤_, _<_}
-use mathlib.Core.Path.{_≡_, refl, sym, ap, subst, _∙_}
+use mathlib.Core.Path.{_≡_, refl, ap, subst, _∙_}
 use mathlib.Core.List.{List}
-use native.Mathlib.Nat.{add-mul, one-mul, not-suc-le-zero, lt-of-mul-lt-mul-right}
+use native.Mathlib.Nat.{not-suc-le-zero, lt-of-mul-lt-mul-right}
 use native.Mathlib.Omega.{arith}
 use lib.ListN.{length, getD, set, length-set}
 use lib.Seq.{getD-set-same, getD-set-other}
@@ -24,7 +24,8 @@ more d f l j v h old e i q =
     subst (λ (m : ℕ). getD (set l j v) m d ≡ f m) is (getD-set-same l j v d h ∙ e))
 
 -- The first j entries are filled, and column `at` is the next.
-pub record Filling (x pitch full : ℕ) (origin spacing : Float) (n : ℕ) (hs₀ : List ℕ) (ts₀ : List Float) (hs : List ℕ) (ts : List Float) (at j : ℕ) : Type 0 where
+pub record Filling (x pitch full : ℕ) (origin spacing : Float) (n : ℕ) (hs₀ : List ℕ) (ts₀ : List Float) (hs : List ℕ) (ts : List Float)
+    (at j : ℕ) : Type 0 where
   pub filled : Filled x pitch full origin spacing n j hs ts
   pub place : at ≡ x + j * pitch
   pub same-h : length hs ≡ length hs₀
@@ -34,7 +35,12 @@ module _ {x pitch full : ℕ} {origin spacing : Float} {n : ℕ} {hs₀ : List �
   pub filling-begin : Filling x pitch full origin spacing n hs₀ ts₀ hs₀ ts₀ x 0
   filling-begin =
       record {
-        filled = record { lowers = λ j h. absurd (not-suc-le-zero h); shares = λ j h. absurd (not-suc-le-zero h); room-h = omega arith; room-t = omega arith };
+        filled = record {
+          lowers = λ j h. absurd (not-suc-le-zero h);
+          shares = λ j h. absurd (not-suc-le-zero h);
+          room-h = omega arith;
+          room-t = omega arith;
+        };
         place = omega arith;
         same-h = refl;
         same-t = refl;
@@ -47,11 +53,12 @@ module _ {x pitch full : ℕ} {origin spacing : Float} {n : ℕ} {hs₀ : List �
       record {
         filled = record {
           lowers = more 0 (λ m. lower (position (x + m * pitch) full origin spacing n)) hs j i hh (u .filled .lowers) (here .index-is);
-          shares = more nan (λ m. share (position (x + m * pitch) full origin spacing n)) ts j t ht (u .filled .shares) (e ∙ ap narrow (here .rest-is));
+          shares = more nan (λ m. share (position (x + m * pitch) full origin spacing n)) ts j t ht (u .filled .shares)
+              (e ∙ ap narrow (here .rest-is));
           room-h = omega (arith, length-set hs j i);
           room-t = omega (arith, length-set ts j t);
         };
-        place = omega (arith, u .place, add-mul j 1 pitch, one-mul pitch);
+        place = omega (arith, u .place);
         same-h = length-set hs j i ∙ u .same-h;
         same-t = length-set ts j t ∙ u .same-t;
       }
@@ -64,6 +71,6 @@ pub in-room : (x pitch room at j : ℕ) → at ≡ x + j * pitch → at < x + ro
 in-room x pitch room at j e h = lt-of-mul-lt-mul-right pitch (omega arith)
 
 -- a filled entry is a map column
-pub entry-le : (x pitch full : ℕ) (origin spacing : Float) (n w : ℕ) (hs : List ℕ) (ts : List Float) → Filled x pitch full origin spacing n w hs ts
-    → n ≤ 2 ^ 32 → (j : ℕ) → j < w → getD hs j 0 ≤ n - 1
+pub entry-le : (x pitch full : ℕ) (origin spacing : Float) (n w : ℕ) (hs : List ℕ) (ts : List Float)
+    → Filled x pitch full origin spacing n w hs ts → n ≤ 2 ^ 32 → (j : ℕ) → j < w → getD hs j 0 ≤ n - 1
 entry-le x pitch full origin spacing n w hs ts f h j q = omega (arith, f .lowers j q, lower-le (x + j * pitch) full origin spacing n h)

@@ -1,5 +1,5 @@
 -- What the steps of a gain map answer, in the words of dng/specs/Value. Document 01, 'What each does to a value v', GainMap.
-use Prim.Native.Nat.{ℕ, _+_, _-_, _*_, _≤_, _<_, max}
+use Prim.Native.Nat.{ℕ, _-_, _*_, _≤_, _<_, max}
 use mathlib.Core.Path.{_≡_}
 use mathlib.Core.List.{List}
 use lib.Ieee.{Float, binary32, mul}

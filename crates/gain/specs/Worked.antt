@@ -1,10 +1,10 @@
 -- Worked values of a gain map, each by computing. Document 01, 'What each does to a value v', GainMap. A float stands by its bit pattern.
-use Prim.Native.Nat.{ℕ, _*_, _+_}
+use Prim.Native.Nat.{ℕ, _+_}
 use mathlib.Core.Path.{_≡_, refl}
 use mathlib.Core.Bool.{false}
 use mathlib.Core.List.{List, [], _∷_, _++_}
-use lib.ListN.{replicate, getD}
-use lib.Ieee.{Float, nan, inf, fin, binary32, binary64, ofBits, ofInt, lt, add, sub, mul, div, round, toUnsigned}
+use lib.ListN.{replicate}
+use lib.Ieee.{Float, nan, inf, binary32, binary64, ofBits, ofInt, lt, add, sub, mul, div, round, toUnsigned}
 use Rattle.words.specs.Words.{big}
 use Rattle.narrow.specs.Narrow.{narrow}
 use Rattle.convert.specs.Convert.{heldTo}

@@ -176,25 +176,12 @@ fn raised(q: Pair, t: f32, v: f32) -> f32
 
 // ---- one row
 
-// a - b, or 0.
-fn less(a: usize, b: usize) -> usize
-    ensures { λ r. ⌜ r ≡ a - b ⌝ }
-{
-    if b < a { a - b } else { 0 }
-}
-
-fn least(a: usize, b: usize) -> usize
-    ensures { λ r. ⌜ r ≡ min a b ⌝ }
-{
-    if a < b { a } else { b }
-}
-
 // Where a walk over a row of len samples ends: at the row's end, or before column `right`.
 fn end_of(len: usize, x0: usize, right: usize, planes: usize) -> usize
     requires { ⌜ (right < 4294967296) × (planes ≤ 8) ⌝ }
     ensures { λ r. ⌜ r ≡ min len ((right - x0) * planes) ⌝ }
 {
-    least(len, less(right, x0) * planes)
+    select::smaller(len, select::less(right, x0) * planes)
 }
 
 // The selected columns of a row between the lines of a strip. Neighbours mostly lie between the same two map columns, so the pair is kept.
@@ -288,7 +275,7 @@ pub fn fill_block(
         ⌝ }
 {
     let r = ruler_of(full, origin, spacing, n);
-    let stop = least(end, x + hs.len() * pitch);
+    let stop = select::smaller(end, x + hs.len() * pitch);
     let mut at = x;
     let mut j: usize = 0;
     while at < stop {
@@ -301,8 +288,8 @@ pub fn fill_block(
     j
 }
 
-// The w selected columns of a row from image column x0 + from on. Their positions are the tables'; full, origin, spacing and n stand here for the
-// contract alone, which says which positions those are.
+// The w selected columns of a row from image column x0 + from on. Their positions are the tables'; full, origin, spacing and n are here for
+// the contract alone, which says which positions those are.
 fn block_along(
     row: &mut [f32],
     k: Walk,
@@ -323,7 +310,8 @@ fn block_along(
         ⌝ }
     ensures { λ _. ⌜
         now (row .exit)
-        ≡ walked k (within (k .x0 + from) (k .x0 + from + w * k .pitch) (alongStrip (now (body .entry)) s full origin spacing n)) (now (row .entry))
+        ≡ walked k (within (k .x0 + from) (k .x0 + from + w * k .pitch) (alongStrip (now (body .entry)) s full origin spacing n))
+        (now (row .entry))
         ⌝ }
 {
     let x0 = k.x0;
@@ -332,7 +320,7 @@ fn block_along(
     let right = k.right;
     let pitch = k.pitch;
     let plane = k.plane;
-    let stop = least(
+    let stop = select::smaller(
         end_of(row.len(), x0, right, planes),
         (from + w * pitch) * planes,
     );

@@ -1,11 +1,11 @@
 -- `gain::block_along` meets its contract: what lies before column c is done, entry j of the tables is that of column c, and the pair at hand is
 -- that of its own map column.
 use Prim.Native.Nat.{ℕ, _+_, _-_, _*_, _≤_, _<_, min}
-use mathlib.Core.Path.{_≡_, refl, sym, ap, subst, _∙_}
-use native.Mathlib.Nat.{add-mul, one-mul, mul-one, mul-le-mul-left, mul-le-mul-right, lt-of-mul-lt-mul-right}
+use mathlib.Core.Path.{_≡_, refl, ap, _∙_}
+use native.Mathlib.Nat.{mul-le-mul-left, mul-le-mul-right, lt-of-mul-lt-mul-right}
 use native.Mathlib.Omega.{arith}
 use borrow.Author.Needs.{needs}
-use lib.ListN.{length, getD}
+use lib.ListN.{length}
 use lib.Ieee.{nan}
 use Rattle.points.proofs.Each.{below-or}
 use Rattle.points.proofs.Walk.{Upto, upto-next-by, upto-end, upto-le}
@@ -41,7 +41,7 @@ turn c = c .before .before .before .before .before
 below : (c : Turn)
     → let a = entry c .args in
     c .before .loop .i < min (length (a .row .now)) ((a .k .right - a .k .x0) * a .k .planes)
-below c = omega (arith, c .loop-test .taken, c .before .before .before .least .ensures, c .before .before .before .before .end-of .ensures)
+below c = omega (arith, c .loop-test .taken, c .before .before .before .smaller .ensures, c .before .before .before .before .end-of .ensures)
 
 inside : (c : Turn) → c .before .loop .i < length (c .before .loop .row)
 inside c = omega (arith, below c, c .before .loop .inv .0 .same)
@@ -51,7 +51,7 @@ numbered c =
     let a = entry c .args in
     let u = c .before .loop .inv in
     let q : c .before .loop .c < a .from + a .w * a .k .pitch =
-    lt-of-mul-lt-mul-right (a .k .planes) (omega (arith, u .0 .place, c .loop-test .taken, c .before .before .before .least .ensures)) in
+    lt-of-mul-lt-mul-right (a .k .planes) (omega (arith, u .0 .place, c .loop-test .taken, c .before .before .before .smaller .ensures)) in
     lt-of-mul-lt-mul-right (a .k .pitch) (omega (arith, q, u .2))
 
 -- after the loop, where the row goes on, the block's columns are all done
@@ -67,16 +67,14 @@ past c h x q =
     below-or d e
     (λ r.
     let more : (d + 1) * k .planes ≤ e * k .planes = mul-le-mul-right (k .planes) (omega arith) in
-    let sum : (d + 1) * k .planes ≡ d * k .planes + k .planes = add-mul d 1 (k .planes) ∙ ap (λ (m : ℕ). d * k .planes + m) (one-mul (k .planes)) in
     omega (
       arith,
       h,
       more,
-      sum,
       a .pre .0 .inside,
       c .before .loop .inv .0 .place,
       c .loop-test .left,
-      c .before .before .before .least .ensures,
+      c .before .before .before .smaller .ensures,
       c .before .before .before .before .end-of .ensures,
     ))
     (λ r. omega (arith, r, q))
@@ -84,18 +82,18 @@ past c h x q =
 end-of-requires : tie.Need-end-of-requires Inv-loop μ-loop
 end-of-requires c κs = let w = c .before .before .before .before .pre .0 in (w .right32, w .few)
 
-mul-least : tie.Need-mul-least Inv-loop μ-loop
-mul-least c =
+mul-smaller : tie.Need-mul-smaller Inv-loop μ-loop
+mul-smaller c =
     let a = c .before .before .before .before .before in
     omega (arith, a .pre .0 .pitch32, mul-le-mul-right (a .args .k .pitch) (a .pre .1 .few))
 
-add-least : tie.Need-add-least Inv-loop μ-loop
-add-least c =
+add-smaller : tie.Need-add-smaller Inv-loop μ-loop
+add-smaller c =
     let a = c .before .before .before .before .before in
     omega (arith, a .pre .0 .pitch32, a .pre .1 .near, mul-le-mul-right (a .args .k .pitch) (a .pre .1 .few))
 
-mul-least-2 : tie.Need-mul-least-2 Inv-loop μ-loop
-mul-least-2 c =
+mul-smaller-2 : tie.Need-mul-smaller-2 Inv-loop μ-loop
+mul-smaller-2 c =
     let a = c .before .before .before .before .before in
     omega (
       arith,
@@ -105,8 +103,8 @@ mul-least-2 c =
       mul-le-mul-left (a .args .from + a .args .w * a .args .k .pitch) (a .pre .0 .few),
     )
 
-least-requires : tie.Need-least-requires Inv-loop μ-loop
-least-requires c κs = search needs
+smaller-requires : tie.Need-smaller-requires Inv-loop μ-loop
+smaller-requires c κs = search needs
 
 mul-step : tie.Need-mul-step Inv-loop μ-loop
 mul-step c =
@@ -190,7 +188,7 @@ loop-less : tie.Need-loop-less Inv-loop μ-loop
 loop-less c =
     let a = entry (turn c) in
     let w = a .pre .0 in
-    omega (arith, turn c .loop-test .taken, w .spaced, mul-le-mul-left (a .args .k .pitch) (w .some), mul-one (a .args .k .pitch))
+    omega (arith, turn c .loop-test .taken, w .spaced, mul-le-mul-left (a .args .k .pitch) (w .some))
 
 loop-again : tie.Need-loop-again Inv-loop μ-loop
 loop-again c =
@@ -201,10 +199,10 @@ loop-again c =
     let q = c .before .before .before .pair-for .ensures in (
       upto-next-by nan _ _ (omega (arith, w .spaced)) refl (w .inside) (u .0) (below t)
           (c .raised .ensures
-          ∙ block-value _ _ _ _ _ _ _ _ _ _ _ _ (t .before .loop .j) (a .args .k .plane) _ _ _ (q .0) (a .pre .4) (a .pre .2) (w .spaced) (numbered t)
-          (omega (arith, u .2)) (q .1) refl),
+          ∙ block-value _ _ _ _ _ _ _ _ _ _ _ _ (t .before .loop .j) (a .args .k .plane) _ _ _ (q .0) (a .pre .4) (a .pre .2) (w .spaced)
+          (numbered t) (omega (arith, u .2)) (q .1) refl),
       q .0,
-      omega (arith, u .2, add-mul (t .before .loop .j) 1 (a .args .k .pitch), one-mul (a .args .k .pitch)),
+      omega (arith, u .2),
     )
 
 same-length : tie.Need-same-length Inv-loop μ-loop
@@ -228,10 +226,10 @@ block-along-spec =
     Inv-loop
     μ-loop
     end-of-requires
-    mul-least
-    add-least
-    mul-least-2
-    least-requires
+    mul-smaller
+    add-smaller
+    mul-smaller-2
+    smaller-requires
     mul-step
     mul-i
     add-i

@@ -1,6 +1,5 @@
 -- `gain::fill_block` meets its contract: the first j entries are filled, and `at` is the next column.
-use Prim.Native.Nat.{ℕ, _+_, _-_, _*_, _≤_, _<_, min, max}
-use mathlib.Core.Path.{_≡_, sym, _∙_}
+use Prim.Native.Nat.{_+_, _-_, _<_, max}
 use native.Mathlib.Nat.{mul-le-mul-right}
 use native.Mathlib.Omega.{arith}
 use borrow.Author.Needs.{needs}
@@ -28,27 +27,27 @@ inside : (c : Turn) → c .before .loop .j < length (entry c .args .hs .now)
 inside c =
     let a = entry c .args in
     in-room (a .x) (a .pitch) (length (a .hs .now)) (c .before .loop .at) (c .before .loop .j) (c .before .loop .inv .0 .place)
-    (omega (arith, c .loop-test .taken, c .before .before .least .ensures))
+    (omega (arith, c .loop-test .taken, c .before .before .smaller .ensures))
 
 ruler-of-requires : tie.Need-ruler-of-requires Inv-loop μ-loop
 ruler-of-requires c κs = search needs
 
-mul-least : tie.Need-mul-least Inv-loop μ-loop
-mul-least c = let a = c .before .before .before in omega (arith, a .pre .pitch32, mul-le-mul-right (a .args .pitch) (a .pre .few))
+mul-smaller : tie.Need-mul-smaller Inv-loop μ-loop
+mul-smaller c = let a = c .before .before .before in omega (arith, a .pre .pitch32, mul-le-mul-right (a .args .pitch) (a .pre .few))
 
-add-least : tie.Need-add-least Inv-loop μ-loop
-add-least c =
+add-smaller : tie.Need-add-smaller Inv-loop μ-loop
+add-smaller c =
     let a = c .before .before .before in
     omega (arith, a .pre .start, a .pre .pitch32, mul-le-mul-right (a .args .pitch) (a .pre .few))
 
-least-requires : tie.Need-least-requires Inv-loop μ-loop
-least-requires c κs = search needs
+smaller-requires : tie.Need-smaller-requires Inv-loop μ-loop
+smaller-requires c κs = search needs
 
 loop-holds : tie.Need-loop-holds Inv-loop μ-loop
 loop-holds c = (filling-begin, omega (arith, c .before .before .before .before .pre .spaced))
 
 cast-place : tie.Need-cast-place Inv-loop μ-loop
-cast-place c = omega (arith, c .loop-test .taken, c .before .before .least .ensures, entry c .pre .end32)
+cast-place c = omega (arith, c .loop-test .taken, c .before .before .smaller .ensures, entry c .pre .end32)
 
 place-requires : tie.Need-place-requires Inv-loop μ-loop
 place-requires c κs = search needs
@@ -74,7 +73,7 @@ slice-write-ts c = let t = c .before .before .before in omega (arith, inside t, 
 add-at : tie.Need-add-at Inv-loop μ-loop
 add-at c =
     let t = c .before .before .before in
-    omega (arith, t .loop-test .taken, t .before .before .least .ensures, entry t .pre .end32, entry t .pre .pitch32)
+    omega (arith, t .loop-test .taken, t .before .before .smaller .ensures, entry t .pre .end32, entry t .pre .pitch32)
 
 add-j : tie.Need-add-j Inv-loop μ-loop
 add-j c = let t = c .before .before .before in omega (arith, inside t, entry t .pre .few)
@@ -87,9 +86,10 @@ loop-again c =
     let t = c .before .before .before in
     let u = t .before .loop .inv .0 in (
       filling-next u (omega (arith, inside t, u .same-h)) (omega (arith, inside t, entry t .pre .same, u .same-t))
-          (floor-on _ _ _ _ _ (t .before .before .before .ruler-of .ensures) _ _ (c .before .before .place .ensures) _ _ (c .before .floor .ensures))
+          (floor-on _ _ _ _ _ (t .before .before .before .ruler-of .ensures) _ _ (c .before .before .place .ensures) _ _
+          (c .before .floor .ensures))
           (c .to-f32 .ensures),
-      omega (arith, t .loop-test .taken, t .before .before .least .ensures),
+      omega (arith, t .loop-test .taken, t .before .before .smaller .ensures),
     )
 
 same-length : tie.Need-same-length Inv-loop μ-loop
@@ -104,7 +104,7 @@ returns c =
       u .filled,
       record {
         fits = omega (arith, u .filled .room-h, u .same-h);
-        all = omega (arith, u .place, c .loop-test .left, c .before .before .least .ensures);
+        all = omega (arith, u .place, c .loop-test .left, c .before .before .smaller .ensures);
         near = omega (arith, u .place, c .before .loop .inv .1);
       },
     )
@@ -116,9 +116,9 @@ fill-block-spec =
     Inv-loop
     μ-loop
     ruler-of-requires
-    mul-least
-    add-least
-    least-requires
+    mul-smaller
+    add-smaller
+    smaller-requires
     loop-holds
     cast-place
     place-requires

@@ -17,8 +17,9 @@ same-length c = search needs
 returns : tie.Need-returns
 returns c =
     let a = c .before .before .before .before .before .before .before .args in
+    let is = c .before .before .before .before .strip-at .ensures in
     c .before .before .row-along .ensures
-    ∙ walked-agree (a .k) _ _ _ (λ x v. along-is _ (a .g) _ _ _ _ (a .full-width) _ _ (c .before .before .before .before .strip-at .ensures) x (a .k .plane) v)
+    ∙ walked-agree (a .k) _ _ _ (λ x v. along-is _ (a .g) _ _ _ _ (a .full-width) _ _ is x (a .k .plane) v)
 
 pub gain-row-spec : {M : Type 1} → statement M
 gain-row-spec = tie.close (tie.spec strip-at-requires row-along-requires same-length returns)

@@ -1,7 +1,7 @@
 -- `gain::row_along` meets its contract: what lies before column c is done, and the pair at hand is that of its own map column.
-use Prim.Native.Nat.{ℕ, _+_, _-_, _*_, _≤_, _<_, min}
-use mathlib.Core.Path.{_≡_, refl, sym, ap, subst, _∙_}
-use native.Mathlib.Nat.{mul-le-mul-left, mul-one}
+use Prim.Native.Nat.{_+_, _-_, _*_, _<_, min}
+use mathlib.Core.Path.{refl, ap, _∙_}
+use native.Mathlib.Nat.{mul-le-mul-left}
 use native.Mathlib.Omega.{arith}
 use borrow.Author.Needs.{needs}
 use lib.ListN.{length}
@@ -52,9 +52,11 @@ column c =
 found : (c : tie.After-floor Inv-loop μ-loop)
     → let t = c .before .before in
     let a = entry t .args in
-    FloorIs (position (a .k .x0 + t .before .loop .c) (a .full) (a .origin) (a .spacing) (a .n)) (c .floor .result .index) (c .floor .result .rest)
+    FloorIs (position (a .k .x0 + t .before .loop .c) (a .full) (a .origin) (a .spacing) (a .n)) (c .floor .result .index)
+    (c .floor .result .rest)
 found c =
-    floor-on _ _ _ _ _ (c .before .before .before .before .before .before .ruler-of .ensures) _ _ (c .before .place .ensures) _ _ (c .floor .ensures)
+    let r = c .before .before .before .before .before .before .ruler-of .ensures in
+    floor-on _ _ _ _ _ r _ _ (c .before .place .ensures) _ _ (c .floor .ensures)
 
 ruler-of-requires : tie.Need-ruler-of-requires Inv-loop μ-loop
 ruler-of-requires c κs = search needs
@@ -134,7 +136,7 @@ loop-less : tie.Need-loop-less Inv-loop μ-loop
 loop-less c =
     let a = entry (turn c) in
     let w = a .pre .0 in
-    omega (arith, turn c .loop-test .taken, w .spaced, mul-le-mul-left (a .args .k .pitch) (w .some), mul-one (a .args .k .pitch))
+    omega (arith, turn c .loop-test .taken, w .spaced, mul-le-mul-left (a .args .k .pitch) (w .some))
 
 loop-again : tie.Need-loop-again Inv-loop μ-loop
 loop-again c =

@@ -21,8 +21,8 @@ strip-of-requires c κs =
 returns : tie.Need-returns
 returns c =
     let a = c .before .before .before in
-    strip-at _ (a .args .points-v) _ (a .args .map-planes) _ _ _ _ (c .before .at-least-one .ensures) (a .pre) (c .before .before .axis-at .ensures)
-    (lower-le _ _ _ _ _ (omega (arith, a .fits .points-v))) (c .strip-of .ensures)
+    strip-at _ (a .args .points-v) _ (a .args .map-planes) _ _ _ _ (c .before .at-least-one .ensures) (a .pre)
+    (c .before .before .axis-at .ensures) (lower-le _ _ _ _ _ (omega (arith, a .fits .points-v))) (c .strip-of .ensures)
 
 pub strip-at-spec : {M : Type 1} → statement M
 strip-at-spec = tie.close (tie.spec axis-at-requires at-least-one-requires strip-of-requires returns)
