@@ -1,10 +1,9 @@
 -- A column counted as an f64: one more is the next column, exactly, as long as an f64 holds it. Assumes nothing.
 use Prim.Native.Nat.{ℕ, _+_, _*_, _^_, _<_}
 use mathlib.Core.Bool.{Bool, false}
-use mathlib.Core.Path.{_≡_, refl, sym, ap, subst, _∙_}
+use mathlib.Core.Path.{_≡_, ap, _∙_}
 use native.Mathlib.Nat.{add-mul, mul-one, one-mul, zero-lt-suc}
 use native.Mathlib.Omega.{arith}
-use lib.IntN.{pos}
 use lib.Ieee.{Float, nan, inf, fin, binary64, add, ofInt, round, sum, up, down}
 use lib.Ieee.Back.{round-whole}
 use lib.Ieee.Exact.{HasValue}

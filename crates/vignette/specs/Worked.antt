@@ -3,7 +3,7 @@ use Prim.Native.Nat.{ℕ}
 use mathlib.Core.Bool.{true, false}
 use mathlib.Core.List.{[], _∷_}
 use mathlib.Core.Path.{_≡_, refl}
-use lib.Ieee.{Float, nan, inf, binary32, binary64, ofBits, ofInt, round, add, sub, mul, div, lt}
+use lib.Ieee.{Float, nan, inf, binary64, ofBits, ofInt, round, add, sub, mul, div, lt}
 use Rattle.points.specs.Points.{each}
 use Rattle.narrow.specs.Narrow.{narrow}
 use Rattle.convert.specs.Convert.{wholeIn}

@@ -1,12 +1,12 @@
 // Radial gain, on a lent row.
 ghost use mathlib.Core.Path.{_≡_};
-ghost use Prim.Native.Nat.{_+_, _*_, _≤_};
+ghost use Prim.Native.Nat.{_≤_};
 ghost use lib.ListN.{length};
 ghost use lib.Ieee.{Float, mul, binary32};
 ghost use Rattle.points.specs.Points.{each, between};
 ghost use Rattle.dng.specs.Select.{onRow};
 ghost use Rattle.dng.specs.Bounds.{RowFits};
-ghost use Rattle.dng.specs.Value.{square, apart, larger, farthest, m2Of, vignette};
+ghost use Rattle.dng.specs.Value.{apart, larger, farthest, m2Of, vignette};
 ghost use Rattle.vignette.specs.Reach.{frameAt, reachOf, Reaches};
 ghost use Rattle.vignette.specs.Rows.{gainOf, wholeOnes};
 use dng::Radial;
