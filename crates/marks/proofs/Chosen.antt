@@ -1,18 +1,18 @@
 -- The chosen numbers: they ascend, the marked ones are there and no others, and there are as many as are counted; an ascending list of
 -- the marked numbers is the list of the chosen ones; and counts of more and of fewer marks. Assumes nothing.
-use Prim.Native.Nat.{ℕ, zero, suc, _+_, _-_, _≤_, _<_}
+use Prim.Native.Nat.{ℕ, zero, suc, _+_, _≤_, _<_}
 use mathlib.Core.Path.{_≡_, refl, sym, ap, subst, _∙_}
-use mathlib.Core.Bool.{Bool, true, false, _&&_, _||_, cond}
+use mathlib.Core.Bool.{Bool, true, false, _||_, cond}
 use mathlib.Core.List.{List, [], _∷_, _++_}
-use native.Mathlib.Nat.{not-suc-le-zero, le-of-suc-le-suc, zero-add, add-zero, suc-add, add-suc}
+use native.Mathlib.Nat.{not-suc-le-zero, zero-add, add-zero, suc-add, add-suc}
 use native.Mathlib.Omega.{arith}
-use borrow.Author.Tests.{eqb-true, eq-eqb}
-use lib.Dec.{leb, ltb, eqb}
-use lib.ListN.{length, length-append}
+use borrow.Author.Tests.{eq-eqb}
+use lib.Dec.{eqb}
+use lib.ListN.{length, getD, take, length-append}
 use Rattle.dng.specs.Repair.{countBelow}
-use Rattle.marks.specs.Marks.{chosen}
-use Rattle.sorts.specs.Sorts.{alike, occ, has, Rises}
-use Rattle.sorts.proofs.Occ.{by-cases, below-or, equal-or, alike-self, alike-other, alike-is, has-true, has-false, some-has, none-has, has-same, rises-low, rises-less}
+use Rattle.marks.specs.Marks.{chosen, Holds}
+use Rattle.sorts.specs.Sorts.{alike, occ, has, Rises, Finds}
+use Rattle.sorts.proofs.Occ.{occ-at, by-cases, below-or, equal-or, alike-self, alike-other, has-true, some-has, none-has, rises-low, rises-less}
 
 -- the two values of a test are apart
 pub both : {C : Type 0} {b : Bool} → b ≡ true → b ≡ false → C
@@ -39,8 +39,8 @@ count-lt (suc n) f g p k a b h =
     equal-or p n
     (λ e. rw (subst (λ (q : ℕ). f q ≡ false) e a, subst (λ (q : ℕ). g q ≡ true) e b) (omega (arith, count-le n f g (λ q k. h q (omega arith)))))
     (λ d.
-        let r : countBelow n f < countBelow n g = count-lt n f g p (omega arith) a b (λ q k. h q (omega arith)) in
-        by-cases (f n) (λ e. rw (e, h n (omega arith) e) (omega arith)) (λ e. rw e (omega arith)))
+    let r : countBelow n f < countBelow n g = count-lt n f g p (omega arith) a b (λ q k. h q (omega arith)) in
+    by-cases (f n) (λ e. rw (e, h n (omega arith) e) (omega arith)) (λ e. rw e (omega arith)))
 
 -- the same marks, the same count
 pub count-same : (n : ℕ) (f g : ℕ → Bool) → ((q : ℕ) → q < n → f q ≡ g q) → countBelow n f ≡ countBelow n g
@@ -62,7 +62,7 @@ chosen-in m a zero q h = absurd (not-suc-le-zero h)
 chosen-in m a (suc n) q h =
     by-cases (m a)
     (λ e. equal-or a q (λ d. (omega arith, subst (λ (x : ℕ). m x ≡ true) d e))
-        (λ d. let r = chosen-in m (suc a) n q (omega (arith, alike-other a q d, rw e at h)) in (omega (arith, r .0), r .1)))
+    (λ d. let r = chosen-in m (suc a) n q (omega (arith, alike-other a q d, rw e at h)) in (omega (arith, r .0), r .1)))
     (λ e. let r = chosen-in m (suc a) n q (rw e at h) in (omega (arith, r .0), r .1))
 
 -- what is marked stands there
@@ -72,8 +72,8 @@ chosen-all m a zero q h k t = absurd (omega arith)
 chosen-all m a (suc n) q h k t =
     equal-or a q (λ d. rw (subst (λ (x : ℕ). m x ≡ true) (sym d) t) (omega (arith, subst (λ (x : ℕ). alike a x ≡ 1) d (alike-self a))))
     (λ d.
-        let r : 1 ≤ occ (chosen m (suc a) n) q = chosen-all m (suc a) n q (omega arith) (omega arith) t in
-        by-cases (m a) (λ e. rw e (omega arith)) (λ e. rw e r))
+    let r : 1 ≤ occ (chosen m (suc a) n) q = chosen-all m (suc a) n q (omega arith) (omega arith) t in
+    by-cases (m a) (λ e. rw e (omega arith)) (λ e. rw e r))
 
 -- so a number below the end stands there exactly when it is marked
 pub chosen-has : (m : ℕ → Bool) (top q : ℕ) → q < top → has (chosen m 0 top) q ≡ m q
@@ -113,7 +113,7 @@ chosen-full m a zero q e h k = absurd (omega arith)
 chosen-full m a (suc n) q e h k =
     by-cases (m a)
     (λ t. equal-or a q (λ d. subst (λ (x : ℕ). m x ≡ true) d t)
-        (λ d. chosen-full m (suc a) n q (omega (arith, rw t at e)) (omega arith) (omega arith)))
+    (λ d. chosen-full m (suc a) n q (omega (arith, rw t at e)) (omega arith) (omega arith)))
     (λ f. absurd (omega (arith, rw f at e, chosen-short m (suc a) n)))
 
 -- an ascending list of the marked numbers, and of no others, is the list of the chosen ones
@@ -128,18 +128,18 @@ is-chosen m a (suc n) [] r f g =
 is-chosen m a (suc n) (x ∷ l) r f g =
     equal-or x a
     (λ d.
-        let t : m a ≡ true = subst (λ (y : ℕ). m y ≡ true) d (f x (omega (arith, alike-self x)) .1) in
-        let rest : l ≡ chosen m (suc a) n =
-            is-chosen m (suc a) n l (subst (λ (y : ℕ). Rises (suc y) l) d (r .1))
-            (λ q h. let k = f q (omega arith) in (omega (arith, k .0), k .1))
-            (λ q h k e. omega (arith, g q (omega arith) (omega arith) e, alike-other x q (λ z. omega arith))) in
-        rw (t, d, rest) refl)
+    let t : m a ≡ true = subst (λ (y : ℕ). m y ≡ true) d (f x (omega (arith, alike-self x)) .1) in
+    let rest : l ≡ chosen m (suc a) n =
+    is-chosen m (suc a) n l (subst (λ (y : ℕ). Rises (suc y) l) d (r .1))
+    (λ q h. let k = f q (omega arith) in (omega (arith, k .0), k .1))
+    (λ q h k e. omega (arith, g q (omega arith) (omega arith) e, alike-other x q (λ z. omega arith))) in
+    rw (t, d, rest) refl)
     (λ d.
-        by-cases (m a)
-        (λ t. absurd (omega (arith, r .0, rises-low (suc x) l a (r .1) (omega (arith, g a (omega arith) (omega arith) t, alike-other x a d)))))
-        (λ t. rw t
-            (is-chosen m (suc a) n (x ∷ l) (omega (arith, r .0), r .1) (λ q h. let k = f q h in (omega (arith, k .0), k .1))
-            (λ q h k e. g q (omega arith) (omega arith) e))))
+    by-cases (m a)
+    (λ t. absurd (omega (arith, r .0, rises-low (suc x) l a (r .1) (omega (arith, g a (omega arith) (omega arith) t, alike-other x a d)))))
+    (λ t. rw t
+    (is-chosen m (suc a) n (x ∷ l) (omega (arith, r .0), r .1) (λ q h. let k = f q h in (omega (arith, k .0), k .1))
+    (λ q h k e. g q (omega arith) (omega arith) e))))
 
 -- the same where the numbers are known by whether they stand in the list
 pub is-chosen-has : (m : ℕ → Bool) (top : ℕ) (l : List ℕ) → Rises 0 l → ((q : ℕ) → has l q ≡ true → q < top)
@@ -159,3 +159,15 @@ pub too-many : (top : ℕ) (l : List ℕ) (p : ℕ) → Rises 0 l → ((q : ℕ)
 too-many top l p r f h e =
     rw (rises-count top l r f)
     (count-lt top (has l) (λ q. has l q || eqb q p) p h e (rw (e, eq-eqb p p refl) refl) (λ q k t. rw t refl))
+
+-- what stands at a place is marked
+pub chosen-at : (m : ℕ → Bool) (a n i : ℕ) → i < length (chosen m a n) → (getD (chosen m a n) i 0 < a + n) × (m (getD (chosen m a n) i 0) ≡ true)
+chosen-at m a n i h = chosen-in m a n (getD (chosen m a n) i 0) (occ-at (chosen m a n) i h)
+
+-- what `find` answers of a front that holds the marks
+pub found : (m : ℕ → Bool) (top : ℕ) (s : List ℕ) (n q : ℕ) (r : Bool) → n ≤ length s → take n s ≡ chosen m 0 top → q < top → Finds s n q r → r ≡ m q
+found m top s n q r h e l f =
+    f h (rw e (chosen-rises m 0 top)) ∙ ap (λ (x : List ℕ). has x q) e ∙ chosen-has m top q l
+
+pub found-held : (m : ℕ → Bool) (top : ℕ) (s s′ : List ℕ) (n q : ℕ) (r : Bool) → Holds top m s s′ n → length s′ ≡ length s → q < top → Finds s′ n q r → r ≡ m q
+found-held m top s s′ n q r h e l f = found m top s′ n q r (omega (arith, h .fits)) (h .front) l f

@@ -1,23 +1,21 @@
 -- The scratch while it fills: compacting keeps what is held, a placed position is held afterwards, and one that finds no room is one too many.
 -- Assumes nothing.
-use Prim.Native.Nat.{ℕ, zero, suc, _+_, _-_, _≤_, _<_}
+use Prim.Native.Nat.{ℕ, _+_, _≤_, _<_}
 use mathlib.Core.Path.{_≡_, refl, sym, ap, subst, _∙_}
-use mathlib.Core.Bool.{Bool, true, false, _&&_, _||_, cond, or-false, or-true, or-assoc}
+use mathlib.Core.Bool.{Bool, true, false, _&&_, _||_, cond, or-false}
 use mathlib.Core.List.{List, [], _∷_, _++_}
-use native.Mathlib.Nat.{not-suc-le-zero}
 use native.Mathlib.Numerals.{add-one}
 use native.Mathlib.Omega.{arith}
-use borrow.Author.Tests.{eq-eqb, ne-eqb, eqb-true, eqb-false, le-leb, lt-leb, leb-true}
-use lib.Dec.{leb, ltb, eqb}
-use lib.ListN.{length, getD, take, drop, set, length-set, length-append, length-take}
-use lib.Seq.{take-take, take-append-le, take-suc-set, take-set-le, take-all, length-take-le, getD-take}
+use borrow.Author.Tests.{ne-eqb, eqb-true, leb-true}
+use lib.Dec.{leb, eqb}
+use lib.ListN.{length, take, drop, set, length-set, length-append}
+use lib.Seq.{take-take, take-append-le, take-suc-set, take-set-le, length-take-le}
 use Rattle.dng.specs.Repair.{countBelow}
-use Rattle.marks.specs.declared.Kept.{Kept}
 use Rattle.marks.specs.declared.Kept.the-variants as K
-use Rattle.sorts.specs.Sorts.{alike, occ, has, Rises, Climbs, Among, Sorted, Distinct, pastAll}
-use Rattle.marks.specs.Scratch.{Front, Packed, Gains, Joined, grownTo}
-use Rattle.sorts.proofs.Occ.{by-cases, below-or, equal-or, occ-append, occ-parts, occ-some, has-true, has-false, some-has, none-has, has-same, has-append, has-one, rises-more}
-use Rattle.marks.proofs.Chosen.{both, count-le, too-many}
+use Rattle.sorts.specs.Sorts.{occ, has, Rises, Distinct, pastAll}
+use Rattle.marks.specs.Scratch.{Front, Packed, Gains, grownTo}
+use Rattle.sorts.proofs.Occ.{by-cases, equal-or, occ-parts, occ-some, has-true, some-has, has-append, has-one, rises-more}
+use Rattle.marks.proofs.Chosen.{both, too-many}
 use Rattle.sorts.proofs.Searching.{past-above}
 
 -- ---- compacting
@@ -34,12 +32,12 @@ pub packed : (top : ℕ) (s : List ℕ) (n t : ℕ) (z d : List ℕ) (k : ℕ) �
 packed top s n t z d k f v e =
     record {
       front =
-        record {
-          order = omega arith;
-          fits = omega (arith, v .within, length-append z d);
-          rises = rw front (v .rises);
-          below = λ q h. f .below q (sym (held q) ∙ h);
-        };
+          record {
+            order = omega arith;
+            fits = omega (arith, v .within, length-append z d);
+            rises = rw front (v .rises);
+            below = λ q h. f .below q (sym (held q) ∙ h);
+          };
       same = held;
     }
   where
@@ -83,12 +81,12 @@ module _ (top : ℕ) (s : List ℕ) (n t p : ℕ) (f : Front top s n t) (more : 
   place-behind =
       record {
         front =
-          record {
-            order = omega (arith, f .order);
-            fits = omega (arith, length-set s t p);
-            rises = rw (take-set-le n s t p (f .order)) (f .rises);
-            below = placed-below;
-          };
+            record {
+              order = omega (arith, f .order);
+              fits = omega (arith, length-set s t p);
+              rises = rw (take-set-le n s t p (f .order)) (f .rises);
+              below = placed-below;
+            };
         same = λ q h. placed-has q;
       }
 
@@ -97,12 +95,12 @@ module _ (top : ℕ) (s : List ℕ) (n t p : ℕ) (f : Front top s n t) (more : 
   place-front e a =
       record {
         front =
-          record {
-            order = omega arith;
-            fits = omega (arith, length-set s t p);
-            rises = subst (λ (k : ℕ). Rises 0 (take (k + 1) (set s t p))) (sym e) (rw placed (rises-more 0 (take t s) p rises (omega arith) above));
-            below = placed-below;
-          };
+            record {
+              order = omega arith;
+              fits = omega (arith, length-set s t p);
+              rises = subst (λ (k : ℕ). Rises 0 (take (k + 1) (set s t p))) (sym e) (rw placed (rises-more 0 (take t s) p rises (omega arith) above));
+              below = placed-below;
+            };
         same = λ q h. placed-has q;
       }
     where
@@ -118,7 +116,7 @@ module _ (top : ℕ) (s : List ℕ) (n t p : ℕ) (f : Front top s n t) (more : 
   place-grown k e =
       by-cases (leb t n && pastAll (take n s) p)
       (λ b. subst (λ (y : ℕ). Gains top (λ q. eqb q p) s t (set s t p) y (t + 1)) (sym (e ∙ ap (λ (z : Bool). cond z (n + 1) n) b))
-          (by-cases (leb t n) (λ d. place-front (omega (arith, f .order, leb-true t n d)) (rw d at b)) (λ d. both {b = false} (rw d at b) refl)))
+      (by-cases (leb t n) (λ d. place-front (omega (arith, f .order, leb-true t n d)) (rw d at b)) (λ d. both {b = false} (rw d at b) refl)))
       (λ b. subst (λ (y : ℕ). Gains top (λ q. eqb q p) s t (set s t p) y (t + 1)) (sym (e ∙ ap (λ (z : Bool). cond z (n + 1) n) b)) place-behind)
 
 -- no room, and all that is held ascends
@@ -127,5 +125,5 @@ pub place-full : (top : ℕ) (s : List ℕ) (n t p : ℕ) → Front top s n t �
 place-full top s n t p f e h l a =
     let long : length (take t s) ≡ t = length-take-le t s (f .fits) in
     let z : length (take t s) < countBelow top (λ q. has (take t s) q || eqb q p) =
-        too-many top (take t s) p (subst (λ (k : ℕ). Rises 0 (take k s)) e (f .rises)) (f .below) l (subst (λ (k : ℕ). has (take k s) p ≡ false) e a) in
+    too-many top (take t s) p (subst (λ (k : ℕ). Rises 0 (take k s)) e (f .rises)) (f .below) l (subst (λ (k : ℕ). has (take k s) p ≡ false) e a) in
     omega arith

@@ -1,15 +1,13 @@
 -- Steps of gathering, one after another: what is held at the end is what was held or is marked by one of them; and the marks of a span,
 -- of a block of rows and of image positions, step by step. Assumes nothing.
-use Prim.Native.Nat.{ℕ, zero, suc, _+_, _-_, _*_, _/_, _%_, _≤_, _<_, min, max}
-use mathlib.Core.Path.{_≡_, refl, sym, ap, ap₂, subst, _∙_}
+use Prim.Native.Nat.{ℕ, _+_, _-_, _≤_, _<_, max}
+use mathlib.Core.Path.{_≡_, refl, sym, ap, subst, _∙_}
 use mathlib.Core.Bool.{Bool, true, false, _&&_, _||_, or-false, or-assoc}
-use mathlib.Core.List.{List, [], _∷_, _++_}
-use native.Mathlib.Nat.{not-suc-le-zero}
-use native.Mathlib.Numerals.{add-one}
+use mathlib.Core.List.{List}
 use native.Mathlib.Omega.{arith}
-use borrow.Author.Tests.{eq-eqb, ne-eqb, eqb-true, le-leb, lt-ltb, leb-true, ltb-true}
+use borrow.Author.Tests.{eq-eqb, eqb-true, le-leb, lt-ltb, leb-true, ltb-true}
 use lib.Dec.{leb, ltb, eqb}
-use lib.ListN.{length, getD, take, drop, length-take, length-drop}
+use lib.ListN.{length, getD, take, drop, length-drop}
 use lib.Seq.{getD-take, getD-drop, length-take-le}
 use Rattle.dng.specs.Repair.{countBelow}
 use Rattle.marks.specs.declared.Kept.{Kept}
@@ -17,7 +15,7 @@ use Rattle.marks.specs.declared.Kept.the-variants as K
 use Rattle.marks.specs.Marks.{chosen}
 use Rattle.sorts.specs.Sorts.{occ, has, Rises, Cut}
 use Rattle.marks.specs.Scratch.{Front, Packed, Gains, Joined, span}
-use Rattle.sorts.proofs.Occ.{by-cases, below-or, equal-or, occ-parts, occ-at, occ-some, has-true, some-has, rises-take, rises-drop, rises-from, rises-places}
+use Rattle.sorts.proofs.Occ.{equal-or, occ-parts, occ-at, occ-some, has-true, some-has, rises-take, rises-drop, rises-from, rises-places}
 use Rattle.marks.proofs.Filling.{has-more}
 use Rattle.marks.proofs.Chosen.{both, count-le, count-same, chosen-full, is-chosen}
 
@@ -73,8 +71,8 @@ joined-next top m₁ m₂ m s t s₁ n₁ t₁ s₂ (K.Held n₂ t₂) g e h j =
     }
 joined-next top m₁ m₂ m s t s₁ n₁ t₁ s₂ K.Full g e h j =
     let same : countBelow top (λ q. has (take t₁ s₁) q || m₂ q) ≡ countBelow top (λ q. has (take t s) q || m q) =
-        count-same top (λ q. has (take t₁ s₁) q || m₂ q) (λ q. has (take t s) q || m q)
-        (λ q l. ap (λ (b : Bool). b || m₂ q) (g .same q l) ∙ or-assoc (has (take t s) q) (m₁ q) (m₂ q) ∙ ap (λ (b : Bool). has (take t s) q || b) (sym (h q l))) in
+    count-same top (λ q. has (take t₁ s₁) q || m₂ q) (λ q. has (take t s) q || m q)
+    (λ q l. ap (λ (b : Bool). b || m₂ q) (g .same q l) ∙ or-assoc (has (take t s) q) (m₁ q) (m₂ q) ∙ ap (λ (b : Bool). has (take t s) q || b) (sym (h q l))) in
     omega arith
 
 -- the same marks by another name
@@ -84,7 +82,7 @@ joined-as top m m′ s t s′ (K.Held n′ t′) h j =
     record { front = j .front; same = λ q l. j .same q l ∙ ap (λ (b : Bool). has (take t s) q || b) (h q l) }
 joined-as top m m′ s t s′ K.Full h j =
     let same : countBelow top (λ q. has (take t s) q || m q) ≡ countBelow top (λ q. has (take t s) q || m′ q) =
-        count-same top (λ q. has (take t s) q || m q) (λ q. has (take t s) q || m′ q) (λ q l. ap (λ (b : Bool). has (take t s) q || b) (h q l)) in
+    count-same top (λ q. has (take t s) q || m q) (λ q. has (take t s) q || m′ q) (λ q l. ap (λ (b : Bool). has (take t s) q || b) (h q l)) in
     omega arith
 
 -- more marks than a step that found no room
@@ -93,11 +91,11 @@ pub joined-over : (top : ℕ) (m₁ m₂ m : ℕ → Bool) (s : List ℕ) (t : �
     → length s < countBelow top (λ q. has (take t s) q || m q)
 joined-over top m₁ m₂ m s t s₁ n₁ t₁ g e h j =
     let less : countBelow top (λ q. has (take t₁ s₁) q || m₂ q) ≤ countBelow top (λ q. has (take t s) q || m q) =
-        count-le top (λ q. has (take t₁ s₁) q || m₂ q) (λ q. has (take t s) q || m q)
-        (λ q l d. or-cases (has (take t₁ s₁) q) (m₂ q) d
-            (λ a. or-cases (has (take t s) q) (m₁ q) (sym (g .same q l) ∙ a) (or-left _ _)
-                (λ b. or-right (has (take t s) q) (m q) (h q l (or-left (m₁ q) (m₂ q) b))))
-            (λ b. or-right (has (take t s) q) (m q) (h q l (or-right (m₁ q) (m₂ q) b)))) in
+    count-le top (λ q. has (take t₁ s₁) q || m₂ q) (λ q. has (take t s) q || m q)
+    (λ q l d. or-cases (has (take t₁ s₁) q) (m₂ q) d
+    (λ a. or-cases (has (take t s) q) (m₁ q) (sym (g .same q l) ∙ a) (or-left _ _)
+    (λ b. or-right (has (take t s) q) (m q) (h q l (or-left (m₁ q) (m₂ q) b))))
+    (λ b. or-right (has (take t s) q) (m q) (h q l (or-right (m₁ q) (m₂ q) b)))) in
     omega arith
 
 -- ---- spans
@@ -114,9 +112,9 @@ pub span-more : (a p q : ℕ) → a ≤ p → span a (p + 1) q ≡ (span a p q |
 span-more a p q h =
     iff-eq _ _
     (λ e. let w = span-is a (p + 1) q e in
-          equal-or q p (λ d. or-right (span a p q) (eqb q p) (eq-eqb q p d)) (λ d. or-left (span a p q) (eqb q p) (span-of a p q (w .0) (omega (arith, w .1)))))
+    equal-or q p (λ d. or-right (span a p q) (eqb q p) (eq-eqb q p d)) (λ d. or-left (span a p q) (eqb q p) (span-of a p q (w .0) (omega (arith, w .1)))))
     (λ e. or-cases (span a p q) (eqb q p) e (λ d. let w = span-is a p q d in span-of a (p + 1) q (w .0) (omega (arith, w .1)))
-        (λ d. let z = eqb-true q p d in span-of a (p + 1) q (omega arith) (omega arith)))
+    (λ d. let z = eqb-true q p d in span-of a (p + 1) q (omega arith) (omega arith)))
 
 pub span-none : (a q : ℕ) → span a a q ≡ true → ⊥
 span-none a q e = let w = span-is a a q e in omega (arith, w .0, w .1)

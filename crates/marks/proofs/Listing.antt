@@ -3,8 +3,8 @@
 use Prim.Native.Nat.{ℕ, zero, suc, _+_, _-_, _*_, _/_, _%_, _≤_, _<_, min, max}
 use mathlib.Core.Path.{_≡_, refl, sym, ap, ap₂, subst, _∙_}
 use mathlib.Core.Bool.{Bool, true, false, _&&_, _||_, or-comm, and-assoc}
-use mathlib.Core.List.{List, []}
-use native.Mathlib.Nat.{not-suc-le-zero, le-trans, div-add-mod', mod-lt, le-div-iff-mul-le, div-lt-iff-lt-mul, mul-comm, mul-le-mul, mul-le-mul-right, suc-mul, zero-add}
+use mathlib.Core.List.{List}
+use native.Mathlib.Nat.{le-trans, div-add-mod', mod-lt, le-div-iff-mul-le, div-lt-iff-lt-mul, mul-comm, mul-le-mul, mul-le-mul-right, suc-mul}
 use native.Mathlib.Numerals.{add-one}
 use native.Mathlib.Omega.{arith}
 use borrow.Author.Tests.{eq-eqb, eqb-true}
@@ -20,9 +20,9 @@ use Rattle.marks.specs.declared.Kept.the-variants as K
 use Rattle.marks.specs.Marks.{chosen, Holds, listedAt, Fits}
 use Rattle.sorts.specs.Sorts.{occ, has, Rises}
 use Rattle.marks.specs.Scratch.{Front, Packed, Gains, Joined, span, block, Inside, inImage, atPoint, inRect}
-use Rattle.sorts.proofs.Occ.{by-cases, below-or, equal-or, none-has}
+use Rattle.sorts.proofs.Occ.{equal-or}
 use Rattle.marks.proofs.Chosen.{both, count-le, count-same, chosen-count, is-chosen-has}
-use Rattle.marks.proofs.Joining.{iff-eq, or-cases, or-left, or-right, and-both, and-of, span-of, span-is, held-front, gains-held, joined-next, joined-as}
+use Rattle.marks.proofs.Joining.{iff-eq, or-cases, or-left, or-right, and-both, and-of, span-of, span-is, held-front, gains-held, joined-next}
 
 -- ---- rows
 
@@ -55,18 +55,18 @@ pub block-more : (width r0 c0 c1 y q : ℕ) → r0 ≤ y → c1 ≤ width
 block-more width r0 c0 c1 y q h k =
     iff-eq _ _
     (λ e.
-        let w = block-is width r0 c0 (y + 1) c1 q e in
-        equal-or (q / width) y
-        (λ d. or-right (block width r0 c0 y c1 q) _
-            (let z : y * width + q % width ≡ q = subst (λ (x : ℕ). x * width + q % width ≡ q) d (div-add-mod' q width) in
-            span-of (y * width + c0) (y * width + c1) q (omega (arith, w .2)) (omega (arith, w .3))))
-        (λ d. or-left _ (span (y * width + c0) (y * width + c1) q) (block-of width r0 c0 y c1 q (w .0) (omega (arith, w .1)) (w .2) (w .3))))
+    let w = block-is width r0 c0 (y + 1) c1 q e in
+    equal-or (q / width) y
+    (λ d. or-right (block width r0 c0 y c1 q) _
+    (let z : y * width + q % width ≡ q = subst (λ (x : ℕ). x * width + q % width ≡ q) d (div-add-mod' q width) in
+    span-of (y * width + c0) (y * width + c1) q (omega (arith, w .2)) (omega (arith, w .3))))
+    (λ d. or-left _ (span (y * width + c0) (y * width + c1) q) (block-of width r0 c0 y c1 q (w .0) (omega (arith, w .1)) (w .2) (w .3))))
     (λ e. or-cases (block width r0 c0 y c1 q) (span (y * width + c0) (y * width + c1) q) e
-        (λ d. let w = block-is width r0 c0 y c1 q d in block-of width r0 c0 (y + 1) c1 q (w .0) (omega (arith, w .1)) (w .2) (w .3))
-        (λ d.
-            let w = span-is (y * width + c0) (y * width + c1) q d in
-            let i = in-row width y q (omega (arith, w .0)) (omega (arith, w .1)) in
-            block-of width r0 c0 (y + 1) c1 q (omega (arith, i .0)) (omega (arith, i .0)) (omega (arith, i .1, w .0)) (omega (arith, i .1, w .1))))
+    (λ d. let w = block-is width r0 c0 y c1 q d in block-of width r0 c0 (y + 1) c1 q (w .0) (omega (arith, w .1)) (w .2) (w .3))
+    (λ d.
+    let w = span-is (y * width + c0) (y * width + c1) q d in
+    let i = in-row width y q (omega (arith, w .0)) (omega (arith, w .1)) in
+    block-of width r0 c0 (y + 1) c1 q (omega (arith, i .0)) (omega (arith, i .0)) (omega (arith, i .1, w .0)) (omega (arith, i .1, w .1))))
 
 pub block-low : (width r0 c0 r1 c1 y q : ℕ) → y ≤ r1 → block width r0 c0 y c1 q ≡ true → block width r0 c0 r1 c1 q ≡ true
 block-low width r0 c0 r1 c1 y q h e = let w = block-is width r0 c0 y c1 q e in block-of width r0 c0 r1 c1 q (w .0) (omega (arith, w .1)) (w .2) (w .3)
@@ -212,7 +212,7 @@ front-none top s = record { order = omega arith; fits = omega arith; rises = tt;
 pub listed-over : (top : ℕ) (m : ℕ → Bool) (s : List ℕ) → length s < countBelow top (λ q. has (take 0 s) q || m q) → length s < countBelow top m
 listed-over top m s h =
     let e : countBelow top (λ q. has (take 0 s) q || m q) ≡ countBelow top m =
-        count-same top (λ q. has (take 0 s) q || m q) m (λ q l. ap (λ (b : Bool). b || m q) (no-has s q)) in
+    count-same top (λ q. has (take 0 s) q || m q) m (λ q l. ap (λ (b : Bool). b || m q) (no-has s q)) in
     omega arith
 
 pub listed-all : (top : ℕ) (m : ℕ → Bool) (s s₁ : List ℕ) (n t : ℕ) (s₂ : List ℕ) (k : ℕ) → Gains top m s 0 s₁ n t → Packed top s₁ t s₂ k
@@ -240,11 +240,11 @@ module _ (w : Window) (b : List ℕ) (np nr : ℕ) (s s₁ : List ℕ) (r : Kept
   pub points-over : r ≡ K.Full → length s < countBelow (positions w) (listedAt w b np nr)
   points-over e =
       let h : length s < countBelow (positions w) (λ q. anyBelow np (λ i. atPoint w b i q)) =
-          listed-over (positions w) (λ q. anyBelow np (λ i. atPoint w b i q)) s
-          (subst (λ (x : Kept). Joined (positions w) (λ q. anyBelow np (λ i. atPoint w b i q)) s 0 s₁ x) e j) in
+      listed-over (positions w) (λ q. anyBelow np (λ i. atPoint w b i q)) s
+      (subst (λ (x : Kept). Joined (positions w) (λ q. anyBelow np (λ i. atPoint w b i q)) s 0 s₁ x) e j) in
       let k : countBelow (positions w) (λ q. anyBelow np (λ i. atPoint w b i q)) ≤ countBelow (positions w) (listedAt w b np nr) =
-          count-le (positions w) (λ q. anyBelow np (λ i. atPoint w b i q)) (listedAt w b np nr)
-          (λ q l d. listed-both w b np nr q ∙ or-left _ (anyBelow nr (λ i. inRect w b np i q)) d) in
+      count-le (positions w) (λ q. anyBelow np (λ i. atPoint w b i q)) (listedAt w b np nr)
+      (λ q l d. listed-both w b np nr q ∙ or-left _ (anyBelow nr (λ i. inRect w b np i q)) d) in
       omega arith
 
   module _ (n t : ℕ) (e : r ≡ K.Held n t) (long : length s₁ ≡ length s) (s₂ : List ℕ) (r₂ : Kept)

@@ -1,16 +1,15 @@
+-- `marks::all_points` meets its contract: after each turn the first i points are held.
+-- Assumes nothing.
+use Prim.Native.Nat.{ℕ, _-_, _≤_}
+use mathlib.Core.Path.{_≡_, ap, _∙_}
+use native.Mathlib.Omega.{arith}
+use borrow.Author.Needs.{needs}
+use Rattle.dng.specs.Repair.{anyBelow, positions}
 use Rattle.marks.proofs.Listing.{any-none, any-more, any-low, any-at, front-none}
 use Rattle.marks.proofs.Joining.{Steps, steps-start, steps-next, steps-full, steps-end}
 use Rattle.marks.specs.Scratch.{atPoint}
-use Rattle.dng.specs.Repair.{anyBelow, positions}
-use mathlib.Core.Path.{_≡_, ap, _∙_}
-use Prim.Native.Nat.{ℕ, _-_, _≤_}
-use native.Mathlib.Omega.{arith}
-use borrow.Author.Needs.{needs}
 use Rattle.marks.proofs.all_points.Statement.{statement}
 use Rattle.marks.proofs.all_points.Tie as tie
-use Rattle.marks.proofs.all_points.Reads as reads
-use Rattle.marks.proofs.all_points.Lts as lts
-use Rattle.marks.proofs.point.Reads as point-reads
 
 abbrev Inv-loop : tie.InvT-loop
 Inv-loop body points w s₀ k₀ u₀ i₀ s k u i = Steps (positions w) (λ j q. anyBelow j (λ i. atPoint w body i q)) s₀ 0 s k u i × (i ≤ points)
@@ -18,46 +17,39 @@ Inv-loop body points w s₀ k₀ u₀ i₀ s k u i = Steps (positions w) (λ j q
 abbrev μ-loop : tie.MeasureT-loop
 μ-loop body points w s₀ k₀ u₀ i₀ s k u i = points - i
 
--- src/lib.rt:332:5
 loop-holds : tie.Need-loop-holds Inv-loop μ-loop
 loop-holds c = (steps-start _ _ _ _ _ _ (front-none _ _) (λ q. any-none _), omega arith)
 
--- src/lib.rt:333:15
 point-requires : tie.Need-point-requires Inv-loop μ-loop
 point-requires c κs =
     let at = c .before .before .before .before .before in
     (c .before .before .loop .inv .0 .gains .front, (at .pre .0, omega (arith, at .pre .1)))
 
--- src/lib.rt:334:29
 enum-known-k1 : tie.Need-enum-known-k1 Inv-loop μ-loop
 enum-known-k1 c = search needs
 
--- src/lib.rt:337:17
 add-i : tie.Need-add-i Inv-loop μ-loop
 add-i c = omega (arith, c .before .before .before .before .before .before .before .before .before .before .before .pre)
 
--- src/lib.rt:332:5
 loop-less : tie.Need-loop-less Inv-loop μ-loop
 loop-less c = omega arith
 
--- src/lib.rt:332:5
 loop-again : tie.Need-loop-again Inv-loop μ-loop
 loop-again c =
     let one = c .before .before .before .before .before .point in
     let in-loop = c .before .before .before .before .before .before .before .before .loop in
-    let at = c .before .before .before .before .before .before .before .before .before .before .before in
-    (steps-next _ _ _ _ _ _ _ _ (in-loop .inv .0) _ _ (one .result) _ _ (c .before .k1 .given .1) (one .ensures) (one .kept .1 .1 .1 .0)
-    (λ q l. any-more (in-loop .i) (λ i. atPoint (at .args .w) (at .args .body .now) i q)), omega (arith, c .before .before .before .before .before .before .before .loop-test .taken))
+    let at = c .before .before .before .before .before .before .before .before .before .before .before in (
+      steps-next _ _ _ _ _ _ _ _ (in-loop .inv .0) _ _ (one .result) _ _ (c .before .k1 .given .1) (one .ensures) (one .kept .1 .1 .1 .0)
+          (λ q l. any-more (in-loop .i) (λ i. atPoint (at .args .w) (at .args .body .now) i q)),
+      omega (arith, c .before .before .before .before .before .before .before .loop-test .taken),
+    )
 
--- src/lib.rt:340:17
 enum-told : tie.Need-enum-told Inv-loop μ-loop
 enum-told c = search needs
 
--- src/lib.rt:340:17
 same-length : tie.Need-same-length Inv-loop μ-loop
 same-length c = c .before .before .before .before .point .kept .1 .1 .1 .0 ∙ c .before .before .before .before .before .before .before .loop .inv .0 .long
 
--- src/lib.rt:340:17
 returns : tie.Need-returns Inv-loop μ-loop
 returns c =
     let one = c .before .before .before .before .point in
@@ -67,11 +59,9 @@ returns c =
     steps-full _ _ _ _ _ _ _ _ (in-loop .inv .0) _ _ _ (one .result) (c .enum-told .given .1) (one .ensures)
     (λ q l. any-low (in-loop .i) (at .args .points) (λ i. atPoint (at .args .w) (at .args .body .now) i q) (in-loop .inv .1)) (λ q l. any-at (in-loop .i) (at .args .points) (λ i. atPoint (at .args .w) (at .args .body .now) i q) less)
 
--- src/lib.rt:324:1
 same-length-2 : tie.Need-same-length-2 Inv-loop μ-loop
 same-length-2 c = c .before .loop .inv .0 .long
 
--- src/lib.rt:324:1
 returns-2 : tie.Need-returns-2 Inv-loop μ-loop
 returns-2 c =
     let in-loop = c .before .loop in

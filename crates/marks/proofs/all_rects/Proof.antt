@@ -1,16 +1,15 @@
+-- `marks::all_rects` meets its contract: after each turn the first i rectangles are held besides what was held at the start.
+-- Assumes nothing.
+use Prim.Native.Nat.{ℕ, _-_, _≤_}
+use mathlib.Core.Path.{_≡_, ap, _∙_}
+use native.Mathlib.Omega.{arith}
+use borrow.Author.Needs.{needs}
+use Rattle.dng.specs.Repair.{anyBelow, positions}
 use Rattle.marks.proofs.Listing.{any-none, any-more, any-low, any-at}
 use Rattle.marks.proofs.Joining.{Steps, steps-start, steps-next, steps-full, steps-end}
 use Rattle.marks.specs.Scratch.{inRect}
-use Rattle.dng.specs.Repair.{anyBelow, positions}
-use mathlib.Core.Path.{_≡_, ap, _∙_}
-use Prim.Native.Nat.{ℕ, _-_, _≤_}
-use native.Mathlib.Omega.{arith}
-use borrow.Author.Needs.{needs}
 use Rattle.marks.proofs.all_rects.Statement.{statement}
 use Rattle.marks.proofs.all_rects.Tie as tie
-use Rattle.marks.proofs.all_rects.Reads as reads
-use Rattle.marks.proofs.all_rects.Lts as lts
-use Rattle.marks.proofs.rect.Reads as rect-reads
 
 abbrev Inv-loop : tie.InvT-loop
 Inv-loop body points rects w s₀ n t k₀ u₀ i₀ s k u i = Steps (positions w) (λ j q. anyBelow j (λ i. inRect w body points i q)) s₀ t s k u i × (i ≤ rects)
@@ -18,46 +17,39 @@ Inv-loop body points rects w s₀ n t k₀ u₀ i₀ s k u i = Steps (positions 
 abbrev μ-loop : tie.MeasureT-loop
 μ-loop body points rects w s₀ n t k₀ u₀ i₀ s k u i = rects - i
 
--- src/lib.rt:356:5
 loop-holds : tie.Need-loop-holds Inv-loop μ-loop
 loop-holds c = (steps-start _ _ _ _ _ _ (c .before .before .pre .0) (λ q. any-none _), omega arith)
 
--- src/lib.rt:357:15
 rect-requires : tie.Need-rect-requires Inv-loop μ-loop
 rect-requires c κs =
     let at = c .before .before .before .before .before in
     (c .before .before .loop .inv .0 .gains .front, (at .pre .1 .0, (at .pre .1 .1 .0, omega (arith, at .pre .1 .1 .1))))
 
--- src/lib.rt:358:29
 enum-known-k1 : tie.Need-enum-known-k1 Inv-loop μ-loop
 enum-known-k1 c = search needs
 
--- src/lib.rt:361:17
 add-i : tie.Need-add-i Inv-loop μ-loop
 add-i c = omega (arith, c .before .before .before .before .before .before .before .before .before .before .before .pre)
 
--- src/lib.rt:356:5
 loop-less : tie.Need-loop-less Inv-loop μ-loop
 loop-less c = omega arith
 
--- src/lib.rt:356:5
 loop-again : tie.Need-loop-again Inv-loop μ-loop
 loop-again c =
     let one = c .before .before .before .before .before .rect in
     let in-loop = c .before .before .before .before .before .before .before .before .loop in
-    let at = c .before .before .before .before .before .before .before .before .before .before .before in
-    (steps-next _ _ _ _ _ _ _ _ (in-loop .inv .0) _ _ (one .result) _ _ (c .before .k1 .given .1) (one .ensures) (one .kept .1 .1 .1 .1 .0)
-    (λ q l. any-more (in-loop .i) (λ i. inRect (at .args .w) (at .args .body .now) (at .args .points) i q)), omega (arith, c .before .before .before .before .before .before .before .loop-test .taken))
+    let at = c .before .before .before .before .before .before .before .before .before .before .before in (
+      steps-next _ _ _ _ _ _ _ _ (in-loop .inv .0) _ _ (one .result) _ _ (c .before .k1 .given .1) (one .ensures) (one .kept .1 .1 .1 .1 .0)
+          (λ q l. any-more (in-loop .i) (λ i. inRect (at .args .w) (at .args .body .now) (at .args .points) i q)),
+      omega (arith, c .before .before .before .before .before .before .before .loop-test .taken),
+    )
 
--- src/lib.rt:364:17
 enum-told : tie.Need-enum-told Inv-loop μ-loop
 enum-told c = search needs
 
--- src/lib.rt:364:17
 same-length : tie.Need-same-length Inv-loop μ-loop
 same-length c = c .before .before .before .before .rect .kept .1 .1 .1 .1 .0 ∙ c .before .before .before .before .before .before .before .loop .inv .0 .long
 
--- src/lib.rt:364:17
 returns : tie.Need-returns Inv-loop μ-loop
 returns c =
     let one = c .before .before .before .before .rect in
@@ -67,11 +59,9 @@ returns c =
     steps-full _ _ _ _ _ _ _ _ (in-loop .inv .0) _ _ _ (one .result) (c .enum-told .given .1) (one .ensures)
     (λ q l. any-low (in-loop .i) (at .args .rects) (λ i. inRect (at .args .w) (at .args .body .now) (at .args .points) i q) (in-loop .inv .1)) (λ q l. any-at (in-loop .i) (at .args .rects) (λ i. inRect (at .args .w) (at .args .body .now) (at .args .points) i q) less)
 
--- src/lib.rt:347:1
 same-length-2 : tie.Need-same-length-2 Inv-loop μ-loop
 same-length-2 c = c .before .loop .inv .0 .long
 
--- src/lib.rt:347:1
 returns-2 : tie.Need-returns-2 Inv-loop μ-loop
 returns-2 c =
     let in-loop = c .before .loop in

@@ -1,22 +1,18 @@
-use Rattle.marks.proofs.Chosen.{both}
+-- `marks::due` meets its contract: where it is not due there is room.
+-- Assumes nothing.
 use mathlib.Core.Path.{refl}
 use mathlib.Core.Bool.{true}
-use native.Mathlib.Omega.{arith}
 use borrow.Author.Needs.{needs}
+use Rattle.marks.proofs.Chosen.{both}
 use Rattle.marks.proofs.due.Statement.{statement}
 use Rattle.marks.proofs.due.Tie as tie
-use Rattle.marks.proofs.due.Reads as reads
-use Rattle.marks.proofs.due.Lts as lts
 
--- src/lib.rt:148:9
 returns : tie.Need-returns
 returns c = λ e h. both {b = true} refl e
 
--- src/lib.rt:144:1
 returns-2 : tie.Need-returns-2
 returns-2 c = search needs
 
--- src/lib.rt:144:1
 returns-3 : tie.Need-returns-3
 returns-3 c = search needs
 

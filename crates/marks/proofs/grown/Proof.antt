@@ -1,35 +1,28 @@
-use borrow.Author.Tests.{lt-leb, le-leb}
-use lib.Seq.{length-take-le}
+-- `marks::grown` meets its contract: the front grows where all that is held ascends and the position is above it.
+-- Assumes nothing.
 use mathlib.Core.Path.{refl, sym, _∙_}
 use native.Mathlib.Omega.{arith}
+use borrow.Author.Tests.{lt-leb, le-leb}
 use borrow.Author.Needs.{needs}
+use lib.Seq.{length-take-le}
 use Rattle.marks.proofs.grown.Statement.{statement}
 use Rattle.marks.proofs.grown.Tie as tie
-use Rattle.marks.proofs.grown.Reads as reads
-use Rattle.marks.proofs.grown.Lts as lts
-use Rattle.sorts.proofs.past.Reads as past-reads
 
--- src/lib.rt:158:9
 returns : tie.Need-returns
 returns c = rw (lt-leb (c .before .before .args .t) (c .before .before .args .n) (c .if1 .taken)) refl
 
--- src/lib.rt:160:13
 slice-aggregate-past : tie.Need-slice-aggregate-past
 slice-aggregate-past c = sym (length-take-le (c .before .before .before .args .n) (c .before .before .before .args .s .now) (omega arith))
 
--- src/lib.rt:160:8
 past-requires : tie.Need-past-requires
 past-requires c κs = search needs
 
--- src/lib.rt:160:36
 add-result : tie.Need-add-result
 add-result c = search needs
 
--- src/lib.rt:153:1
 returns-2 : tie.Need-returns-2
 returns-2 c = rw (le-leb (c .before .before .before .before .before .args .t) (c .before .before .before .before .before .args .n) (c .before .before .before .if1 .left), sym (c .before .past .ensures) ∙ c .if2 .taken) refl
 
--- src/lib.rt:153:1
 returns-3 : tie.Need-returns-3
 returns-3 c = rw (le-leb (c .before .before .before .before .before .args .t) (c .before .before .before .before .before .args .n) (c .before .before .before .if1 .left), sym (c .before .past .ensures) ∙ c .if2 .left) refl
 

@@ -1,40 +1,30 @@
-use Rattle.marks.proofs.Listing.{area, Cutting, cutting, cut-none, cut-no-rows, cut-inside, cut-marks}
-use Rattle.marks.proofs.Joining.{joined-as}
+-- `marks::item` meets its contract: inside the window the cut numbers mark what the image positions mark.
+-- Assumes nothing.
 use native.Mathlib.Omega.{arith}
 use borrow.Author.Needs.{needs}
+use Rattle.marks.proofs.Listing.{area, Cutting, cutting, cut-none, cut-no-rows, cut-inside, cut-marks}
+use Rattle.marks.proofs.Joining.{joined-as}
 use Rattle.marks.proofs.item.Statement.{statement}
 use Rattle.marks.proofs.item.Tie as tie
-use Rattle.marks.proofs.item.Reads as reads
-use Rattle.marks.proofs.item.Lts as lts
-use Rattle.marks.proofs.less.Reads as less-reads
-use Rattle.marks.proofs.lesser.Reads as lesser-reads
-use Rattle.marks.proofs.patch.Reads as patch-reads
 
--- src/lib.rt:230:9
 less-requires : tie.Need-less-requires
 less-requires c κs = search needs
 
--- src/lib.rt:231:21
 less-requires-2 : tie.Need-less-requires-2
 less-requires-2 c κs = search needs
 
--- src/lib.rt:231:9
 lesser-requires : tie.Need-lesser-requires
 lesser-requires c κs = search needs
 
--- src/lib.rt:232:9
 less-requires-3 : tie.Need-less-requires-3
 less-requires-3 c κs = search needs
 
--- src/lib.rt:233:21
 less-requires-4 : tie.Need-less-requires-4
 less-requires-4 c κs = search needs
 
--- src/lib.rt:233:9
 lesser-requires-2 : tie.Need-lesser-requires-2
 lesser-requires-2 c κs = search needs
 
--- src/lib.rt:235:9
 returns : tie.Need-returns
 returns c =
     let y0 = c .before .before .before .before .before .before .less in
@@ -45,10 +35,9 @@ returns c =
     let x1 = c .before .lesser2 in
     let at = c .before .before .before .before .before .before .before .before in
     let v : Cutting (at .args .w) (at .args .r0) (at .args .c0) (at .args .r1) (at .args .c1) (y0 .result) (x0 .result) (y1 .result) (x1 .result) =
-        cutting _ _ _ _ _ _ _ _ _ _ _ (y0 .ensures) (dy .ensures) (y1 .ensures) (x0 .ensures) (dx .ensures) (x1 .ensures) in
+    cutting _ _ _ _ _ _ _ _ _ _ _ (y0 .ensures) (dy .ensures) (y1 .ensures) (x0 .ensures) (dx .ensures) (x1 .ensures) in
     cut-none _ _ _ _ _ _ _ _ _ (at .pre .1) v (c .if1 .taken) _ _ _ (at .pre .0)
 
--- src/lib.rt:238:9
 returns-2 : tie.Need-returns-2
 returns-2 c =
     let y0 = c .before .before .before .before .before .before .before .less in
@@ -59,14 +48,12 @@ returns-2 c =
     let x1 = c .before .before .lesser2 in
     let at = c .before .before .before .before .before .before .before .before .before in
     let v : Cutting (at .args .w) (at .args .r0) (at .args .c0) (at .args .r1) (at .args .c1) (y0 .result) (x0 .result) (y1 .result) (x1 .result) =
-        cutting _ _ _ _ _ _ _ _ _ _ _ (y0 .ensures) (dy .ensures) (y1 .ensures) (x0 .ensures) (dx .ensures) (x1 .ensures) in
+    cutting _ _ _ _ _ _ _ _ _ _ _ (y0 .ensures) (dy .ensures) (y1 .ensures) (x0 .ensures) (dx .ensures) (x1 .ensures) in
     cut-no-rows _ _ _ _ _ _ _ _ _ (at .pre .1) v (c .if2 .taken) _ _ _ (at .pre .0)
 
--- src/lib.rt:240:45
 mul-patch : tie.Need-mul-patch
 mul-patch c = omega (arith, area (c .before .before .before .before .before .before .before .before .before .before .before .args .w) (c .before .before .before .before .before .before .before .before .before .before .before .pre .1))
 
--- src/lib.rt:240:5
 patch-requires : tie.Need-patch-requires
 patch-requires c κs =
     let y0 = c .before .before .before .before .before .before .before .before .before .less in
@@ -77,14 +64,12 @@ patch-requires c κs =
     let x1 = c .before .before .before .before .lesser2 in
     let at = c .before .before .before .before .before .before .before .before .before .before .before in
     let v : Cutting (at .args .w) (at .args .r0) (at .args .c0) (at .args .r1) (at .args .c1) (y0 .result) (x0 .result) (y1 .result) (x1 .result) =
-        cutting _ _ _ _ _ _ _ _ _ _ _ (y0 .ensures) (dy .ensures) (y1 .ensures) (x0 .ensures) (dx .ensures) (x1 .ensures) in
+    cutting _ _ _ _ _ _ _ _ _ _ _ (y0 .ensures) (dy .ensures) (y1 .ensures) (x0 .ensures) (dx .ensures) (x1 .ensures) in
     (at .pre .0, (cut-inside _ _ _ _ _ _ _ _ _ (at .pre .1) v (c .before .before .before .if1 .left), omega (arith, c .before .before .if2 .left)))
 
--- src/lib.rt:225:1
 same-length : tie.Need-same-length
 same-length c = search needs
 
--- src/lib.rt:225:1
 returns-3 : tie.Need-returns-3
 returns-3 c =
     let y0 = c .before .before .before .before .before .before .before .before .before .before .before .before .less in
@@ -95,7 +80,7 @@ returns-3 c =
     let x1 = c .before .before .before .before .before .before .before .lesser2 in
     let at = c .before .before .before .before .before .before .before .before .before .before .before .before .before .before in
     let v : Cutting (at .args .w) (at .args .r0) (at .args .c0) (at .args .r1) (at .args .c1) (y0 .result) (x0 .result) (y1 .result) (x1 .result) =
-        cutting _ _ _ _ _ _ _ _ _ _ _ (y0 .ensures) (dy .ensures) (y1 .ensures) (x0 .ensures) (dx .ensures) (x1 .ensures) in
+    cutting _ _ _ _ _ _ _ _ _ _ _ (y0 .ensures) (dy .ensures) (y1 .ensures) (x0 .ensures) (dx .ensures) (x1 .ensures) in
     joined-as _ _ _ _ _ _ (c .before .before .patch .result) (cut-marks _ _ _ _ _ _ _ _ _ (at .pre .1) v) (c .before .before .patch .ensures)
 
 pub item-spec : {M : Type 1} → statement M

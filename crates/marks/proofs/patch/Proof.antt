@@ -1,42 +1,33 @@
-use Rattle.marks.proofs.Listing.{patch-start, patch-rows}
-use Rattle.marks.proofs.Joining.{joined-as}
+-- `marks::patch` meets its contract: whole rows are one span.
+-- Assumes nothing.
 use native.Mathlib.Omega.{arith}
 use borrow.Author.Needs.{needs}
+use Rattle.marks.proofs.Listing.{patch-start, patch-rows}
+use Rattle.marks.proofs.Joining.{joined-as}
 use Rattle.marks.proofs.patch.Statement.{statement}
 use Rattle.marks.proofs.patch.Tie as tie
-use Rattle.marks.proofs.patch.Reads as reads
-use Rattle.marks.proofs.patch.Lts as lts
-use Rattle.marks.proofs.rows.Reads as rows-reads
-use Rattle.marks.proofs.run.Reads as run-reads
 
--- src/lib.rt:205:8
 sub-if1 : tie.Need-sub-if1
 sub-if1 c = search needs
 
--- src/lib.rt:206:22
 mul-run : tie.Need-mul-run
 mul-run c =
     let at = c .before .before .before in
     let a = at .args in
     omega (arith, patch-start (a .width) (a .r0) (a .c0) (a .r1) (a .c1) (a .top) (at .pre .1 .0) (at .pre .1 .1), at .pre .1 .0 .small)
 
--- src/lib.rt:206:34
 mul-run-2 : tie.Need-mul-run-2
 mul-run-2 c = search needs
 
--- src/lib.rt:206:9
 run-requires : tie.Need-run-requires
 run-requires c κs = search needs
 
--- src/lib.rt:208:9
 rows-requires : tie.Need-rows-requires
 rows-requires c κs = search needs
 
--- src/lib.rt:199:1
 same-length : tie.Need-same-length
 same-length c = search needs
 
--- src/lib.rt:199:1
 returns : tie.Need-returns
 returns c =
     let at = c .before .before .before .before .before .before in
@@ -44,11 +35,9 @@ returns c =
     joined-as _ _ _ _ _ _ (c .before .before .run .result)
     (λ q l. patch-rows (a .width) (a .r0) (a .c0) (a .r1) (a .c1) (a .top) q (at .pre .1 .0) (c .before .before .before .before .if1 .taken)) (c .before .before .run .ensures)
 
--- src/lib.rt:199:1
 same-length-2 : tie.Need-same-length-2
 same-length-2 c = search needs
 
--- src/lib.rt:199:1
 returns-2 : tie.Need-returns-2
 returns-2 c = search needs
 

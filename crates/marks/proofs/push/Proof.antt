@@ -1,51 +1,39 @@
-use Rattle.marks.proofs.Joining.{joined-next, gains-packed}
+-- `marks::push` meets its contract: after a compaction, or straight behind what is held.
+-- Assumes nothing.
 use mathlib.Core.Bool.{false}
 use mathlib.Core.Path.{refl}
 use native.Mathlib.Omega.{arith}
 use borrow.Author.Needs.{needs}
+use Rattle.marks.proofs.Joining.{joined-next, gains-packed}
 use Rattle.marks.proofs.push.Statement.{statement}
 use Rattle.marks.proofs.push.Tie as tie
-use Rattle.marks.proofs.push.Reads as reads
-use Rattle.marks.proofs.push.Lts as lts
-use Rattle.marks.proofs.append.Reads as append-reads
-use Rattle.marks.proofs.compact.Reads as compact-reads
-use Rattle.marks.proofs.due.Reads as due-reads
-use Rattle.marks.proofs.place.Reads as place-reads
 
--- src/lib.rt:93:8
 due-requires : tie.Need-due-requires
 due-requires c κs = search needs
 
--- src/lib.rt:94:13
 compact-requires : tie.Need-compact-requires
 compact-requires c κs = search needs
 
--- src/lib.rt:95:9
 place-requires : tie.Need-place-requires
 place-requires c κs = search needs
 
--- src/lib.rt:97:9
 append-requires : tie.Need-append-requires
 append-requires c κs =
     let at = c .before .before .before .before in
     (at .pre .0, (omega (arith, at .pre .0 .fits, c .before .before .due .ensures (c .before .if1 .left)), at .pre .1))
 
--- src/lib.rt:88:1
 same-length : tie.Need-same-length
 same-length c = search needs
 
--- src/lib.rt:88:1
 returns : tie.Need-returns
 returns c =
     let small = c .before .before .before .before .before .before .compact in
     joined-next _ (λ q. false) _ _ _ _ _ _ _ _ (c .before .before .place .result) (gains-packed _ _ _ _ _ (small .ensures)) (small .kept .0) (λ q l. refl)
     (c .before .before .place .ensures)
 
--- src/lib.rt:88:1
 same-length-2 : tie.Need-same-length-2
 same-length-2 c = search needs
 
--- src/lib.rt:88:1
 returns-2 : tie.Need-returns-2
 returns-2 c = search needs
 

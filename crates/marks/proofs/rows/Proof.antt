@@ -1,15 +1,14 @@
-use Prim.Native.Nat.{_+_, _-_, _*_, _≤_, max}
-use mathlib.Core.Path.{refl, _∙_}
+-- `marks::rows` meets its contract: after each turn the rows up to y are held besides what was held at the start.
+-- Assumes nothing.
+use Prim.Native.Nat.{_-_, _≤_, max}
+use mathlib.Core.Path.{_∙_}
+use native.Mathlib.Omega.{arith}
+use borrow.Author.Needs.{needs}
 use Rattle.marks.specs.Scratch.{block}
 use Rattle.marks.proofs.Joining.{Steps, steps-start, steps-next, steps-full, steps-end}
 use Rattle.marks.proofs.Listing.{block-none, block-more, block-low, block-row, block-whole, row-in}
-use native.Mathlib.Omega.{arith}
-use borrow.Author.Needs.{needs}
 use Rattle.marks.proofs.rows.Statement.{statement}
 use Rattle.marks.proofs.rows.Tie as tie
-use Rattle.marks.proofs.rows.Reads as reads
-use Rattle.marks.proofs.rows.Lts as lts
-use Rattle.marks.proofs.run.Reads as run-reads
 
 abbrev Inv-loop : tie.InvT-loop
 Inv-loop s₀ n t width r0 c0 r1 c1 top k₀ u₀ y₀ s k u y = Steps top (λ j. block width r0 c0 j c1) s₀ t s k u y × (r0 ≤ y) × (y ≤ max r0 r1)
@@ -17,73 +16,65 @@ Inv-loop s₀ n t width r0 c0 r1 c1 top k₀ u₀ y₀ s k u y = Steps top (λ j
 abbrev μ-loop : tie.MeasureT-loop
 μ-loop s₀ n t width r0 c0 r1 c1 top k₀ u₀ y₀ s k u y = r1 - y
 
--- src/lib.rt:254:5
 loop-holds : tie.Need-loop-holds Inv-loop μ-loop
 loop-holds c = (steps-start _ _ _ _ _ _ (c .before .pre .0) (block-none (c .before .args .width) (c .before .args .r0) (c .before .args .c0) (c .before .args .c1)), omega arith, omega arith)
 
--- src/lib.rt:255:28
 mul-run : tie.Need-mul-run Inv-loop μ-loop
 mul-run c =
     let at = c .before .before .before .before in
     omega (arith, row-in (at .args .width) (c .before .before .loop .y) (at .args .r1) (at .args .top) (at .args .c1) (c .before .loop-test .taken) (at .pre .1 .rows) (at .pre .1 .columns), at .pre .1 .small)
 
--- src/lib.rt:255:28
 add-run : tie.Need-add-run Inv-loop μ-loop
 add-run c =
     let at = c .before .before .before .before in
     omega (arith, row-in (at .args .width) (c .before .before .loop .y) (at .args .r1) (at .args .top) (at .args .c0) (c .before .loop-test .taken) (at .pre .1 .rows) (omega (arith, at .pre .1 .order, at .pre .1 .columns)), at .pre .1 .small)
 
--- src/lib.rt:255:44
 mul-run-2 : tie.Need-mul-run-2 Inv-loop μ-loop
 mul-run-2 c =
     let at = c .before .before .before .before in
     omega (arith, row-in (at .args .width) (c .before .before .loop .y) (at .args .r1) (at .args .top) (at .args .c1) (c .before .loop-test .taken) (at .pre .1 .rows) (at .pre .1 .columns), at .pre .1 .small)
 
--- src/lib.rt:255:44
 add-run-2 : tie.Need-add-run-2 Inv-loop μ-loop
 add-run-2 c =
     let at = c .before .before .before .before in
     omega (arith, row-in (at .args .width) (c .before .before .loop .y) (at .args .r1) (at .args .top) (at .args .c1) (c .before .loop-test .taken) (at .pre .1 .rows) (at .pre .1 .columns), at .pre .1 .small)
 
--- src/lib.rt:255:15
 run-requires : tie.Need-run-requires Inv-loop μ-loop
 run-requires c κs =
-    let at = c .before .before .before .before in
-    (c .before .before .loop .inv .0 .gains .front,
-    (row-in (at .args .width) (c .before .before .loop .y) (at .args .r1) (at .args .top) (at .args .c1) (c .before .loop-test .taken) (at .pre .1 .rows) (at .pre .1 .columns),
-    at .pre .1 .small))
+    let at = c .before .before .before .before in (
+      c .before .before .loop .inv .0 .gains .front,
+      (
+        row-in (at .args .width) (c .before .before .loop .y) (at .args .r1) (at .args .top) (at .args .c1) (c .before .loop-test .taken) (at .pre .1 .rows) (at .pre .1 .columns),
+        at .pre .1 .small,
+      ),
+    )
 
--- src/lib.rt:256:29
 enum-known-k1 : tie.Need-enum-known-k1 Inv-loop μ-loop
 enum-known-k1 c = search needs
 
--- src/lib.rt:259:17
 add-y : tie.Need-add-y Inv-loop μ-loop
 add-y c = omega arith
 
--- src/lib.rt:254:5
 loop-less : tie.Need-loop-less Inv-loop μ-loop
 loop-less c = omega arith
 
--- src/lib.rt:254:5
 loop-again : tie.Need-loop-again Inv-loop μ-loop
 loop-again c =
     let run = c .before .before .before .before .before .run in
     let in-loop = c .before .before .before .before .before .before .before .before .loop in
-    let at = c .before .before .before .before .before .before .before .before .before .before in
-    (steps-next _ _ _ _ _ _ _ _ (in-loop .inv .0) _ _ (run .result) _ _ (c .before .k1 .given .1) (run .ensures) (run .kept .0)
-    (λ q l. block-more (at .args .width) (at .args .r0) (at .args .c0) (at .args .c1) (in-loop .y) q (in-loop .inv .1) (at .pre .1 .columns)),
-    omega (arith, in-loop .inv .1), omega (arith, c .before .before .before .before .before .before .before .loop-test .taken))
+    let at = c .before .before .before .before .before .before .before .before .before .before in (
+      steps-next _ _ _ _ _ _ _ _ (in-loop .inv .0) _ _ (run .result) _ _ (c .before .k1 .given .1) (run .ensures) (run .kept .0)
+          (λ q l. block-more (at .args .width) (at .args .r0) (at .args .c0) (at .args .c1) (in-loop .y) q (in-loop .inv .1) (at .pre .1 .columns)),
+      omega (arith, in-loop .inv .1),
+      omega (arith, c .before .before .before .before .before .before .before .loop-test .taken),
+    )
 
--- src/lib.rt:262:17
 enum-told : tie.Need-enum-told Inv-loop μ-loop
 enum-told c = search needs
 
--- src/lib.rt:262:17
 same-length : tie.Need-same-length Inv-loop μ-loop
 same-length c = c .before .before .before .before .run .kept .0 ∙ c .before .before .before .before .before .before .before .loop .inv .0 .long
 
--- src/lib.rt:262:17
 returns : tie.Need-returns Inv-loop μ-loop
 returns c =
     let run = c .before .before .before .before .run in
@@ -95,11 +86,9 @@ returns c =
     (λ q l. block-low (a .width) (a .r0) (a .c0) (a .r1) (a .c1) (in-loop .y) q (omega (arith, less)))
     (λ q l. block-row (a .width) (a .r0) (a .c0) (a .r1) (a .c1) (in-loop .y) q (in-loop .inv .1) less (at .pre .1 .columns))
 
--- src/lib.rt:246:1
 same-length-2 : tie.Need-same-length-2 Inv-loop μ-loop
 same-length-2 c = c .before .loop .inv .0 .long
 
--- src/lib.rt:246:1
 returns-2 : tie.Need-returns-2 Inv-loop μ-loop
 returns-2 c =
     let in-loop = c .before .loop in

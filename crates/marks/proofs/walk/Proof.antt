@@ -1,18 +1,14 @@
-use Rattle.marks.proofs.Joining.{held-front}
+-- `marks::walk` meets its contract: after each turn the span up to p is held besides what was held at the start.
+-- Assumes nothing.
 use Prim.Native.Nat.{_-_, _≤_, max}
 use mathlib.Core.Path.{refl, _∙_}
-use Rattle.marks.specs.Scratch.{span}
-use Rattle.marks.proofs.Filling.{place-there}
-use Rattle.marks.proofs.Joining.{Steps, steps-start, steps-next, steps-full, steps-end, span-none, span-more, span-low, span-at, span-whole}
 use native.Mathlib.Omega.{arith}
 use borrow.Author.Needs.{needs}
+use Rattle.marks.proofs.Joining.{held-front, Steps, steps-start, steps-next, steps-full, steps-end, span-none, span-more, span-low, span-at, span-whole}
+use Rattle.marks.specs.Scratch.{span}
+use Rattle.marks.proofs.Filling.{place-there}
 use Rattle.marks.proofs.walk.Statement.{statement}
 use Rattle.marks.proofs.walk.Tie as tie
-use Rattle.marks.proofs.walk.Reads as reads
-use Rattle.marks.proofs.walk.Lts as lts
-use Rattle.marks.proofs.follow.Reads as follow-reads
-use Rattle.marks.proofs.push.Reads as push-reads
-use Rattle.marks.proofs.stands.Reads as stands-reads
 
 abbrev Inv-loop : tie.InvT-loop
 Inv-loop s₀ n t at a b top k₀ u₀ h₀ p₀ s k u h p = Steps top (span a) s₀ t s k u p × (a ≤ p) × (p ≤ max a b)
@@ -20,88 +16,77 @@ Inv-loop s₀ n t at a b top k₀ u₀ h₀ p₀ s k u h p = Steps top (span a) 
 abbrev μ-loop : tie.MeasureT-loop
 μ-loop s₀ n t at a b top k₀ u₀ h₀ p₀ s k u h p = b - p
 
--- src/lib.rt:138:5
 loop-holds : tie.Need-loop-holds Inv-loop μ-loop
 loop-holds c = (steps-start _ _ _ _ _ _ (c .before .pre .0) (span-none (c .before .args .a)), omega arith, omega arith)
 
--- src/lib.rt:139:12
 stands-requires : tie.Need-stands-requires Inv-loop μ-loop
 stands-requires c κs =
     let front = c .before .before .loop .inv .0 .gains .front in
     omega (arith, front .order, front .fits)
 
--- src/lib.rt:140:13
 add-h : tie.Need-add-h Inv-loop μ-loop
 add-h c =
     let at = c .before .before .before .before .loop in
     let front = at .inv .0 .gains .front in
     omega (arith, c .before .stands .ensures (c .if1 .taken) .0, front .order, front .fits, at .inv .0 .long, c .before .before .before .before .before .before .good .0 .0)
 
--- src/lib.rt:141:13
 add-p : tie.Need-add-p Inv-loop μ-loop
 add-p c = omega arith
 
--- src/lib.rt:138:5
 loop-less : tie.Need-loop-less Inv-loop μ-loop
 loop-less c = omega arith
 
--- src/lib.rt:138:5
 loop-again : tie.Need-loop-again Inv-loop μ-loop
 loop-again c =
     let at = c .before .before .before .before .loop in
-    let a = c .before .before .before .before .before .before .args .a in
-    (steps-next _ _ _ _ _ _ _ _ (at .inv .0) _ _ _ _ _ refl (place-there _ _ _ _ (at .p) (at .inv .0 .gains .front) (c .before .stands .ensures (c .if1 .taken) .1)) refl
-    (λ q l. span-more a (at .p) q (at .inv .1)), omega (arith, at .inv .1), omega (arith, c .before .before .before .loop-test .taken))
+    let a = c .before .before .before .before .before .before .args .a in (
+      steps-next _ _ _ _ _ _ _ _ (at .inv .0) _ _ _ _ _ refl (place-there _ _ _ _ (at .p) (at .inv .0 .gains .front) (c .before .stands .ensures (c .if1 .taken) .1)) refl
+          (λ q l. span-more a (at .p) q (at .inv .1)),
+      omega (arith, at .inv .1),
+      omega (arith, c .before .before .before .loop-test .taken),
+    )
 
--- src/lib.rt:143:33
 cast-push : tie.Need-cast-push Inv-loop μ-loop
 cast-push c = omega arith
 
--- src/lib.rt:143:19
 push-requires : tie.Need-push-requires Inv-loop μ-loop
 push-requires c κs = (c .before .before .before .before .before .loop .inv .0 .gains .front, omega (arith, c .before .before .before .before .before .before .before .pre .1, c .before .before .before .before .loop-test .taken))
 
--- src/lib.rt:144:33
 enum-known-k1 : tie.Need-enum-known-k1 Inv-loop μ-loop
 enum-known-k1 c = search needs
 
--- src/lib.rt:145:45
 add-follow : tie.Need-add-follow Inv-loop μ-loop
 add-follow c = omega arith
 
--- src/lib.rt:145:21
 follow-requires : tie.Need-follow-requires Inv-loop μ-loop
 follow-requires c κs =
     let push = c .before .before .before .before .before .before .push in
     let front = held-front _ _ _ _ _ (push .result) _ _ (c .before .before .k1 .given .1) (push .ensures) .front in
     omega (arith, front .order, front .fits)
 
--- src/lib.rt:148:21
 add-p-2 : tie.Need-add-p-2 Inv-loop μ-loop
 add-p-2 c = omega arith
 
--- src/lib.rt:138:5
 loop-less-2 : tie.Need-loop-less-2 Inv-loop μ-loop
 loop-less-2 c = omega arith
 
--- src/lib.rt:138:5
 loop-again-2 : tie.Need-loop-again-2 Inv-loop μ-loop
 loop-again-2 c =
     let push = c .before .before .before .before .before .before .before .push in
     let at = c .before .before .before .before .before .before .before .before .before .before .before .before .before .loop in
-    let a = c .before .before .before .before .before .before .before .before .before .before .before .before .before .before .before .args .a in
-    (steps-next _ _ _ _ _ _ _ _ (at .inv .0) _ _ (push .result) _ _ (c .before .before .before .k1 .given .1) (push .ensures) (push .kept .0)
-    (λ q l. span-more a (at .p) q (at .inv .1)), omega (arith, at .inv .1), omega (arith, c .before .before .before .before .before .before .before .before .before .before .before .before .loop-test .taken))
+    let a = c .before .before .before .before .before .before .before .before .before .before .before .before .before .before .before .args .a in (
+      steps-next _ _ _ _ _ _ _ _ (at .inv .0) _ _ (push .result) _ _ (c .before .before .before .k1 .given .1) (push .ensures) (push .kept .0)
+          (λ q l. span-more a (at .p) q (at .inv .1)),
+      omega (arith, at .inv .1),
+      omega (arith, c .before .before .before .before .before .before .before .before .before .before .before .before .loop-test .taken),
+    )
 
--- src/lib.rt:151:21
 enum-told : tie.Need-enum-told Inv-loop μ-loop
 enum-told c = search needs
 
--- src/lib.rt:151:21
 same-length : tie.Need-same-length Inv-loop μ-loop
 same-length c = c .before .before .before .before .push .kept .0 ∙ c .before .before .before .before .before .before .before .before .before .before .loop .inv .0 .long
 
--- src/lib.rt:151:21
 returns : tie.Need-returns Inv-loop μ-loop
 returns c =
     let push = c .before .before .before .before .push in
@@ -112,11 +97,9 @@ returns c =
     steps-full _ _ _ _ _ _ _ _ (at .inv .0) _ _ _ (push .result) (c .enum-told .given .1) (push .ensures)
     (λ q l. span-low a b (at .p) q (omega (arith, less))) (λ q l. span-at a b (at .p) q (at .inv .1) less)
 
--- src/lib.rt:129:1
 same-length-2 : tie.Need-same-length-2 Inv-loop μ-loop
 same-length-2 c = c .before .loop .inv .0 .long
 
--- src/lib.rt:129:1
 returns-2 : tie.Need-returns-2 Inv-loop μ-loop
 returns-2 c =
     let at = c .before .loop in
