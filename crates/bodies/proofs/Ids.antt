@@ -6,6 +6,8 @@ use native.Mathlib.Nat.{not-le-of-lt, lt-of-not-le}
 use native.Mathlib.Decide.{ℕ-discrete}
 use native.Mathlib.Omega.{arith}
 use borrow.Author.Tests.{ne-eqb}
+use lib.Dec.{eqb, lit≤}
+use mathlib.Core.Bool.{false}
 use Rattle.dng.specs.declared.Opcode.the-variants.{Other}
 use Rattle.dng.specs.declared.Parsed.the-variants as P
 use Rattle.dng.specs.List.{countedAt, parsedAt}
@@ -15,12 +17,15 @@ use Rattle.bodies.specs.Bodies.{lineOf}
 above : (k id : ℕ) → k ≤ id → (id ≡ k → ⊥) → suc k ≤ id
 above k id h n = omega arith
 
-pub nought : (id : ℕ) → id < 10 → (id ≡ 1 → ⊥) → (id ≡ 2 → ⊥) → (id ≡ 3 → ⊥) → (id ≡ 4 → ⊥) → (id ≡ 5 → ⊥) → (id ≡ 6 → ⊥) → (id ≡ 7 → ⊥) → (id ≡ 8 → ⊥) → (id ≡ 9 → ⊥) → id < 1
+pub nought :
+    (id : ℕ) → id < 10 → (id ≡ 1 → ⊥) → (id ≡ 2 → ⊥) → (id ≡ 3 → ⊥) → (id ≡ 4 → ⊥) → (id ≡ 5 → ⊥) → (id ≡ 6 → ⊥) → (id ≡ 7 → ⊥)
+    → (id ≡ 8 → ⊥) → (id ≡ 9 → ⊥) → id < 1
 nought id h a b c d e f g i j =
     lt-of-not-le
     (λ l.
     not-le-of-lt h
-    (above 9 id (above 8 id (above 7 id (above 6 id (above 5 id (above 4 id (above 3 id (above 2 id (above 1 id l a) b) c) d) e) f) g) i) j))
+    (above 9 id
+    (above 8 id (above 7 id (above 6 id (above 5 id (above 4 id (above 3 id (above 2 id (above 1 id l a) b) c) d) e) f) g) i) j))
 
 module _ (s : List ℕ) (id at len : ℕ) where
   pub none-0 : id < 1 → P.Read (Other id) ≡ parsedAt s id at len
@@ -30,8 +35,23 @@ module _ (s : List ℕ) (id at len : ℕ) where
   pub none-high : 13 < id → P.Read (Other id) ≡ parsedAt s id at len
   unfolding parsedAt
   none-high h =
-      let no : (k : ℕ) → k ≤ 13 → id ≡ k → ⊥ = λ k l e. omega arith in
-      simp (ne-eqb id 1 (no 1 (omega arith)), ne-eqb id 2 (no 2 (omega arith)), ne-eqb id 3 (no 3 (omega arith)), ne-eqb id 4 (no 4 (omega arith)), ne-eqb id 5 (no 5 (omega arith)), ne-eqb id 6 (no 6 (omega arith)), ne-eqb id 7 (no 7 (omega arith)), ne-eqb id 8 (no 8 (omega arith)), ne-eqb id 9 (no 9 (omega arith)), ne-eqb id 10 (no 10 (omega arith)), ne-eqb id 11 (no 11 (omega arith)), ne-eqb id 12 (no 12 (omega arith)), ne-eqb id 13 (no 13 (omega arith)))
+      let no : (k : ℕ) → k < id → eqb id k ≡ false = λ k l. ne-eqb id k (λ e. omega arith) in
+      let o : (k : ℕ) → k ≤ 13 → eqb id k ≡ false = λ k l. no k (omega arith) in
+      simp (
+        o 1 (lit≤ tt),
+        o 2 (lit≤ tt),
+        o 3 (lit≤ tt),
+        o 4 (lit≤ tt),
+        o 5 (lit≤ tt),
+        o 6 (lit≤ tt),
+        o 7 (lit≤ tt),
+        o 8 (lit≤ tt),
+        o 9 (lit≤ tt),
+        o 10 (lit≤ tt),
+        o 11 (lit≤ tt),
+        o 12 (lit≤ tt),
+        o 13 (lit≤ tt),
+      )
 
   Line : ℕ → Type 0
   Line k = countedAt 4 (lineOf k) s at len ≡ parsedAt s k at len

@@ -53,7 +53,8 @@ module _ (s : List ℕ) (at len : ℕ) where
   unfolding vignetteAt
   vignette-short h = short _ h
 
-  pub constant-read : {c p : ℕ} → 8 ≤ len → c ≡ u32At s (at + 0) → p ≡ u32At s (at + 4) → P.Read (FixBadPixelsConstant c p) ≡ constantAt s at len
+  pub constant-read :
+      {c p : ℕ} → 8 ≤ len → c ≡ u32At s (at + 0) → p ≡ u32At s (at + 4) → P.Read (FixBadPixelsConstant c p) ≡ constantAt s at len
   unfolding constantAt
   constant-read h i j = rw (first i, j) (long _ h)
 
@@ -61,7 +62,9 @@ module _ (s : List ℕ) (at len : ℕ) where
   unfolding constantAt
   constant-short h = short _ h
 
-  pub trim-read : {t l b r : ℕ} → 16 ≤ len → t ≡ u32At s (at + 0) → l ≡ u32At s (at + 4) → b ≡ u32At s (at + 8) → r ≡ u32At s (at + 12) → P.Read (TrimBounds t l b r) ≡ trimAt s at len
+  pub trim-read :
+      {t l b r : ℕ} → 16 ≤ len → t ≡ u32At s (at + 0) → l ≡ u32At s (at + 4) → b ≡ u32At s (at + 8) → r ≡ u32At s (at + 12)
+      → P.Read (TrimBounds t l b r) ≡ trimAt s at len
   unfolding trimAt
   trim-read h i j k l = rw (first i, j, k, l) (long _ h)
 
@@ -77,7 +80,10 @@ module _ (s : List ℕ) (at len : ℕ) where
   twelfth : (n : ℕ) → at + (12 + n * 48) ≡ at + 4 + (6 * n + 1) * 8
   twelfth n = omega arith
 
-  pub warp-read : {b : Bool} {n : ℕ} {cx cy : Float} → b ≡ warpFits (u32At s at) len → b ≡ true → n ≡ u32At s (at + 0) → cx ≡ f64At s (at + (4 + n * 48)) → cy ≡ f64At s (at + (12 + n * 48)) → P.Read (WarpRectilinear n cx cy) ≡ P.Read (warpAt s at len)
+  pub warp-read :
+      {b : Bool} {n : ℕ} {cx cy : Float} → b ≡ warpFits (u32At s at) len → b ≡ true → n ≡ u32At s (at + 0)
+      → cx ≡ f64At s (at + (4 + n * 48)) → cy ≡ f64At s (at + (12 + n * 48))
+      → P.Read (WarpRectilinear n cx cy) ≡ P.Read (warpAt s at len)
   unfolding warpAt warpFits
   warp-read e t i x y = rw (x, y, first i, fourth (u32At s at), twelfth (u32At s at)) (ap P.Read (holds _ _ e t))
 
@@ -87,7 +93,9 @@ module _ (s : List ℕ) (at len : ℕ) where
 
   -- ---- bodies with counts
 
-  pub bad-list-read : {b : Bool} {p np nr : ℕ} → b ≡ badListFits (u32At s (at + 4)) (u32At s (at + 8)) len → b ≡ true → p ≡ u32At s (at + 0) → np ≡ u32At s (at + 4) → nr ≡ u32At s (at + 8) → P.Read (FixBadPixelsList p np nr) ≡ badListAt s at len
+  pub bad-list-read :
+      {b : Bool} {p np nr : ℕ} → b ≡ badListFits (u32At s (at + 4)) (u32At s (at + 8)) len → b ≡ true → p ≡ u32At s (at + 0)
+      → np ≡ u32At s (at + 4) → nr ≡ u32At s (at + 8) → P.Read (FixBadPixelsList p np nr) ≡ badListAt s at len
   unfolding badListAt badListFits
   bad-list-read e t i j k = rw (first i, j, k) (taken _ e t)
 
@@ -95,15 +103,21 @@ module _ (s : List ℕ) (at len : ℕ) where
   unfolding badListAt badListFits
   bad-list-not e t = shut _ e t
 
-  pub values-read : (size : ℕ) (op : Region → ℕ → Opcode) {b : Bool} {r : Region} {n : ℕ} → b ≡ valuesFit size (u32At s (at + 32)) len → b ≡ true → r ≡ regionAt s at → n ≡ u32At s (at + 32) → P.Read (op r n) ≡ countedAt size op s at len
+  pub values-read :
+      (size : ℕ) (op : Region → ℕ → Opcode) {b : Bool} {r : Region} {n : ℕ} → b ≡ valuesFit size (u32At s (at + 32)) len → b ≡ true
+      → r ≡ regionAt s at → n ≡ u32At s (at + 32) → P.Read (op r n) ≡ countedAt size op s at len
   unfolding countedAt valuesFit
   values-read size op e t i j = rw (i, j) (taken _ e t)
 
-  pub values-not : (size : ℕ) (op : Region → ℕ → Opcode) {b : Bool} → b ≡ valuesFit size (u32At s (at + 32)) len → b ≡ false → P.Malformed ≡ countedAt size op s at len
+  pub values-not :
+      (size : ℕ) (op : Region → ℕ → Opcode) {b : Bool} → b ≡ valuesFit size (u32At s (at + 32)) len → b ≡ false
+      → P.Malformed ≡ countedAt size op s at len
   unfolding countedAt valuesFit
   values-not size op e t = shut _ e t
 
-  pub degree-read : {b : Bool} {r : Region} {d : ℕ} → b ≡ degreeFits (u32At s (at + 32)) len → b ≡ true → r ≡ regionAt s at → d ≡ u32At s (at + 32) → P.Read (MapPolynomial r d) ≡ polynomialAt s at len
+  pub degree-read :
+      {b : Bool} {r : Region} {d : ℕ} → b ≡ degreeFits (u32At s (at + 32)) len → b ≡ true → r ≡ regionAt s at → d ≡ u32At s (at + 32)
+      → P.Read (MapPolynomial r d) ≡ polynomialAt s at len
   unfolding polynomialAt degreeFits
   degree-read e t i j = rw (i, j) (taken _ e t)
 
@@ -111,7 +125,10 @@ module _ (s : List ℕ) (at len : ℕ) where
   unfolding polynomialAt degreeFits
   degree-not e t = shut _ e t
 
-  pub gain-read : {b : Bool} {r : Region} {v h m : ℕ} {g : Grid} → b ≡ gainsFit (gainsAt s at) len → b ≡ true → r ≡ regionAt s at → v ≡ u32At s (at + 32) → h ≡ u32At s (at + 36) → g ≡ gridAt s (at + 40) → m ≡ u32At s (at + 72) → P.Read (GainMap r v h g m) ≡ gainAt s at len
+  pub gain-read :
+      {b : Bool} {r : Region} {v h m : ℕ} {g : Grid} → b ≡ gainsFit (gainsAt s at) len → b ≡ true → r ≡ regionAt s at
+      → v ≡ u32At s (at + 32) → h ≡ u32At s (at + 36) → g ≡ gridAt s (at + 40) → m ≡ u32At s (at + 72)
+      → P.Read (GainMap r v h g m) ≡ gainAt s at len
   unfolding gainAt gainsFit
   gain-read e t i j k l m = rw (i, j, k, l, m) (taken _ e t)
 

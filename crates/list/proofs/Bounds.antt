@@ -19,8 +19,9 @@ use Rattle.dng.specs.declared.Parsed.{Parsed}
 use Rattle.dng.specs.declared.Parsed.the-variants as P
 use Rattle.dng.specs.declared.Step.{Step}
 use Rattle.dng.specs.declared.Step.the-variants as S
-use Rattle.dng.specs.List.{u32At, regionAt, gridAt, given, headerAt, nextAt, warpAt, badListAt, countedAt, polynomialAt, gainAt, parsedAt, stepOn, stepOf, stepAt}
+use Rattle.dng.specs.List.{u32At, regionAt, gridAt, given, headerAt, nextAt, warpAt, badListAt, countedAt, polynomialAt, gainAt, parsedAt, stepOn, stepOf, stepAt, itemsOf, Item}
 use Rattle.dng.specs.Bounds.{bounded}
+use Rattle.list.proofs.Fold.{All, every-item}
 
 -- ---- a body that was read has bounded counts
 
@@ -61,7 +62,9 @@ either-warp true x y h i = plain x h
 either-warp false x y h i = plain y i
 
 module _ (s : List ℕ) (at len : ℕ) where
-  counted-bounded : (size : ℕ) (op : Region → ℕ → Opcode) → ((r : Region) (n : ℕ) → bounded (op r n) ≡ leb n 16777216) → Bounded (countedAt size op s at len)
+  counted-bounded :
+      (size : ℕ) (op : Region → ℕ → Opcode) → ((r : Region) (n : ℕ) → bounded (op r n) ≡ leb n 16777216)
+      → Bounded (countedAt size op s at len)
   unfolding countedAt
   counted-bounded size op h =
       let n = u32At s (at + 32) in
@@ -80,7 +83,8 @@ module _ (s : List ℕ) (at len : ℕ) where
       let h = u32At s (at + 36) in
       let m = u32At s (at + 72) in
       let total = v * h * max m 1 in
-      four (leb 76 len) (leb 1 total) (leb total 16777216) (leb (76 + 4 * total) len) (GainMap (regionAt s at) v h (gridAt s (at + 40)) m) refl
+      four (leb 76 len) (leb 1 total) (leb total 16777216) (leb (76 + 4 * total) len)
+      (GainMap (regionAt s at) v h (gridAt s (at + 40)) m) refl
 
   warp-bounded : Bounded (P.Read (warpAt s at len))
   unfolding warpAt
@@ -125,7 +129,9 @@ next-inside : (s : List ℕ) (c : Cursor) → InsideNext s (nextAt s c)
 unfolding nextAt InsideNext
 next-inside s c = go (leb (c .at + 16) (length s)) (leb (c .at + 16 + u32At s (c .at + 12)) (length s)) (λ h. leb-true _ _ h)
   where
-    go : (a b : Bool) → (b ≡ true → c .at + 16 + u32At s (c .at + 12) ≤ length s) → InsideNext s (cond (a && b) (N.Found (headerAt s (c .at)) (record { at = c .at + 16 + u32At s (c .at + 12) })) N.Malformed)
+    go :
+        (a b : Bool) → (b ≡ true → c .at + 16 + u32At s (c .at + 12) ≤ length s)
+        → InsideNext s (cond (a && b) (N.Found (headerAt s (c .at)) (record { at = c .at + 16 + u32At s (c .at + 12) })) N.Malformed)
     go true true h = record { ends = h refl; goes-on = refl }
     go true false h = tt
     go false b h = tt
@@ -151,6 +157,19 @@ unfolding SoundStep InsideNext
 next-sound s (N.Found e next) h = parsed-sound s e next (parsedAt s (e .id) (e .at) (e .len)) h (parsed-bounded s (e .at) (e .len) (e .id))
 next-sound s N.Malformed h = tt
 
-pub sound : (s : List ℕ) (c : Cursor) {r : Step} {e : Entry} {op : Opcode} {next : Cursor} → r ≡ stepAt s c → r ≡ S.Item e op next → Sound s e op next
+pub sound :
+    (s : List ℕ) (c : Cursor) {r : Step} {e : Entry} {op : Opcode} {next : Cursor} → r ≡ stepAt s c → r ≡ S.Item e op next
+    → Sound s e op next
 unfolding stepAt SoundStep
 sound s c p q = subst (λ (r : Step). SoundStep s r) (sym p ∙ q) (next-sound s (nextAt s c) (next-inside s c))
+
+-- ---- both, of every item of a list
+
+pub record SoundItem (s : List ℕ) (i : Item) : Type 0 where
+  pub counts : bounded (i .op) ≡ true
+  pub within : i .entry .at + i .entry .len ≤ length s
+
+pub items-sound : (s : List ℕ) → All (SoundItem s) (itemsOf s)
+items-sound s =
+    every-item s (SoundItem s)
+    (λ c e op next q. let h = sound s c refl q in record { counts = h .counts; within = h .within })

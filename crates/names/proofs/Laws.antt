@@ -31,7 +31,9 @@ no-room false names j x h = refl
 
 -- ---- one item
 
-by : (k : Bool) (names : List ℕ) (j x : ℕ) (r : List ℕ) → sets (cond k (set names j x) names) (j + cond k 1 0) r ≡ sets names j (cond k (x ∷ r) r)
+by :
+    (k : Bool) (names : List ℕ) (j x : ℕ) (r : List ℕ)
+    → sets (cond k (set names j x) names) (j + cond k 1 0) r ≡ sets names j (cond k (x ∷ r) r)
 by true names j x r = ap (λ (i : ℕ). sets (set names j x) i r) (add-one j)
 by false names j x r = ap (λ (i : ℕ). sets names i r) (add-zero j)
 
@@ -39,7 +41,8 @@ one : (k : Bool) (x : ℕ) (r : List ℕ) → cond k 1 0 + length r ≡ length (
 one true x r = one-add (length r)
 one false x r = zero-add (length r)
 
-module _ (skip : Class → Bool) (e : Entry) (op : Opcode) {is rest : List Item} (more : is ≡ record { entry = e; op = op } ∷ rest) {b : Bool} {d : ℕ} (h : b ≡ skip (classOf op)) (i : d ≡ cond b 1 0) where
+module _ (skip : Class → Bool) (e : Entry) (op : Opcode) {is rest : List Item} (more : is ≡ record { entry = e; op = op } ∷ rest)
+    {b : Bool} {d : ℕ} (h : b ≡ skip (classOf op)) (i : d ≡ cond b 1 0) where
   pub count-more : d + length (namesOf skip rest) ≡ length (namesOf skip is)
   unfolding namesOf
   count-more =
@@ -47,7 +50,9 @@ module _ (skip : Class → Bool) (e : Entry) (op : Opcode) {is rest : List Item}
       ∙ one (skip (classOf op)) (nameOf op) (namesOf skip rest)
       ∙ sym (ap (λ (l : List Item). length (namesOf skip l)) more)
 
-  pub put-more : (names : List ℕ) (j : ℕ) {names' : List ℕ} → names' ≡ cond (skip (classOf op)) (set names j (nameOf op)) names → sets names' (j + d) (namesOf skip rest) ≡ sets names j (namesOf skip is)
+  pub put-more :
+      (names : List ℕ) (j : ℕ) {names' : List ℕ} → names' ≡ cond (skip (classOf op)) (set names j (nameOf op)) names
+      → sets names' (j + d) (namesOf skip rest) ≡ sets names j (namesOf skip is)
   unfolding namesOf
   put-more names j p =
       ap₂ (λ (l : List ℕ) (n : ℕ). sets l (j + n) (namesOf skip rest)) p (i ∙ ap (λ (k : Bool). cond k 1 0) h)

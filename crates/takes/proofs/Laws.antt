@@ -30,7 +30,9 @@ module _ (e : Entry) (op : Opcode) {is rest : List Item} (more : is ≡ record {
   unfolding takes16From
   refused free h t = ap (takes16From free) more ∙ on16 (classOf op) free _ ∙ simp (sym h ∙ t)
 
-  pub goes-on : (free : Bool) {f : Bool} → b ≡ refuses16 (classOf op) free → b ≡ false → f ≡ free16 (classOf op) free → takes16From f rest ≡ takes16From free is
+  pub goes-on :
+      (free : Bool) {f : Bool} → b ≡ refuses16 (classOf op) free → b ≡ false → f ≡ free16 (classOf op) free
+      → takes16From f rest ≡ takes16From free is
   unfolding takes16From
   goes-on free h t g = sym (ap (takes16From free) more ∙ on16 (classOf op) free _ ∙ simp (sym h ∙ t, sym g))
 

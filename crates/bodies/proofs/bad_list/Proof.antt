@@ -17,7 +17,10 @@ word-requires-3 : tie.Need-word-requires-3
 word-requires-3 c κs = search needs
 
 returns : tie.Need-returns
-returns c = bad-list-read _ _ _ (c .before .before .before .before .bad-list-fits .ensures) (c .before .before .before .if1 .taken) (c .before .before .word .ensures) (c .before .word2 .ensures) (c .word3 .ensures)
+returns c =
+    let b4 = c .before .before .before .before in
+    bad-list-read _ _ _ (b4 .bad-list-fits .ensures) (c .before .before .before .if1 .taken) (c .before .before .word .ensures)
+    (c .before .word2 .ensures) (c .word3 .ensures)
 
 returns-2 : tie.Need-returns-2
 returns-2 c = bad-list-not _ _ _ (c .before .bad-list-fits .ensures) (c .if1 .left)

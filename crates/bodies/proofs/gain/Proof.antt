@@ -23,7 +23,10 @@ word-requires-3 : tie.Need-word-requires-3
 word-requires-3 c κs = search needs
 
 returns : tie.Need-returns
-returns c = gain-read _ _ _ (c .before .before .before .before .before .before .gains-fit .ensures) (c .before .before .before .before .before .if1 .taken) (c .before .before .before .before .region .ensures) (c .before .before .before .word .ensures) (c .before .before .word2 .ensures) (c .before .grid .ensures) (c .word3 .ensures)
+returns c =
+    let b4 = c .before .before .before .before in
+    gain-read _ _ _ (b4 .before .before .gains-fit .ensures) (b4 .before .if1 .taken) (b4 .region .ensures)
+    (c .before .before .before .word .ensures) (c .before .before .word2 .ensures) (c .before .grid .ensures) (c .word3 .ensures)
 
 returns-2 : tie.Need-returns-2
 returns-2 c = gain-not _ _ _ (c .before .gains-fit .ensures) (c .if1 .left)

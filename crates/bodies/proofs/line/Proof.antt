@@ -20,7 +20,10 @@ line-of-requires : tie.Need-line-of-requires
 line-of-requires c κs = search needs
 
 returns : tie.Need-returns
-returns c = ap P.Read (c .line-of .ensures) ∙ values-read _ _ _ 4 (lineOf (c .before .before .before .before .before .before .args .id)) (c .before .before .before .before .values-fit .ensures) (c .before .before .before .if1 .taken) (c .before .before .region .ensures) (c .before .word .ensures)
+returns c =
+    let b4 = c .before .before .before .before in
+    ap P.Read (c .line-of .ensures) ∙ values-read _ _ _ 4 (lineOf (b4 .before .before .args .id)) (b4 .values-fit .ensures)
+    (c .before .before .before .if1 .taken) (c .before .before .region .ensures) (c .before .word .ensures)
 
 returns-2 : tie.Need-returns-2
 returns-2 c = values-not _ _ _ 4 (lineOf (c .before .before .before .args .id)) (c .before .values-fit .ensures) (c .if1 .left)

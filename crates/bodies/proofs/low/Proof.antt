@@ -67,7 +67,10 @@ unfolding parsedAt
 returns-9 c = rw (c .before .match .keys9) (c .gain .ensures)
 
 returns-10 : tie.Need-returns-10
-returns-10 c = none-0 _ _ _ _ (nought _ (c .before .before .pre) (c .match .rest .0 .0 .0 .0 .0 .0 .0 .0 .1) (c .match .rest .0 .0 .0 .0 .0 .0 .0 .1) (c .match .rest .0 .0 .0 .0 .0 .0 .1) (c .match .rest .0 .0 .0 .0 .0 .1) (c .match .rest .0 .0 .0 .0 .1) (c .match .rest .0 .0 .0 .1) (c .match .rest .0 .0 .1) (c .match .rest .0 .1) (c .match .rest .1))
+returns-10 c =
+    none-0 _ _ _ _ (nought _ (c .before .before .pre) (c .match .rest .0 .0 .0 .0 .0 .0 .0 .0 .1)
+    (c .match .rest .0 .0 .0 .0 .0 .0 .0 .1) (c .match .rest .0 .0 .0 .0 .0 .0 .1) (c .match .rest .0 .0 .0 .0 .0 .1)
+    (c .match .rest .0 .0 .0 .0 .1) (c .match .rest .0 .0 .0 .1) (c .match .rest .0 .0 .1) (c .match .rest .0 .1) (c .match .rest .1))
 
 pub low-spec : {M : Type 1} → statement M
 low-spec =

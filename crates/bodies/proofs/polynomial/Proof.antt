@@ -14,7 +14,9 @@ word-requires : tie.Need-word-requires
 word-requires c κs = search needs
 
 returns : tie.Need-returns
-returns c = degree-read _ _ _ (c .before .before .before .degree-fits .ensures) (c .before .before .if1 .taken) (c .before .region .ensures) (c .word .ensures)
+returns c =
+    degree-read _ _ _ (c .before .before .before .degree-fits .ensures) (c .before .before .if1 .taken) (c .before .region .ensures)
+    (c .word .ensures)
 
 returns-2 : tie.Need-returns-2
 returns-2 c = degree-not _ _ _ (c .before .degree-fits .ensures) (c .if1 .left)

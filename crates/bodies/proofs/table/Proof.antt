@@ -15,7 +15,9 @@ word-requires : tie.Need-word-requires
 word-requires c κs = search needs
 
 returns : tie.Need-returns
-returns c = values-read _ _ _ 2 MapTable (c .before .before .before .values-fit .ensures) (c .before .before .if1 .taken) (c .before .region .ensures) (c .word .ensures)
+returns c =
+    values-read _ _ _ 2 MapTable (c .before .before .before .values-fit .ensures) (c .before .before .if1 .taken)
+    (c .before .region .ensures) (c .word .ensures)
 
 returns-2 : tie.Need-returns-2
 returns-2 c = values-not _ _ _ 2 MapTable (c .before .values-fit .ensures) (c .if1 .left)

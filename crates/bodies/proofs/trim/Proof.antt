@@ -20,7 +20,10 @@ word-requires-4 : tie.Need-word-requires-4
 word-requires-4 c κs = search needs
 
 returns-2 : tie.Need-returns-2
-returns-2 c = trim-read _ _ _ (c .before .before .before .before .if1 .left) (c .before .before .before .word .ensures) (c .before .before .word2 .ensures) (c .before .word3 .ensures) (c .word4 .ensures)
+returns-2 c =
+    let b4 = c .before .before .before .before in
+    trim-read _ _ _ (b4 .if1 .left) (c .before .before .before .word .ensures) (c .before .before .word2 .ensures)
+    (c .before .word3 .ensures) (c .word4 .ensures)
 
 pub trim-spec : {M : Type 1} → statement M
 trim-spec =

@@ -30,7 +30,10 @@ real-requires-2 : tie.Need-real-requires-2
 real-requires-2 c κs = search needs
 
 returns : tie.Need-returns
-returns c = warp-read _ _ _ (c .before .before .before .before .warp-fits .ensures) (c .before .before .before .if1 .taken) (c .before .before .word .ensures) (c .before .real .ensures) (c .real2 .ensures)
+returns c =
+    let b4 = c .before .before .before .before in
+    warp-read _ _ _ (b4 .warp-fits .ensures) (c .before .before .before .if1 .taken) (c .before .before .word .ensures)
+    (c .before .real .ensures) (c .real2 .ensures)
 
 returns-2 : tie.Need-returns-2
 unfolding ofBits

@@ -3,9 +3,20 @@
 use Prim.Native.Nat.{_*_}
 use native.Mathlib.Omega.{arith}
 use Rattle.counts.proofs.Laws.{gains-no, gains-yes, product, grows, below}
+use mathlib.Core.Path.{_≡_}
+use denote.Ref.{now}
 use borrow.Author.Needs.{needs}
+use Rattle.counts.specs.Fits.{gainsAt}
 use Rattle.counts.proofs.gains_fit.Statement.{statement}
 use Rattle.counts.proofs.gains_fit.Tie as tie
+
+-- the product, once its factors are read
+total-is :
+    (c : tie.After-planes-of)
+    → c .before .before .before .word .result * c .before .before .word2 .result * c .planes-of .result
+    ≡ gainsAt (now (c .before .before .before .before .before .args .list)) (c .before .before .before .before .before .args .at)
+total-is c =
+    product (c .before .before .before .word .ensures) (c .before .before .word2 .ensures) (c .before .word3 .ensures) (c .planes-of .ensures)
 
 word-requires : tie.Need-word-requires
 word-requires c κs = search needs
@@ -26,7 +37,7 @@ planes-of-requires : tie.Need-planes-of-requires
 planes-of-requires c κs = search needs
 
 returns : tie.Need-returns
-returns c = gains-no (product (c .before .before .before .before .word .ensures) (c .before .before .before .word2 .ensures) (c .before .before .word3 .ensures) (c .before .planes-of .ensures)) (λ h i j k. omega arith)
+returns c = gains-no (total-is (c .before)) (λ h i j k. omega arith)
 
 mul-points : tie.Need-mul-points
 mul-points c = record { fits = below 32 32 (search needs) (search needs) }
@@ -35,28 +46,34 @@ cast-if2 : tie.Need-cast-if2
 cast-if2 c = search needs
 
 returns-2 : tie.Need-returns-2
-returns-2 c = gains-no (product (c .before .before .before .before .before .word .ensures) (c .before .before .before .before .word2 .ensures) (c .before .before .before .word3 .ensures) (c .before .before .planes-of .ensures)) (λ h i j k. omega (arith, grows (c .before .before .before .before .before .word .result * c .before .before .before .before .word2 .result) _ (c .before .before .planes-of .ensures)))
+returns-2 c =
+    let s = c .before .before in
+    gains-no (total-is s)
+    (λ h i j k. omega (arith, grows (s .before .before .before .word .result * s .before .before .word2 .result) _ (s .planes-of .ensures)))
 
 mul-total : tie.Need-mul-total
-mul-total c = record { fits = omega (arith, below 25 32 {a = c .before .before .before .before .before .word .result * c .before .before .before .before .word2 .result} {b = c .before .before .planes-of .result} (omega arith) (omega arith)) }
+mul-total c =
+    let s = c .before .before in
+    let points = s .before .before .before .word .result * s .before .before .word2 .result in
+    record { fits = omega (arith, below 25 32 {a = points} {b = s .planes-of .result} (omega arith) (omega arith)) }
 
 returns-3 : tie.Need-returns-3
-returns-3 c = gains-no (product (c .before .before .before .before .before .before .word .ensures) (c .before .before .before .before .before .word2 .ensures) (c .before .before .before .before .word3 .ensures) (c .before .before .before .planes-of .ensures)) (λ h i j k. omega arith)
+returns-3 c = gains-no (total-is (c .before .before .before)) (λ h i j k. omega arith)
 
 cast-if4 : tie.Need-cast-if4
 cast-if4 c = search needs
 
 returns-4 : tie.Need-returns-4
-returns-4 c = gains-no (product (c .before .before .before .before .before .before .before .word .ensures) (c .before .before .before .before .before .before .word2 .ensures) (c .before .before .before .before .before .word3 .ensures) (c .before .before .before .before .planes-of .ensures)) (λ h i j k. omega arith)
+returns-4 c = gains-no (total-is (c .before .before .before .before)) (λ h i j k. omega arith)
 
 mul-if5 : tie.Need-mul-if5
 mul-if5 c = search needs
 
 returns-5 : tie.Need-returns-5
-returns-5 c = gains-no (product (c .before .before .before .before .before .before .before .before .word .ensures) (c .before .before .before .before .before .before .before .word2 .ensures) (c .before .before .before .before .before .before .word3 .ensures) (c .before .before .before .before .before .planes-of .ensures)) (λ h i j k. omega arith)
+returns-5 c = gains-no (total-is (c .before .before .before .before .before)) (λ h i j k. omega arith)
 
 returns-6 : tie.Need-returns-6
-returns-6 c = gains-yes (product (c .before .before .before .before .before .before .before .before .word .ensures) (c .before .before .before .before .before .before .before .word2 .ensures) (c .before .before .before .before .before .before .word3 .ensures) (c .before .before .before .before .before .planes-of .ensures)) (omega arith) (omega arith) (omega arith) (omega arith)
+returns-6 c = gains-yes (total-is (c .before .before .before .before .before)) (omega arith) (omega arith) (omega arith) (omega arith)
 
 pub gains-fit-spec : {M : Type 1} → statement M
 gains-fit-spec =

@@ -34,7 +34,9 @@ returns-4 : tie.Need-returns-4
 returns-4 c = warp-no (simp add-zero at (c .before .before .before .before .word .ensures)) (λ h i j k. omega arith)
 
 returns-5 : tie.Need-returns-5
-returns-5 c = warp-yes (simp add-zero at (c .before .before .before .before .word .ensures)) (omega arith) (omega arith) (omega arith) (omega arith)
+returns-5 c =
+    let b4 = c .before .before .before .before in
+    warp-yes (simp add-zero at (b4 .word .ensures)) (omega arith) (omega arith) (omega arith) (omega arith)
 
 pub warp-fits-spec : {M : Type 1} → statement M
 warp-fits-spec =

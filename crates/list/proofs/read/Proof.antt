@@ -8,7 +8,7 @@ use borrow.Author.Tests.{not-true, not-false}
 use lib.ListN.{length}
 use denote.Ref.{now}
 use Rattle.dng.specs.List.{readFrom, itemsOf}
-use Rattle.list.proofs.Fold.{begin, item, stop, end}
+use Rattle.list.proofs.Fold.{begin, stop, end, total}
 use Rattle.list.proofs.Laws.{reading-none, reading-stop, reading-whole}
 use Rattle.list.proofs.read.Statement.{statement}
 use Rattle.list.proofs.read.Tie as tie
@@ -44,20 +44,36 @@ loop-less : tie.Need-loop-less Inv-loop μ-loop
 loop-less c = omega arith
 
 loop-again : tie.Need-loop-again Inv-loop μ-loop
-loop-again c = (omega arith, omega (arith, ap length (item _ _ _ _ (c .before .before .before .before .loop-test .taken) (c .before .before .before .step .ensures) (c .before .next .given .1))))
+loop-again c =
+    let b4 = c .before .before .before .before in (
+      omega arith,
+      total _ _ _ _ _ (b4 .loop-test .taken) (c .before .before .before .step .ensures) (c .before .next .given .1)
+          (b4 .before .loop .inv .1),
+    )
 
 enum-told : tie.Need-enum-told Inv-loop μ-loop
 enum-told c = search needs
 
 returns-2 : tie.Need-returns-2 Inv-loop μ-loop
 returns-2 c =
-    reading-stop _ (c .before .before .before .before .before .before .before .is-counted .ensures) (not-false _ (c .before .before .before .before .before .before .if1 .left)) (c .before .before .before .before .before .count .ensures)
-    (omega (arith, ap length (stop _ _ _ _ (c .before .before .before .loop-test .taken) (c .before .before .step .ensures) (c .enum-told .given .1)))) (c .before .before .before .loop-test .taken)
+    let b4 = c .before .before .before .before in
+    reading-stop _ (b4 .before .before .before .is-counted .ensures) (not-false _ (b4 .before .before .if1 .left))
+    (b4 .before .count .ensures) (omega (
+      arith,
+      ap length
+          (stop _ _ _ _ (c .before .before .before .loop-test .taken) (c .before .before .step .ensures) (c .enum-told .given .1)),
+    ))
+    (c .before .before .before .loop-test .taken)
 
 returns-3 : tie.Need-returns-3 Inv-loop μ-loop
 returns-3 c =
-    reading-whole _ (c .before .before .before .before .is-counted .ensures) (not-false _ (c .before .before .before .if1 .left)) (c .before .before .count .ensures)
-    (omega (arith, ap length (end (now (c .before .before .before .before .before .before .args .list)) (c .before .before .count .result) (c .before .loop .k) (c .before .loop .c) (c .loop-test .left))))
+    let b4 = c .before .before .before .before in
+    reading-whole _ (b4 .is-counted .ensures) (not-false _ (c .before .before .before .if1 .left)) (c .before .before .count .ensures)
+    (omega (
+      arith,
+      ap length (end (now (b4 .before .before .args .list)) (c .before .before .count .result) (c .before .loop .k)
+          (c .before .loop .c) (c .loop-test .left)),
+    ))
 
 pub read-spec : {M : Type 1} → statement M
 read-spec =

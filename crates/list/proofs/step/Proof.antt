@@ -23,10 +23,15 @@ enum-told-2 : tie.Need-enum-told-2
 enum-told-2 c = search needs
 
 returns : tie.Need-returns
-returns c = step-item _ _ (c .before .before .before .before .before .before .before .next .ensures) (c .before .before .before .before .before .e .given .1) (c .before .before .before .parse .ensures) (c .before .op .given .1)
+returns c =
+    let b4 = c .before .before .before .before in
+    step-item _ _ (b4 .before .before .before .next .ensures) (b4 .before .e .given .1) (c .before .before .before .parse .ensures)
+    (c .before .op .given .1)
 
 returns-2 : tie.Need-returns-2
-returns-2 c = step-body _ _ (c .before .before .before .before .before .before .next .ensures) (c .before .before .before .before .e .given .1) (c .before .before .parse .ensures) (c .enum-told .given .1)
+returns-2 c =
+    let b4 = c .before .before .before .before in
+    step-body _ _ (b4 .before .before .next .ensures) (b4 .e .given .1) (c .before .before .parse .ensures) (c .enum-told .given .1)
 
 returns-3 : tie.Need-returns-3
 returns-3 c = step-cut _ _ (c .before .before .next .ensures) (c .enum-told2 .given .1)

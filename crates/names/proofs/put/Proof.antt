@@ -20,13 +20,22 @@ same-length : tie.Need-same-length
 same-length c = search needs
 
 returns : tie.Need-returns
-returns c = let a = c .before .before .before .before .before .args in stored (skippedIn (a .whole) (classOf (a .op))) (now (a .names)) (a .j) (nameOf (a .op)) (c .before .before .before .skips .ensures) (c .before .before .if1 .taken) (c .name-of .ensures)
+returns c =
+    let a =
+    c .before .before .before .before .before .args in stored (skippedIn (a .whole) (classOf (a .op))) (now (a .names)) (a .j)
+    (nameOf (a .op)) (c .before .before .before .skips .ensures) (c .before .before .if1 .taken) (c .name-of .ensures)
 
 returns-2 : tie.Need-returns-2
-returns-2 c = let a = c .before .before .before .before .args in no-room (skippedIn (a .whole) (classOf (a .op))) (now (a .names)) (a .j) (nameOf (a .op)) (c .if2 .left)
+returns-2 c =
+    let a =
+    c .before .before .before .before .args in no-room (skippedIn (a .whole) (classOf (a .op))) (now (a .names)) (a .j)
+    (nameOf (a .op)) (c .if2 .left)
 
 returns-3 : tie.Need-returns-3
-returns-3 c = let a = c .before .before .before .args in not-stored (skippedIn (a .whole) (classOf (a .op))) (now (a .names)) (a .j) (nameOf (a .op)) (c .before .skips .ensures) (c .if1 .left)
+returns-3 c =
+    let a =
+    c .before .before .before .args in not-stored (skippedIn (a .whole) (classOf (a .op))) (now (a .names)) (a .j) (nameOf (a .op))
+    (c .before .skips .ensures) (c .if1 .left)
 
 pub put-spec : {M : Type 1} → statement M
 put-spec =

@@ -20,10 +20,16 @@ same-length : tie.Need-same-length
 same-length c = search needs
 
 returns : tie.Need-returns
-returns c = c .before .before .put-all .ensures ∙ room (namesOf (skippedIn (c .before .before .before .before .before .before .before .before .args .whole)) (itemsOf (now (c .before .before .before .before .before .before .before .before .args .list)))) (now (c .before .before .before .before .before .before .before .before .args .names)) (omega arith)
+returns c =
+    let b4 = c .before .before .before .before in
+    let b8 = b4 .before .before .before .before in
+    c .before .before .put-all .ensures ∙ room (namesOf (skippedIn (b8 .args .whole)) (itemsOf (now (b8 .args .list))))
+    (now (b8 .args .names)) (omega arith)
 
 returns-2 : tie.Need-returns-2
-returns-2 c = no-names (namesOf (skippedIn (c .before .before .before .before .args .whole)) (itemsOf (now (c .before .before .before .before .args .list)))) (now (c .before .before .before .before .args .names)) (omega arith)
+returns-2 c =
+    let b4 = c .before .before .before .before in
+    no-names (namesOf (skippedIn (b4 .args .whole)) (itemsOf (now (b4 .args .list)))) (now (b4 .args .names)) (omega arith)
 
 pub write-spec : {M : Type 1} → statement M
 write-spec = tie.close (tie.spec count-requires put-all-requires same-length returns returns-2)

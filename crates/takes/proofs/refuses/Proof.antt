@@ -27,16 +27,20 @@ returns : tie.Need-returns
 returns c = told (λ k. refuses16 k (c .before .before .before .args .free)) (c .before .before .class-of .ensures) (c .enum-told .given .1)
 
 returns-2 : tie.Need-returns-2
-returns-2 c = told (λ k. refuses16 k (c .before .before .before .args .free)) (c .before .before .class-of .ensures) (c .enum-told2 .given .1)
+returns-2 c =
+    told (λ k. refuses16 k (c .before .before .before .args .free)) (c .before .before .class-of .ensures) (c .enum-told2 .given .1)
 
 returns-3 : tie.Need-returns-3
-returns-3 c = told (λ k. refuses16 k (c .before .before .before .args .free)) (c .before .before .class-of .ensures) (c .enum-told3 .given .1)
+returns-3 c =
+    told (λ k. refuses16 k (c .before .before .before .args .free)) (c .before .before .class-of .ensures) (c .enum-told3 .given .1)
 
 returns-4 : tie.Need-returns-4
-returns-4 c = told (λ k. refuses16 k (c .before .before .before .args .free)) (c .before .before .class-of .ensures) (c .enum-told4 .given .1)
+returns-4 c =
+    told (λ k. refuses16 k (c .before .before .before .args .free)) (c .before .before .class-of .ensures) (c .enum-told4 .given .1)
 
 returns-5 : tie.Need-returns-5
-returns-5 c = told (λ k. refuses16 k (c .before .before .before .args .free)) (c .before .before .class-of .ensures) (c .enum-told5 .given .1)
+returns-5 c =
+    told (λ k. refuses16 k (c .before .before .before .args .free)) (c .before .before .class-of .ensures) (c .enum-told5 .given .1)
 
 pub refuses-spec : {M : Type 1} → statement M
 refuses-spec =

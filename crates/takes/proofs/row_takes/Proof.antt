@@ -34,7 +34,11 @@ by-row-requires : tie.Need-by-row-requires Inv-loop μ-loop
 by-row-requires c κs = search needs
 
 returns : tie.Need-returns Inv-loop μ-loop
-returns c = sym (row-refused _ _ (item _ _ _ _ (c .before .before .before .before .before .before .loop-test .taken) (c .before .before .before .before .before .step .ensures) (c .before .before .before .op .given .1)) (c .before .by-row .ensures) (not-true _ (c .if1 .taken))) ∙ c .before .before .before .before .before .before .before .loop .inv .1
+returns c =
+    let b4 = c .before .before .before .before in
+    sym (row-refused _ _
+    (item _ _ _ _ (b4 .before .before .loop-test .taken) (b4 .before .step .ensures) (c .before .before .before .op .given .1))
+    (c .before .by-row .ensures) (not-true _ (c .if1 .taken))) ∙ b4 .before .before .before .loop .inv .1
 
 add-k : tie.Need-add-k Inv-loop μ-loop
 add-k c = omega arith
@@ -43,16 +47,30 @@ loop-less : tie.Need-loop-less Inv-loop μ-loop
 loop-less c = omega arith
 
 loop-again : tie.Need-loop-again Inv-loop μ-loop
-loop-again c = (omega arith, row-goes-on _ _ (item _ _ _ _ (c .before .before .before .before .before .before .loop-test .taken) (c .before .before .before .before .before .step .ensures) (c .before .before .before .op .given .1)) (c .before .by-row .ensures) (not-false _ (c .if1 .left)) ∙ c .before .before .before .before .before .before .before .loop .inv .1)
+loop-again c =
+    let b4 = c .before .before .before .before in (
+      omega arith,
+      row-goes-on _ _
+          (item _ _ _ _ (b4 .before .before .loop-test .taken) (b4 .before .step .ensures) (c .before .before .before .op .given .1))
+          (c .before .by-row .ensures) (not-false _ (c .if1 .left)) ∙ b4 .before .before .before .loop .inv .1,
+    )
 
 enum-told : tie.Need-enum-told Inv-loop μ-loop
 enum-told c = search needs
 
 returns-2 : tie.Need-returns-2 Inv-loop μ-loop
-returns-2 c = sym (none-row (stop _ _ _ _ (c .before .before .before .loop-test .taken) (c .before .before .step .ensures) (c .enum-told .given .1))) ∙ c .before .before .before .before .loop .inv .1
+returns-2 c =
+    let b4 = c .before .before .before .before in
+    sym
+    (none-row (stop _ _ _ _ (c .before .before .before .loop-test .taken) (c .before .before .step .ensures) (c .enum-told .given .1)))
+    ∙ b4 .loop .inv .1
 
 returns-3 : tie.Need-returns-3 Inv-loop μ-loop
-returns-3 c = sym (none-row (end (now (c .before .before .before .before .args .list)) (c .before .before .count .result) (c .before .loop .k) (c .before .loop .c) (c .loop-test .left))) ∙ c .before .loop .inv .1
+returns-3 c =
+    let b4 = c .before .before .before .before in
+    sym (none-row
+    (end (now (b4 .args .list)) (c .before .before .count .result) (c .before .loop .k) (c .before .loop .c) (c .loop-test .left)))
+    ∙ c .before .loop .inv .1
 
 pub row-takes-spec : {M : Type 1} → statement M
 row-takes-spec =

@@ -34,7 +34,11 @@ refuses-requires : tie.Need-refuses-requires Inv-loop μ-loop
 refuses-requires c κs = search needs
 
 returns : tie.Need-returns Inv-loop μ-loop
-returns c = sym (refused _ _ (item _ _ _ _ (c .before .before .before .before .before .before .loop-test .taken) (c .before .before .before .before .before .step .ensures) (c .before .before .before .op .given .1)) _ (c .before .refuses .ensures) (c .if1 .taken)) ∙ c .before .before .before .before .before .before .before .loop .inv .1
+returns c =
+    let b4 = c .before .before .before .before in
+    sym (refused _ _
+    (item _ _ _ _ (b4 .before .before .loop-test .taken) (b4 .before .step .ensures) (c .before .before .before .op .given .1)) _
+    (c .before .refuses .ensures) (c .if1 .taken)) ∙ b4 .before .before .before .loop .inv .1
 
 free-after-requires : tie.Need-free-after-requires Inv-loop μ-loop
 free-after-requires c κs = search needs
@@ -46,16 +50,31 @@ loop-less : tie.Need-loop-less Inv-loop μ-loop
 loop-less c = omega arith
 
 loop-again : tie.Need-loop-again Inv-loop μ-loop
-loop-again c = (omega arith, goes-on _ _ (item _ _ _ _ (c .before .before .before .before .before .before .before .loop-test .taken) (c .before .before .before .before .before .before .step .ensures) (c .before .before .before .before .op .given .1)) _ (c .before .before .refuses .ensures) (c .before .if1 .left) (c .free-after .ensures) ∙ c .before .before .before .before .before .before .before .before .loop .inv .1)
+loop-again c =
+    let b4 = c .before .before .before .before in
+    let b8 = b4 .before .before .before .before in (
+      omega arith,
+      goes-on _ _
+          (item _ _ _ _ (b4 .before .before .before .loop-test .taken) (b4 .before .before .step .ensures) (b4 .op .given .1)) _
+          (c .before .before .refuses .ensures) (c .before .if1 .left) (c .free-after .ensures) ∙ b8 .loop .inv .1,
+    )
 
 enum-told : tie.Need-enum-told Inv-loop μ-loop
 enum-told c = search needs
 
 returns-2 : tie.Need-returns-2 Inv-loop μ-loop
-returns-2 c = sym (none16 _ (stop _ _ _ _ (c .before .before .before .loop-test .taken) (c .before .before .step .ensures) (c .enum-told .given .1))) ∙ c .before .before .before .before .loop .inv .1
+returns-2 c =
+    let b4 = c .before .before .before .before in
+    sym
+    (none16 _ (stop _ _ _ _ (c .before .before .before .loop-test .taken) (c .before .before .step .ensures) (c .enum-told .given .1)))
+    ∙ b4 .loop .inv .1
 
 returns-3 : tie.Need-returns-3 Inv-loop μ-loop
-returns-3 c = sym (none16 _ (end (now (c .before .before .before .before .args .list)) (c .before .before .count .result) (c .before .loop .k) (c .before .loop .c) (c .loop-test .left))) ∙ c .before .loop .inv .1
+returns-3 c =
+    let b4 = c .before .before .before .before in
+    sym (none16 _
+    (end (now (b4 .args .list)) (c .before .before .count .result) (c .before .loop .k) (c .before .loop .c) (c .loop-test .left)))
+    ∙ c .before .loop .inv .1
 
 pub u16-exact-spec : {M : Type 1} → statement M
 u16-exact-spec =
