@@ -7,6 +7,7 @@ ghost use mathlib.Core.Path.{_≡_};
 ghost use Prim.Native.Nat.{_+_, _≤_};
 ghost use lib.ListN.{length};
 ghost use Rattle.dng.specs.List.{headerAt, nextAt, bodyOf};
+ghost use Rattle.entries.specs.Flags.{optionalOf, previewOf};
 
 // The four words of a header, as they stand, with where the body lies.
 fn header(list: &[u8], at: usize) -> Entry
@@ -60,4 +61,18 @@ pub fn body(list: &[u8], e: Entry) -> &[u8]
     }
     let end = at + len;
     &list[at..end]
+}
+
+// Flag bit 0: a reader that does not know the opcode may pass it over.
+pub fn optional(e: Entry) -> bool
+    ensures { λ r. ⌜ r ≡ optionalOf e ⌝ }
+{
+    e.flags % 2 == 1
+}
+
+// Flag bit 1: the opcode may be left out for a preview.
+pub fn skip_for_preview(e: Entry) -> bool
+    ensures { λ r. ⌜ r ≡ previewOf e ⌝ }
+{
+    e.flags / 2 % 2 == 1
 }
