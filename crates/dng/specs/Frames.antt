@@ -2,7 +2,7 @@
 use Prim.Native.Nat.{ℕ, zero, suc, _+_, _*_, _/_, _%_, _^_}
 use mathlib.Core.Path.{_≡_, refl}
 use mathlib.Core.Bool.{Bool, true, false}
-use mathlib.Core.List.{List, [], _∷_, _++_}
+use mathlib.Core.List.{List, [], _∷_, _++_, map}
 use lib.Ieee.{Float, binary32, fin, nan, inf, ofInt, ofBits, round, mul, div, add, eq, units, odd, size, span, climb}
 use lib.IntN.{pos, negsuc}
 use lib.ListN.{length, replicate}
@@ -18,7 +18,7 @@ use Rattle.dng.specs.declared.Answer.{Answer}
 use Rattle.dng.specs.declared.Answer.the-variants as Ans
 use Rattle.dng.specs.declared.RowAnswer.the-variants as Row
 use Rattle.dng.specs.declared.Reading.the-variants as R
-use Rattle.dng.specs.List.{readingOf, itemsOf, counted, readFrom, stepAt, nextAt, parsedAt, warpAt, polynomialAt, countedAt, gainAt, badListAt, half}
+use Rattle.dng.specs.List.{Item, readingOf, itemsOf, counted, readFrom, stepAt, nextAt, parsedAt, warpAt, polynomialAt, countedAt, gainAt, badListAt, half}
 use Rattle.dng.specs.Select.{onRegion, onWindow, onRow, inWindow, active, wholePixel}
 use Rattle.dng.specs.Value.{mapTable, mapTable16}
 use Rattle.dng.specs.Repair.{anyBelow, countBelow, complete, pointAt, rectAt, listed, badValue, marksOf, moved, sound, tallyOn, repairAt, soundOn, markedIn, repairedIn, leftIn}
@@ -27,15 +27,15 @@ use Rattle.dng.specs.Answer.{Out, inRange, rowInRange, ranOn, runOut, f3
 
 -- ---- lists, written out
 
-abbrev word : ℕ → List ℕ
+abbrev pub word : ℕ → List ℕ
 word n = n / 16777216 % 256 ∷ n / 65536 % 256 ∷ n / 256 % 256 ∷ n % 256 ∷ []
 
-abbrev words : List ℕ → List ℕ
+abbrev pub words : List ℕ → List ℕ
 words [] = []
 words (n ∷ ns) = word n ++ words ns
 
 -- id, version 1.3, no flags, the body and its length
-abbrev entry : ℕ → List ℕ → List ℕ
+abbrev pub entry : ℕ → List ℕ → List ℕ
 entry id body = words (id ∷ 16973824 ∷ 0 ∷ length body ∷ []) ++ body
 
 abbrev constant : ℕ → List ℕ
@@ -63,7 +63,7 @@ pixel = record { width = 1; height = 1; planes = 3; stride = 1; x0 = 0; y0 = 0; 
 abbrev room : Room
 room = record { marks = 8; values = 8 }
 
-abbrev whole : ℕ → Float
+abbrev pub whole : ℕ → Float
 whole n = ofInt binary32 (pos n)
 
 -- a table of the given entries over rows 0..1 and columns 0..3
@@ -88,7 +88,7 @@ out a s n = record { answer = a; samples = s; names = n }
 pub record Bench : Type 0 where
   pub P1 : readingOf [] ≡ R.Malformed 0
   pub P2 : readingOf (word 0) ≡ R.Whole 0
-  pub P2-over : readingOf (word 4097) ≡ R.Malformed 0
+  pub P2-over : readingOf (word 4097 ++ entry 2 []) ≡ R.Malformed 0
   pub P3 : touched (region 1 6 0 1 2) third (0 ∷ 0 ∷ 0 ∷ 0 ∷ []) ≡ 0 ∷ 1 ∷ 0 ∷ 1 ∷ []
   pub P4 : touched (region 0 1 1 5 1) pixel (0 ∷ 0 ∷ 0 ∷ []) ≡ 0 ∷ 1 ∷ 1 ∷ []
   pub P4-none : touched (region 0 1 3 5 1) pixel (0 ∷ 0 ∷ 0 ∷ []) ≡ 0 ∷ 0 ∷ 0 ∷ []
@@ -101,12 +101,13 @@ pub record Bench : Type 0 where
   pub P9-u16 : u16Out (frame 1 1) 1 room (listOf (table [] 0 ∷ [])) (3 ∷ []) (9 ∷ 9 ∷ []) ≡ out (Ans.Done 0 0 0) (3 ∷ []) (9 ∷ 9 ∷ [])
   pub P9-row : rowOut (record { width = 1; planes = 1; x0 = 0; «full_width» = 1; «full_height» = 1 }) (whole 1) 0 (listOf (table [] 0 ∷ [])) (whole 3 ∷ []) ≡ record { answer = Row.NotTaken; row = whole 3 ∷ [] }
   pub P10 : readingOf (listOf (entry 1 (word 0) ∷ [])) ≡ R.Whole 1
-  pub P10-planes : warpAt (listOf (entry 1 (word 0) ∷ [])) 20 4 ≡ WarpRectilinear 0 half half
+  pub P10-planes : map (λ (i : Item). i .op) (itemsOf (listOf (entry 1 (word 0) ∷ []))) ≡ WarpRectilinear 0 half half ∷ []
   pub P11 : markedIn (frame 2 2) (marksOf {A = ℕ} 0 (frame 2 2) (λ c v. false) (FixBadPixelsList 0 0 1) (words (0 ∷ 0 ∷ 1 ∷ 0 ∷ 0 ∷ 1 ∷ 1 ∷ [])) (3 ∷ 3 ∷ 3 ∷ 3 ∷ [])) ≡ 1
+  pub P11-run : u16Out (frame 2 2) 1 room (listOf (entry 5 (words (0 ∷ 0 ∷ 1 ∷ 0 ∷ 0 ∷ 1 ∷ 1 ∷ [])) ∷ [])) (3 ∷ 5 ∷ 7 ∷ 9 ∷ []) [] ≡ out (Ans.Done 0 1 0) (7 ∷ 5 ∷ 7 ∷ 9 ∷ []) []
   pub P12 : readingOf (listOf (polynomial 8 72 ∷ [])) ≡ R.Whole 1
   pub P12-over : readingOf (listOf (polynomial 9 80 ∷ [])) ≡ R.Malformed 0
 
 pub bench : Bench
 unfolding big each selects onColumns roundHeld readingOf itemsOf counted readFrom stepAt nextAt parsedAt warpAt polynomialAt countedAt gainAt badListAt onRegion onWindow inWindow active wholePixel mapTable mapTable16 anyBelow countBelow complete pointAt rectAt listed badValue marksOf moved sound tallyOn repairAt soundOn markedIn repairedIn leftIn namesOf takes16On takes16From takesRows repairOn performAll rowOn inRange rowInRange ranOn runOut rowOut ofInt round units odd size span climb mul div add eq
 bench =
-    record { P1 = refl; P2 = refl; P2-over = refl; P3 = refl; P4 = refl; P4-none = refl; P5 = refl; P5-f32 = refl; P6 = refl; P7 = refl; P8 = refl; P9 = refl; P9-u16 = refl; P9-row = refl; P10 = refl; P10-planes = refl; P11 = refl; P12 = refl; P12-over = refl }
+    record { P1 = refl; P2 = refl; P2-over = refl; P3 = refl; P4 = refl; P4-none = refl; P5 = refl; P5-f32 = refl; P6 = refl; P7 = refl; P8 = refl; P9 = refl; P9-u16 = refl; P9-row = refl; P10 = refl; P10-planes = refl; P11 = refl; P11-run = refl; P12 = refl; P12-over = refl }

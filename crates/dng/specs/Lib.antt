@@ -6,3 +6,4 @@ pub mod Run
 pub mod Answer
 pub mod Bounds
 pub mod Frames
+pub mod Worked

@@ -100,7 +100,7 @@ loop-again c =
     (t .before .before .before .before .steps .result) (t .before .before .before .loop .i) (t .before .before .before .loop .sum)
     (c .f32-of-u16 .result) (t .before .before .before .loop .count) (near .0 .0) (near .0 .1 .0)
     (t .before .before .before .loop .inv) (t .before .before .before .before .steps .ensures) (t .before .before .loop-test .taken)
-    (sym (near .1) ∙ t .beside .ensures) 
+    (sym (near .1) ∙ t .beside .ensures)
     (c .f32-of-u16 .ensures ∙ ap (λ (j : ℕ). wholeIn binary32 (getD (a .samples .now) j 0)) (c .before .before .place .ensures))
 
 enum-told : tie.Need-enum-told Inv-loop μ-loop

@@ -1,0 +1,148 @@
+-- Worked values of the definitions, which the checker computes: one for each layout of a body, and one for each rule where a slip would show.
+use Prim.Native.Nat.{ℕ, zero, suc, _+_, _*_, _/_, _%_, _^_}
+use mathlib.Core.Path.{_≡_, refl}
+use mathlib.Core.Bool.{Bool, true, false, _&&_, cond}
+use lib.Dec.{eqb}
+use mathlib.Core.List.{List, [], _∷_, _++_}
+use lib.Ieee.{Float, binary32, binary64, fin, nan, inf, ofInt, ofBits, ofFields, round, mul, div, add, sub, neg, sum, eq, lt, units, odd, size, span, climb, toUnsigned}
+use lib.Count.{trailingZeros}
+use lib.IntN.{pos, negsuc}
+use lib.ListN.{length}
+use Rattle.words.specs.Words.{big}
+use Rattle.points.specs.Select.{selects, onColumns}
+use Rattle.narrow.specs.Narrow.{narrow}
+use Rattle.whole.specs.Whole.{roundHeld}
+use Rattle.convert.specs.Convert.{wholeIn, heldTo}
+use Rattle.dng.specs.declared.Region.{Region}
+use Rattle.dng.specs.declared.Window.{Window}
+use Rattle.dng.specs.declared.Opcode.{Opcode}
+use Rattle.dng.specs.declared.Opcode.the-variants.{WarpRectilinear, FixVignetteRadial, FixBadPixelsConstant, FixBadPixelsList, TrimBounds, MapTable, GainMap, DeltaPerRow, DeltaPerColumn, ScalePerRow, ScalePerColumn, Other}
+use Rattle.dng.specs.declared.Parsed.{Parsed}
+use Rattle.dng.specs.declared.Parsed.the-variants as P
+use Rattle.dng.specs.List.{parsedAt, warpAt, badListAt, countedAt, polynomialAt, gainAt}
+use Rattle.dng.specs.Select.{onRegion}
+use Rattle.dng.specs.Value.{Frame, mapTable, mapPolynomial, horner, nth, delta, scaled, position, mix, lineAt, gainOf, gained, ruleOf}
+use Rattle.dng.specs.Repair.{pointAt, rectAt, moved, sound, tallyOn, tallyAt}
+use Rattle.dng.specs.Frames.{words, whole}
+
+-- the bytes of f64 and of f32 values 1, 2, 3, 4, and of u16 entries
+abbrev doubles : List ℕ
+doubles = words (1072693248 ∷ 0 ∷ 1073741824 ∷ 0 ∷ 1074266112 ∷ 0 ∷ 1074790400 ∷ 0 ∷ [])
+
+abbrev singles : List ℕ
+singles = words (1065353216 ∷ 1073741824 ∷ 1077936128 ∷ 1082130432 ∷ [])
+
+abbrev double : ℕ → Float
+double n = ofInt binary64 (pos n)
+
+-- the body b as the opcode with this id
+abbrev read : ℕ → List ℕ → Parsed
+read id b = parsedAt b id 0 (length b)
+
+abbrev area : List ℕ
+area = words (1 ∷ 2 ∷ 3 ∷ 4 ∷ 5 ∷ 6 ∷ 7 ∷ 8 ∷ [])
+
+abbrev areaIs : Region
+areaIs = record { top = 1; left = 2; bottom = 3; right = 4; plane = 5; planes = 6; «row_pitch» = 7; «col_pitch» = 8 }
+
+pub record Layouts : Type 0 where
+  -- one plane: six coefficients, then the centre
+  pub warp : read 1 (words (1 ∷ []) ++ (doubles ++ (doubles ++ []))) ≡ P.Read (WarpRectilinear 1 (double 3) (double 4))
+  pub vignette : read 3 (doubles ++ words (1075052544 ∷ 0 ∷ 1075314688 ∷ 0 ∷ 1075576832 ∷ 0 ∷ [])) ≡ P.Read (FixVignetteRadial (record { k0 = double 1; k1 = double 2; k2 = double 3; k3 = double 4; k4 = double 5; cx = double 6; cy = double 7 }))
+  -- bytes left over in a body are ignored
+  pub constant : read 4 (words (8 ∷ 9 ∷ []) ++ (1 ∷ [])) ≡ P.Read (FixBadPixelsConstant 8 9)
+  pub constant-short : read 4 (words (8 ∷ []) ++ (0 ∷ 0 ∷ 0 ∷ [])) ≡ P.Malformed
+  pub bad-list : read 5 (words (9 ∷ 1 ∷ 2 ∷ 0 ∷ 0 ∷ 0 ∷ 0 ∷ 0 ∷ 0 ∷ 0 ∷ 0 ∷ 0 ∷ 0 ∷ [])) ≡ P.Read (FixBadPixelsList 9 1 2)
+  pub bad-list-short : read 5 (words (9 ∷ 2 ∷ 1 ∷ 0 ∷ 0 ∷ 0 ∷ 0 ∷ 0 ∷ 0 ∷ 0 ∷ [])) ≡ P.Malformed
+  pub trim : read 6 (words (1 ∷ 2 ∷ 3 ∷ 4 ∷ [])) ≡ P.Read (TrimBounds 1 2 3 4)
+  pub table : read 7 (area ++ (words (2 ∷ []) ++ (0 ∷ 1 ∷ 0 ∷ 2 ∷ []))) ≡ P.Read (MapTable areaIs 2)
+  pub table-short : read 7 (area ++ (words (2 ∷ []) ++ (0 ∷ 1 ∷ 0 ∷ []))) ≡ P.Malformed
+  pub gain : read 9 (area ++ (words (2 ∷ 1 ∷ []) ++ (doubles ++ (words (2 ∷ []) ++ singles)))) ≡ P.Read (GainMap areaIs 2 1 (record { «spacing_v» = double 1; «spacing_h» = double 2; «origin_v» = double 3; «origin_h» = double 4 }) 2)
+  -- map planes of 0 count as 1, and a product of 0 is malformed
+  pub gain-none : read 9 (area ++ (words (0 ∷ 1 ∷ []) ++ (doubles ++ (words (2 ∷ []) ++ singles)))) ≡ P.Malformed
+  pub delta-row : read 10 (area ++ words (1 ∷ 0 ∷ [])) ≡ P.Read (DeltaPerRow areaIs 1)
+  pub delta-column : read 11 (area ++ words (1 ∷ 0 ∷ [])) ≡ P.Read (DeltaPerColumn areaIs 1)
+  pub scale-row : read 12 (area ++ words (1 ∷ 0 ∷ [])) ≡ P.Read (ScalePerRow areaIs 1)
+  pub scale-column : read 13 (area ++ words (1 ∷ 0 ∷ [])) ≡ P.Read (ScalePerColumn areaIs 1)
+  pub other : read 14 [] ≡ P.Read (Other 14)
+
+pub layouts : Layouts
+unfolding big parsedAt warpAt badListAt countedAt polynomialAt gainAt ofBits ofFields odd trailingZeros ofInt round units size span climb
+layouts =
+    record { warp = refl; vignette = refl; constant = refl; constant-short = refl; bad-list = refl; bad-list-short = refl; trim = refl; table = refl; table-short = refl; gain = refl; gain-none = refl; delta-row = refl; delta-column = refl; scale-row = refl; scale-column = refl; other = refl }
+
+-- ---- values
+
+abbrev plain : Frame
+plain = record { scale = whole 1; fullWidth = 2; fullHeight = 2 }
+
+-- a table of 10, 11, 12, 13 after the region and n
+abbrev table4 : List ℕ
+table4 = area ++ (words (4 ∷ []) ++ (0 ∷ 10 ∷ 0 ∷ 11 ∷ 0 ∷ 12 ∷ 0 ∷ 13 ∷ []))
+
+-- the first two f32 values, 1 and 2, after the region and n
+abbrev line2 : List ℕ
+line2 = area ++ (words (2 ∷ []) ++ singles)
+
+-- a map of one point and two planes, gains 1 and 2
+abbrev point2 : List ℕ
+point2 = area ++ (words (1 ∷ 1 ∷ []) ++ (doubles ++ (words (2 ∷ []) ++ singles)))
+
+-- a map of two rows and one column, gains 1 and 2
+abbrev rows2 : List ℕ
+rows2 = area ++ (words (2 ∷ 1 ∷ []) ++ (doubles ++ (words (1 ∷ []) ++ singles)))
+
+-- every second row from 2 on, all columns; planes from 1 on
+abbrev second : Region
+second = record { top = 2; left = 0; bottom = 9; right = 9; plane = 1; planes = 3; «row_pitch» = 2; «col_pitch» = 1 }
+
+pub record Values : Type 0 where
+  -- 2.5 is rounded to 3, half away from zero; to even it would be 2
+  pub table-half : mapTable (whole 1) 4 table4 (fin false 5 (negsuc 0)) ≡ fin false 13 (pos 0)
+  pub table-last : mapTable (whole 1) 4 table4 (inf false) ≡ fin false 13 (pos 0)
+  pub table-nan : mapTable (whole 1) 4 table4 nan ≡ fin false 5 (pos 1)
+  -- 1 + 2x at x = 3: the value 3 at scale 65535
+  pub polynomial : mapPolynomial (whole 65535) 1 (area ++ (words (1 ∷ []) ++ doubles)) (whole 3) ≡ fin false 7 (pos 0)
+  -- row 4 is the second selected row; a missing delta is 0.0, and −0 + 0.0 is +0
+  pub delta-second : ruleOf plain (DeltaPerRow second 2) line2 true 4 0 1 (whole 1) ≡ fin false 131071 (pos 0)
+  pub delta-missing : ruleOf plain (DeltaPerRow second 2) line2 true 6 0 1 (fin true 0 (pos 0)) ≡ fin false 0 (pos 0)
+  pub delta-outside : ruleOf plain (DeltaPerRow second 2) line2 true 3 0 1 (whole 1) ≡ fin false 1 (pos 0)
+  -- the planes are counted from the region's first, and end with the map's last
+  pub gain-first : gained plain point2 second 1 1 (record { «spacing_v» = double 0; «spacing_h» = double 0; «origin_v» = double 0; «origin_h» = double 0 }) 2 3 0 1 (whole 5) ≡ fin false 5 (pos 0)
+  pub gain-second : gained plain point2 second 1 1 (record { «spacing_v» = double 0; «spacing_h» = double 0; «origin_v» = double 0; «origin_h» = double 0 }) 2 3 0 2 (whole 5) ≡ fin false 5 (pos 1)
+  pub gain-last : gained plain point2 second 1 1 (record { «spacing_v» = double 0; «spacing_h» = double 0; «origin_v» = double 0; «origin_h» = double 0 }) 2 3 0 3 (whole 5) ≡ fin false 5 (pos 1)
+  -- row 1 of 2 is halfway between two map rows a whole apart
+  pub gain-between : gained plain rows2 second 2 1 (record { «spacing_v» = double 1; «spacing_h» = double 1; «origin_v» = double 0; «origin_h» = double 0 }) 1 1 0 1 (whole 4) ≡ fin false 3 (pos 1)
+
+pub values : Values
+unfolding big selects onColumns onRegion narrow roundHeld heldTo mapTable mapPolynomial horner nth delta scaled position mix lineAt gainOf gained ofBits ofFields odd trailingZeros ofInt round units size span climb mul div add sub neg sum lt toUnsigned
+values =
+    record { table-half = refl; table-last = refl; table-nan = refl; polynomial = refl; delta-second = refl; delta-missing = refl; delta-outside = refl; gain-first = refl; gain-second = refl; gain-last = refl; gain-between = refl }
+
+-- ---- repairs: three by three, the middle marked; the order of the neighbours shows where a sum is rounded
+
+-- 16,777,216 at one place, 1 elsewhere
+abbrev heavyAt : (cx cy x y : ℕ) → Float
+heavyAt cx cy x y = cond (eqb x cx && eqb y cy) (whole 16777216) (whole 1)
+
+abbrev middle : ℕ → Bool
+middle q = eqb q 4
+
+pub record Repairs : Type 0 where
+  -- left comes first: every 1 added to it is lost
+  pub left-first : tallyAt 3 3 1 middle (heavyAt 0 1) 1 1 ≡ record { sum = fin false 1 (pos 24); n = 8 }
+  -- up-right comes last: the seven before it add up exactly, and the sum is rounded once
+  pub up-right-last : tallyAt 3 3 1 middle (heavyAt 2 0) 1 1 ≡ record { sum = fin false 2097153 (pos 3); n = 8 }
+  -- up-left is the fifth: the four before it are kept, the three after it are lost
+  pub up-left-fifth : tallyAt 3 3 1 middle (heavyAt 0 0) 1 1 ≡ record { sum = fin false 4194305 (pos 2); n = 8 }
+  -- points are (row, column), and rectangles leave bottom and right out
+  pub point : pointAt (words (0 ∷ 1 ∷ 0 ∷ 5 ∷ 7 ∷ [])) 0 5 7 ≡ true
+  pub point-turned : pointAt (words (0 ∷ 1 ∷ 0 ∷ 5 ∷ 7 ∷ [])) 0 7 5 ≡ false
+  pub rect-in : rectAt (words (0 ∷ 0 ∷ 1 ∷ 1 ∷ 2 ∷ 3 ∷ 5 ∷ [])) 0 0 2 4 ≡ true
+  pub rect-bottom : rectAt (words (0 ∷ 0 ∷ 1 ∷ 1 ∷ 2 ∷ 3 ∷ 5 ∷ [])) 0 0 3 4 ≡ false
+  pub rect-right : rectAt (words (0 ∷ 0 ∷ 1 ∷ 1 ∷ 2 ∷ 3 ∷ 5 ∷ [])) 0 0 2 5 ≡ false
+
+pub repairs : Repairs
+unfolding big pointAt rectAt moved sound tallyOn ofInt round units odd trailingZeros size span climb add sum
+repairs =
+    record { left-first = refl; up-right-last = refl; up-left-fifth = refl; point = refl; point-turned = refl; rect-in = refl; rect-bottom = refl; rect-right = refl }
