@@ -22,7 +22,7 @@ bounded (ScalePerRow r n) = leb n 16777216
 bounded (ScalePerColumn r n) = leb n 16777216
 bounded (Other i) = true
 
--- a row of n samples, p to a pixel, whose first pixel is the image column x0 of the image row y
+-- a row of n samples, p to a pixel, whose first pixel is the image column x0 of the image row y: inside the limits of document 01, 'Taken and left'
 pub record RowFits (x0 p y n : ℕ) : Type 0 where
   pub some : 1 ≤ p
   pub few : p ≤ 8

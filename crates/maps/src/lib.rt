@@ -270,7 +270,7 @@ fn polynomial_value(t: Terms, body: &[u8], degree: u32, scale: f32, scale64: f64
     narrow::to_f32(along(t, body, degree, x) * 65535.0 / scale64)
 }
 
-// The polynomial at the walk's samples, 65535 standing for the scale.
+// The polynomial at the walk's samples: v = 65535 / scale stands for 1.
 pub fn polynomial_row(row: &mut [f32], k: Walk, body: &[u8], degree: u32, scale: f32)
     requires { ⌜ (Walks k (length (now row))) × (degree ≤ 8) ⌝ }
     ensures { λ _. ⌜ now (row .exit) ≡ walked k (λ x p v. mapPolynomial scale degree (now (body .entry)) v) (now (row .entry)) ⌝ }

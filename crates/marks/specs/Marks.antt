@@ -14,7 +14,7 @@ unfoldable pub chosen : (ℕ → Bool) → (a n : ℕ) → List ℕ
 chosen m a zero = []
 chosen m a (suc n) = cond (m a) (a ∷ chosen m (suc a) n) (chosen m (suc a) n)
 
--- the scratch, of the length it came with, starts with all n marked numbers below top
+-- the scratch s′ starts with all n marked numbers below top, and s had room for them
 pub record Holds (top : ℕ) (m : ℕ → Bool) (s s′ : List ℕ) (n : ℕ) : Type 0 where
   pub all : n ≡ countBelow top m
   pub fits : n ≤ length s
