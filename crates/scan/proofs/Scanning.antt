@@ -1,16 +1,19 @@
 -- A scan, over any marks: one position more, positions that are passed over, and when there are too many. Assumes nothing.
 use Prim.Native.Nat.{ℕ, zero, suc, _+_, _-_, _*_, _≤_, _<_}
 use mathlib.Core.Path.{_≡_, refl, sym, ap, subst, _∙_}
-use mathlib.Core.Bool.{Bool, true, false, cond}
+use mathlib.Core.Bool.{Bool, true, false, _||_, cond, false≢true}
 use mathlib.Core.List.{List, [], _∷_, _++_, append-nil}
-use native.Mathlib.Nat.{add-zero, add-suc, suc-add, zero-add}
+use native.Mathlib.Nat.{add-zero, add-suc, suc-add, zero-add, suc-mul, mul-comm, mul-le-mul-right}
 use native.Mathlib.Numerals.{add-one}
 use native.Mathlib.Omega.{arith}
-use lib.ListN.{length, take, set, length-set}
-use lib.Seq.{take-suc-set}
+use lib.ListN.{length, getD, take, drop, set, length-set, length-take, length-drop}
+use lib.Seq.{take-suc-set, getD-take, getD-drop}
 use Rattle.dng.specs.declared.Window.{Window}
-use Rattle.dng.specs.Repair.{countBelow}
+use Rattle.dng.specs.Repair.{countBelow, positions, badValue}
+use Rattle.sorts.proofs.Occ.{below-or}
 use Rattle.marks.specs.Marks.{chosen, Holds}
+use Rattle.scan.specs.Parts.{Part, Before, Clear}
+use Rattle.scan.proofs.Places.{place-in, bad-read}
 
 -- the last number looked at stands last
 chosen-next : (m : ℕ → Bool) (a n : ℕ) → chosen m a (suc n) ≡ chosen m a n ++ cond (m (a + n)) ((a + n) ∷ []) []
@@ -67,6 +70,10 @@ module _ (p : ℕ) (m : ℕ → Bool) (s s′ : List ℕ) (n : ℕ) (h : Holds p
       let one : countBelow (suc p) m ≡ 1 + countBelow p m = rw e refl in
       omega (arith, h .all, one, count-mono m (suc p) top l)
 
+-- a scratch of the same length
+pub hold-base : (p : ℕ) (m : ℕ → Bool) (s t s′ : List ℕ) (n : ℕ) → length s ≡ length t → Holds p m s s′ n → Holds p m t s′ n
+hold-base p m s t s′ n e h = record { all = h .all; fits = omega (arith, h .fits); front = h .front }
+
 -- positions that are all passed over
 pub hold-skip : (k p : ℕ) (m : ℕ → Bool) (s s′ : List ℕ) (n : ℕ) → Holds p m s s′ n → ((q : ℕ) → p ≤ q → q < p + k → m q ≡ false)
     → Holds (p + k) m s s′ n
@@ -108,3 +115,83 @@ module _ (w : Window) (m : ℕ → Bool) (y end : ℕ) (s s′ : List ℕ) (n x 
 
   pub scan-end : end ≤ x → Holds (y * w .width + end) m s s′ n
   scan-end h = subst (λ (z : ℕ). Holds (y * w .width + z) m s s′ n) {x = x} (omega (arith, t .within)) (t .held)
+
+  -- what a part that was scanned after x answers, of the whole row
+  pub scan-join : (s″ : List ℕ) (k e : ℕ) → e ≤ end → length s″ ≡ length s′ → Holds (y * w .width + e) m s′ s″ k → Scanned w m y end s s″ k e
+  scan-join s″ k e h l g = record { within = h; long = l ∙ t .long; held = hold-base (y * w .width + e) m s′ s s″ k (t .long) g }
+
+  pub scan-over : (e : ℕ) → e ≤ end → length s′ < countBelow (y * w .width + e) m → length s < countBelow (y * w .width + end) m
+  scan-over e h g = omega (arith, t .long, count-mono m (y * w .width + e) (y * w .width + end) (omega arith))
+
+-- ---- the rows
+
+-- the rows before y are gathered
+pub record Rows (w : Window) (m : ℕ → Bool) (s s′ : List ℕ) (n y : ℕ) : Type 0 where
+  pub within : y ≤ w .height
+  pub long : length s′ ≡ length s
+  pub held : Holds (y * w .width + 0) m s s′ n
+
+row-top : (w : Window) (y : ℕ) → y < w .height → y * w .width + w .width ≤ positions w
+row-top w y h = omega (arith, suc-mul y (w .width), mul-le-mul-right (w .width) h, mul-comm (w .width) (w .height))
+
+module _ (w : Window) (m : ℕ → Bool) (s s′ : List ℕ) (n y : ℕ) (t : Rows w m s s′ n y) where
+  pub rows-join : (s″ : List ℕ) (k : ℕ) → y < w .height → length s″ ≡ length s′ → Holds (y * w .width + w .width) m s′ s″ k → Rows w m s s″ k (y + 1)
+  rows-join s″ k h l g =
+      record {
+        within = omega arith;
+        long = l ∙ t .long;
+        held = subst (λ (p : ℕ). Holds p m s s″ k) {x = y * w .width + w .width} (rw add-one (omega (arith, suc-mul y (w .width))))
+            (hold-base (y * w .width + w .width) m s′ s s″ k (t .long) g);
+      }
+
+  pub rows-over : y < w .height → length s′ < countBelow (y * w .width + w .width) m → length s < countBelow (positions w) m
+  rows-over h g = omega (arith, t .long, count-mono m (y * w .width + w .width) (positions w) (row-top w y h))
+
+  pub rows-end : w .height ≤ y → Holds (positions w) m s s′ n
+  rows-end h =
+      let last : y ≡ w .height = omega (arith, t .within) in
+      subst (λ (p : ℕ). Holds p m s s′ n) {x = y * w .width + 0}
+      (rw last (omega (arith, mul-comm (w .width) (w .height)))) (t .held)
+
+-- ---- a test of many at once
+
+-- the test fails at each of the first n
+abbrev pub None : (ℕ → Bool) → ℕ → Type 0
+None f n = (k : ℕ) → k < n → f k ≡ false
+
+or-false : (a b : Bool) → (a || b) ≡ false → (a ≡ false) × (b ≡ false)
+or-false true b e = absurd (false≢true (sym e))
+or-false false b e = (refl, e)
+
+pub none-more : (f : ℕ → Bool) (n : ℕ) (a : Bool) → (a ≡ false → None f n) → (a || f n) ≡ false → None f (n + 1)
+none-more f n a h e k l =
+    let both = or-false a (f n) e in
+    below-or k n (λ p. h (both .0) k p) (λ p. subst (λ (j : ℕ). f j ≡ false) {x = n} (omega arith) (both .1))
+
+-- a part of a row that is clear
+pub scan-clear : (w : Window) (m : ℕ → Bool) (y from end : ℕ) (s : List ℕ) (n : ℕ) → from ≤ end → Before w m s n y from → Clear w m y from end
+    → Holds (y * w .width + end) m s s n
+scan-clear w m y from end s n h b c =
+    subst (λ (p : ℕ). Holds p m s s n) {x = y * w .width + from + (end - from)} (omega arith)
+    (hold-skip (end - from) (y * w .width + from) m s s n b (λ q l k. subst (λ (z : ℕ). m z ≡ false) {x = y * w .width + (q - y * w .width)} (omega arith) (c (q - y * w .width) (omega arith) (omega arith))))
+
+-- of a window of one plane the samples of a part of a row lie side by side
+module _ {A : Type 0} (d : A) (w : Window) (test : A → Bool) (s : List A) (y from end at past : ℕ) (p : Part (length s) w y from end)
+    (h : from < end) (e : w .planes ≡ 1) (a : at ≡ (y * w .stride + from) * w .planes + 0) (b : past ≡ at + (end - from)) where
+  side : (x : ℕ) → (y * w .stride + x) * w .planes + 0 ≡ y * w .stride + x
+  side x = rw e (omega arith)
+
+  pub part-in : past ≤ length s
+  part-in =
+      omega (arith, b, a, side from, side (end - 1), place-in w (end - 1) y (omega (arith, p .edge)) (p .row) (length s) 0 (p .whole .fits .some) (p .whole .full))
+
+  pub part-clear : None (λ k. test (getD (take (past - at) (drop at s)) k d)) (length (take (past - at) (drop at s))) → Clear w (badValue d w test s) y from end
+  part-clear f x l k =
+      bad-read d w test s x y (at + (x - from)) false (omega (arith, p .edge)) (omega (arith, a, side from, side x))
+      (subst (λ (v : A). test v ≡ false) read (f (x - from) (subst (λ (n : ℕ). x - from < n) (sym long) (omega (arith, b)))))
+    where
+      long : length (take (past - at) (drop at s)) ≡ past - at
+      long = simp (length-take, length-drop) (omega (arith, part-in, b))
+
+      read : getD (take (past - at) (drop at s)) (x - from) d ≡ getD s (at + (x - from)) d
+      read = getD-take (past - at) (drop at s) (x - from) d (omega (arith, b)) ∙ getD-drop at s (x - from) d

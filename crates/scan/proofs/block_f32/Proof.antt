@@ -1,0 +1,33 @@
+-- `scan::block_f32` meets its contract: a part that is clear leaves the scratch as it is. Assumes nothing.
+use borrow.Author.Needs.{needs}
+use Rattle.scan.specs.Parts.{same32}
+use Rattle.scan.proofs.Scanning.{scan-clear}
+use Rattle.scan.proofs.block_f32.Statement.{statement}
+use Rattle.scan.proofs.block_f32.Tie as tie
+use Rattle.scan.proofs.block_f32.Reads as reads
+use Rattle.scan.proofs.block_f32.Lts as lts
+use Rattle.scan.proofs.clear_f32.Reads as clear-f32-reads
+use Rattle.scan.proofs.part_f32.Reads as part-f32-reads
+
+clear-f32-requires : tie.Need-clear-f32-requires
+clear-f32-requires c κs = search needs
+
+returns : tie.Need-returns
+returns c =
+    let s = c .before .before .before .before in
+    let a = s .args in
+    scan-clear (a .w) (same32 (a .w) (a .c) (a .samples .now)) (a .y) (a .from) (a .end) (a .marks .now) (a .n) (s .pre .0 .order) (s .pre .1 .1)
+    (c .before .clear-f32 .ensures (c .if1 .taken))
+
+part-f32-requires : tie.Need-part-f32-requires
+part-f32-requires c κs = search needs
+
+same-length : tie.Need-same-length
+same-length c = search needs
+
+returns-2 : tie.Need-returns-2
+returns-2 c = search needs
+
+pub block-f32-spec : {M : Type 1} → statement M
+block-f32-spec =
+    tie.close (tie.spec clear-f32-requires returns part-f32-requires same-length returns-2)
