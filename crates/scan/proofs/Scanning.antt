@@ -131,6 +131,10 @@ pub record Rows (w : Window) (m : ℕ → Bool) (s s′ : List ℕ) (n y : ℕ) 
   pub long : length s′ ≡ length s
   pub held : Holds (y * w .width + 0) m s s′ n
 
+pub rows-start : (w : Window) (m : ℕ → Bool) (s : List ℕ) → Rows w m s s 0 0
+rows-start w m s =
+    record { within = omega arith; long = refl; held = subst (λ (p : ℕ). Holds p m s s 0) {x = 0} (omega arith) (hold-start m s) }
+
 row-top : (w : Window) (y : ℕ) → y < w .height → y * w .width + w .width ≤ positions w
 row-top w y h = omega (arith, suc-mul y (w .width), mul-le-mul-right (w .width) h, mul-comm (w .width) (w .height))
 

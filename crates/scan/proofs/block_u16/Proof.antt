@@ -1,0 +1,33 @@
+-- `scan::block_u16` meets its contract: a part that is clear leaves the scratch as it is. Assumes nothing.
+use borrow.Author.Needs.{needs}
+use Rattle.scan.specs.Parts.{same16}
+use Rattle.scan.proofs.Scanning.{scan-clear}
+use Rattle.scan.proofs.block_u16.Statement.{statement}
+use Rattle.scan.proofs.block_u16.Tie as tie
+use Rattle.scan.proofs.block_u16.Reads as reads
+use Rattle.scan.proofs.block_u16.Lts as lts
+use Rattle.scan.proofs.clear_u16.Reads as clear-u16-reads
+use Rattle.scan.proofs.part_u16.Reads as part-u16-reads
+
+clear-u16-requires : tie.Need-clear-u16-requires
+clear-u16-requires c κs = search needs
+
+returns : tie.Need-returns
+returns c =
+    let s = c .before .before .before .before in
+    let a = s .args in
+    scan-clear (a .w) (same16 (a .w) (a .c) (a .samples .now)) (a .y) (a .from) (a .end) (a .marks .now) (a .n) (s .pre .0 .order) (s .pre .1 .1)
+    (c .before .clear-u16 .ensures (c .if1 .taken))
+
+part-u16-requires : tie.Need-part-u16-requires
+part-u16-requires c κs = search needs
+
+same-length : tie.Need-same-length
+same-length c = search needs
+
+returns-2 : tie.Need-returns-2
+returns-2 c = search needs
+
+pub block-u16-spec : {M : Type 1} → statement M
+block-u16-spec =
+    tie.close (tie.spec clear-u16-requires returns part-u16-requires same-length returns-2)
