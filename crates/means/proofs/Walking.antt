@@ -2,64 +2,27 @@
 -- Assumes nothing.
 use Prim.Native.Nat.{ℕ, zero, suc, _+_, _-_, _*_, _≤_, _<_}
 use mathlib.Core.Path.{_≡_, refl, sym, ap, subst, _∙_}
-use mathlib.Core.Bool.{Bool, true, false, not, _&&_, cond, false≢true}
+use mathlib.Core.Bool.{Bool, true, false, not, _&&_, cond}
 use mathlib.Core.List.{List, [], _∷_, map}
-use native.Mathlib.Nat.{not-suc-le-zero, le-of-suc-le-suc, le-trans, lt-of-lt-of-le, mul-le-mul-left, mul-le-mul-right}
+use native.Mathlib.Nat.{not-suc-le-zero, le-of-suc-le-suc}
 use native.Mathlib.Numerals.{add-one}
 use native.Mathlib.Omega.{arith}
-use borrow.Author.Tests.{lt-ltb, le-ltb, ltb-true, leb-true}
-use lib.Arith.{digits-lt}
+use borrow.Author.Tests.{lt-ltb, le-ltb, ltb-true}
 use lib.Dec.{leb, ltb, eqb}
 use lib.IntN.{ℤ, pos, negsuc}
 use lib.Ieee.{Float, binary32, add}
 use lib.ListN.{length, getD, drop, List·getD-map}
 use lib.Seq.{drop-cons}
-use Rattle.dng.specs.declared.Window.{Window}
-use Rattle.dng.specs.Select.{active}
-use Rattle.marks.specs.Marks.{Fits}
-use Rattle.dng.specs.Repair.{Tally, complete, steps, moved, sound, tallyOn, tallyAt, soundOn}
+use Rattle.dng.specs.Repair.{Tally, steps, moved, sound, tallyOn, tallyAt, soundOn}
 use Rattle.dng.specs.Value.{nought}
 use Rattle.means.specs.declared.Step.{Step}
 use Rattle.means.specs.declared.Neighbour.{Neighbour}
 use Rattle.means.specs.declared.Neighbour.the-variants as N
 use Rattle.means.specs.Looks.{pairOf, oneStep, openAt, soundOf}
 use Rattle.means.proofs.Tallies.{sound-ap}
-
--- ---- Boolean cases
-
-pub and-first : (a b : Bool) → (a && b) ≡ true → a ≡ true
-and-first true b e = refl
-and-first false b e = e
-
-pub and-second : (a b : Bool) → (a && b) ≡ true → b ≡ true
-and-second true b e = e
-and-second false b e = absurd (false≢true e)
+use Rattle.scan.proofs.Places.{and-first, and-second}
 
 -- ---- one position
-
--- a position of a window in range is a number of 32 bits
-pub position-fits : (width height x y : ℕ) → width ≤ 65536 → height ≤ 65536 → x < width → y < height → y * width + x < 4294967296
-position-fits width height x y h k p q =
-    lt-of-lt-of-le (digits-lt {q = y} {m = height} q p) (le-trans (mul-le-mul-right width k) (mul-le-mul-left 65536 h))
-
--- and where its sample lies, one of 64
-pub place-fits : (w : Window) (x y plane : ℕ) → Fits w → x < w .width → y < w .height → plane < w .planes
-    → (y * w .stride + x < 4294967296) × ((y * w .stride + x) * w .planes + plane < 34359738368)
-place-fits w x y plane f p q r = (pixel, lt-of-lt-of-le (digits-lt {m = 4294967296} pixel r) (mul-le-mul-left 4294967296 (f .planes)))
-  where
-    pixel : y * w .stride + x < 4294967296
-    pixel = position-fits (w .stride) (w .height) x y (f .stride) (f .height) (omega (arith, f .strided)) q
-
--- a place of a complete window is among its samples
-pub place-in : (w : Window) (n x y k : ℕ) → complete w n ≡ true → x < w .width → y < w .height → k < w .planes
-    → (y * w .stride + x) * w .planes + k < n
-unfolding complete
-place-in w n x y k e h p q =
-    let row : y * w .stride ≤ (w .height - 1) * w .stride = mul-le-mul-right (w .stride) (omega arith) in
-    let pixels : ℕ = (w .height - 1) * w .stride + w .width in
-    let full : pixels * w .planes ≤ n =
-    leb-true (pixels * w .planes) n (and-second (leb 1 (w .height)) (leb (pixels * w .planes) n) (and-second (active w) _ e)) in
-    lt-of-lt-of-le (digits-lt {q = y * w .stride + x} {m = pixels} (omega arith) q) full
 
 module _ (width height : ℕ) (bad : ℕ → Bool) (x y : ℕ) where
   pub open-right : width ≤ x → N.Missing ≡ openAt width height bad x y
