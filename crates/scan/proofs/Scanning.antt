@@ -99,19 +99,20 @@ module _ (w : Window) (m : ℕ → Bool) (y end : ℕ) (s s′ : List ℕ) (n x 
         held = subst (λ (p : ℕ). Holds p m s s′ n) {x = y * w .width + x + 1} (omega arith) (hold-past (y * w .width + x) m s s′ n (t .held) e);
       }
 
-  pub scan-more : (v : ℕ) → x < end → m (y * w .width + x) ≡ true → (n ≡ length s′ → ⊥) → v ≡ y * w .width + x
-      → Scanned w m y end s (set s′ n v) (n + 1) (x + 1)
-  scan-more v h e f g =
-      record {
+  pub scan-more : (s″ : List ℕ) (v : ℕ) → x < end → m (y * w .width + x) ≡ true → v ≡ y * w .width + x → n < length s′ → s″ ≡ set s′ n v
+      → Scanned w m y end s s″ (n + 1) (x + 1)
+  scan-more s″ v h e g r f =
+      rw (f, g)
+      (record {
         within = omega arith;
         long = simp length-set (t .long);
-        held = rw g
-            (subst (λ (p : ℕ). Holds p m s (set s′ n (y * w .width + x)) (n + 1)) {x = y * w .width + x + 1} (omega arith)
-            (hold-more (y * w .width + x) m s s′ n (t .held) e (t .long) (omega (arith, t .held .fits, t .long))));
-      }
+        held = subst (λ (p : ℕ). Holds p m s (set s′ n (y * w .width + x)) (n + 1)) {x = y * w .width + x + 1} (omega arith)
+            (hold-more (y * w .width + x) m s s′ n (t .held) e (t .long) (omega (arith, t .long)));
+      })
 
-  pub scan-full : x < end → m (y * w .width + x) ≡ true → n ≡ length s′ → length s < countBelow (y * w .width + end) m
-  scan-full h e f = hold-full (y * w .width + x) m s s′ n (t .held) (y * w .width + end) e (omega (arith, t .long)) (omega arith)
+  pub scan-full : x < end → m (y * w .width + x) ≡ true → length s′ ≤ n → length s < countBelow (y * w .width + end) m
+  scan-full h e f =
+      hold-full (y * w .width + x) m s s′ n (t .held) (y * w .width + end) e (omega (arith, t .long, t .held .fits)) (omega arith)
 
   pub scan-end : end ≤ x → Holds (y * w .width + end) m s s′ n
   scan-end h = subst (λ (z : ℕ). Holds (y * w .width + z) m s s′ n) {x = x} (omega (arith, t .within)) (t .held)

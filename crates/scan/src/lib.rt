@@ -7,7 +7,7 @@ ghost use lib.Dec.{eqb};
 ghost use lib.Ieee.{nan, eq};
 ghost use Rattle.dng.specs.Repair.{positions, badValue};
 ghost use Rattle.marks.specs.Marks.{Gathered};
-ghost use Rattle.scan.specs.Parts.{Pixel, Whole, Part, Before, Clear, same32, same16};
+ghost use Rattle.scan.specs.Parts.{Pixel, Whole, Part, Keeps, Before, Clear, same32, same16};
 use dng::Window;
 use marks::Marked;
 
@@ -25,6 +25,25 @@ pub fn position(w: Window, x: usize, y: usize) -> u32
     ensures { λ r. ⌜ r ≡ y * w .width + x ⌝ }
 {
     (y * w.width + x) as u32
+}
+
+// Where the sample that is compared lies: plane 0 alone says whether a position is marked.
+fn tested(w: Window, x: usize, y: usize) -> usize
+    requires { ⌜ Pixel w x y ⌝ }
+    ensures { λ r. ⌜ r ≡ (y * w .stride + x) * w .planes + 0 ⌝ }
+{
+    place(w, x, y, 0)
+}
+
+// A position behind the first n, where there is room for it.
+fn keep(marks: &mut [u32], n: usize, q: u32) -> bool
+    ensures { λ r. ⌜ Keeps (now (marks .entry)) (now (marks .exit)) n q r ⌝ }
+{
+    if n < marks.len() {
+        marks[n] = q;
+        return true;
+    }
+    false
 }
 
 // Where the block that starts at x ends: 64 columns on, or with the row.
@@ -56,7 +75,7 @@ fn clear_f32(samples: &[f32], w: Window, c: f32, y: usize, from: usize, end: usi
     ensures { λ r. ⌜ (r ≡ true → Clear w (same32 w c (now (samples .entry))) y from end) ⌝ }
 {
     if w.planes == 1 {
-        let at = place(w, from, y, 0);
+        let at = tested(w, from, y);
         let past = at + (end - from);
         return !any_f32(&samples[at..past], c);
     }
@@ -80,14 +99,14 @@ fn part_f32(
     let mut held = n;
     let mut x = from;
     while x < end {
-        let at = place(w, x, y, 0);
+        let at = tested(w, x, y);
         if samples[at] == c {
-            if held == marks.len() {
+            if keep(marks, held, position(w, x, y)) {
+                held += 1;
+                x += 1;
+            } else {
                 return Marked::TooMany;
             }
-            marks[held] = position(w, x, y);
-            held += 1;
-            x += 1;
         } else {
             x += 1;
         }
@@ -188,7 +207,7 @@ fn clear_u16(samples: &[u16], w: Window, c: u32, y: usize, from: usize, end: usi
         return true;
     }
     if w.planes == 1 {
-        let at = place(w, from, y, 0);
+        let at = tested(w, from, y);
         let past = at + (end - from);
         return !any_u16(&samples[at..past], c as u16);
     }
@@ -212,14 +231,14 @@ fn part_u16(
     let mut held = n;
     let mut x = from;
     while x < end {
-        let at = place(w, x, y, 0);
+        let at = tested(w, x, y);
         if samples[at] as u32 == c {
-            if held == marks.len() {
+            if keep(marks, held, position(w, x, y)) {
+                held += 1;
+                x += 1;
+            } else {
                 return Marked::TooMany;
             }
-            marks[held] = position(w, x, y);
-            held += 1;
-            x += 1;
         } else {
             x += 1;
         }

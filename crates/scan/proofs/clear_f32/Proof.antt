@@ -13,20 +13,20 @@ use Rattle.scan.proofs.clear_f32.Tie as tie
 use Rattle.scan.proofs.clear_f32.Reads as reads
 use Rattle.scan.proofs.clear_f32.Lts as lts
 use Rattle.scan.proofs.any_f32.Reads as any-f32-reads
-use Rattle.scan.proofs.place.Reads as place-reads
+use Rattle.scan.proofs.tested.Reads as tested-reads
 
 -- the part ends among the samples
-inside : (c : tie.After-place)
-    → c .place .result + (c .before .before .before .before .args .end - c .before .before .before .before .args .from)
+inside : (c : tie.After-tested)
+    → c .tested .result + (c .before .before .before .before .args .end - c .before .before .before .before .args .from)
     ≤ length (c .before .before .before .before .args .samples .now)
 inside c =
     let s = c .before .before .before .before in
     let a = s .args in
-    part-in nan (a .w) (λ v. eq v (a .c)) (a .samples .now) (a .y) (a .from) (a .end) (c .place .result) (c .place .result + (a .end - a .from))
-    (s .pre .0) (s .pre .1) (c .before .if1 .taken) (c .place .ensures) refl
+    part-in nan (a .w) (λ v. eq v (a .c)) (a .samples .now) (a .y) (a .from) (a .end) (c .tested .result) (c .tested .result + (a .end - a .from))
+    (s .pre .0) (s .pre .1) (c .before .if1 .taken) (c .tested .ensures) refl
 
-place-requires : tie.Need-place-requires
-place-requires c κs = search needs
+tested-requires : tie.Need-tested-requires
+tested-requires c κs = search needs
 
 sub-past : tie.Need-sub-past
 sub-past c = search needs
@@ -54,8 +54,8 @@ returns c = λ e.
     let t = c .before .before in
     let s = t .before .before .before .before in
     let a = s .args in
-    part-clear nan (a .w) (λ v. eq v (a .c)) (a .samples .now) (a .y) (a .from) (a .end) (t .place .result) (t .place .result + (a .end - a .from))
-    (s .pre .0) (s .pre .1) (t .before .if1 .taken) (t .place .ensures) refl (c .any-f32 .ensures (not-true (c .any-f32 .result) e))
+    part-clear nan (a .w) (λ v. eq v (a .c)) (a .samples .now) (a .y) (a .from) (a .end) (t .tested .result) (t .tested .result + (a .end - a .from))
+    (s .pre .0) (s .pre .1) (t .before .if1 .taken) (t .tested .ensures) refl (c .any-f32 .ensures (not-true (c .any-f32 .result) e))
 
 returns-2 : tie.Need-returns-2
 returns-2 c = λ e. absurd (false≢true e)
@@ -64,7 +64,7 @@ pub clear-f32-spec : {M : Type 1} → statement M
 clear-f32-spec =
     tie.close
     (tie.spec
-    place-requires
+    tested-requires
     sub-past
     add-past
     mul-any-f32

@@ -15,17 +15,17 @@ use Rattle.scan.proofs.clear_u16.Tie as tie
 use Rattle.scan.proofs.clear_u16.Reads as reads
 use Rattle.scan.proofs.clear_u16.Lts as lts
 use Rattle.scan.proofs.any_u16.Reads as any-u16-reads
-use Rattle.scan.proofs.place.Reads as place-reads
+use Rattle.scan.proofs.tested.Reads as tested-reads
 
 -- the part ends among the samples
-inside : (c : tie.After-place)
-    → c .place .result + (c .before .before .before .before .before .args .end - c .before .before .before .before .before .args .from)
+inside : (c : tie.After-tested)
+    → c .tested .result + (c .before .before .before .before .before .args .end - c .before .before .before .before .before .args .from)
     ≤ length (c .before .before .before .before .before .args .samples .now)
 inside c =
     let s = c .before .before .before .before .before in
     let a = s .args in
-    part-in 0 (a .w) (λ v. eqb v (a .c)) (a .samples .now) (a .y) (a .from) (a .end) (c .place .result) (c .place .result + (a .end - a .from))
-    (s .pre .0) (s .pre .1) (c .before .if2 .taken) (c .place .ensures) refl
+    part-in 0 (a .w) (λ v. eqb v (a .c)) (a .samples .now) (a .y) (a .from) (a .end) (c .tested .result) (c .tested .result + (a .end - a .from))
+    (s .pre .0) (s .pre .1) (c .before .if2 .taken) (c .tested .ensures) refl
 
 returns : tie.Need-returns
 returns c = λ e x l h.
@@ -35,8 +35,8 @@ returns c = λ e x l h.
     bad-at 0 (a .w) (λ v. eqb v (a .c)) (a .samples .now) x (a .y) (omega (arith, h, s .pre .0 .edge))
     ∙ ne-eqb (getD (a .samples .now) at 0) (a .c) (λ q. omega (arith, q, c .if1 .taken, c .before .shared-slice-known .given at))
 
-place-requires : tie.Need-place-requires
-place-requires c κs = search needs
+tested-requires : tie.Need-tested-requires
+tested-requires c κs = search needs
 
 sub-past : tie.Need-sub-past
 sub-past c = search needs
@@ -67,8 +67,8 @@ returns-2 c = λ e.
     let t = c .before .before in
     let s = t .before .before .before .before .before in
     let a = s .args in
-    part-clear 0 (a .w) (λ v. eqb v (a .c)) (a .samples .now) (a .y) (a .from) (a .end) (t .place .result) (t .place .result + (a .end - a .from))
-    (s .pre .0) (s .pre .1) (t .before .if2 .taken) (t .place .ensures) refl (c .any-u16 .ensures (not-true (c .any-u16 .result) e))
+    part-clear 0 (a .w) (λ v. eqb v (a .c)) (a .samples .now) (a .y) (a .from) (a .end) (t .tested .result) (t .tested .result + (a .end - a .from))
+    (s .pre .0) (s .pre .1) (t .before .if2 .taken) (t .tested .ensures) refl (c .any-u16 .ensures (not-true (c .any-u16 .result) e))
 
 returns-3 : tie.Need-returns-3
 returns-3 c = λ e. absurd (false≢true e)
@@ -78,7 +78,7 @@ clear-u16-spec =
     tie.close
     (tie.spec
     returns
-    place-requires
+    tested-requires
     sub-past
     add-past
     mul-any-u16
