@@ -95,9 +95,10 @@ step-at all i e = sym (List·getD-map pairOf all i stay) ∙ ap (λ (l : List (�
 pub step-one : (all : List Step) (i : ℕ) → map pairOf all ≡ steps → i < 8
     → (oneStep (getD all i stay .dx) ≡ true) × (oneStep (getD all i stay .dy) ≡ true)
 unfolding allOf
-step-one all i e h =
-    (and-first (oneStep (getD all i stay .dx)) (oneStep (getD all i stay .dy)) good,
-    and-second (oneStep (getD all i stay .dx)) (oneStep (getD all i stay .dy)) good)
+step-one all i e h = (
+  and-first (oneStep (getD all i stay .dx)) (oneStep (getD all i stay .dy)) good,
+  and-second (oneStep (getD all i stay .dx)) (oneStep (getD all i stay .dy)) good,
+)
   where
     good : single (pairOf (getD all i stay)) ≡ true
     good = ap single (step-at all i e) ∙ each single steps i (pairOf stay) (unfold oneStep in refl) h
@@ -148,8 +149,8 @@ module _ (width height period : ℕ) (bad : ℕ → Bool) (value : ℕ → ℕ �
         left =
             ap (λ (v : Float). tallyOn width height period bad value x y (drop (i + 1) steps) (grown sum n v)) g
             ∙ ap (λ (r : Neighbour). tallyOn width height period bad value x y (drop (i + 1) steps)
-                (pick r (λ xx yy. grown sum n (value xx yy)) (record { sum = sum; n = n })))
-              f
+            (pick r (λ xx yy. grown sum n (value xx yy)) (record { sum = sum; n = n })))
+            f
             ∙ sym (next all i (record { sum = sum; n = n }) e h)
             ∙ w .left;
       }
@@ -163,8 +164,8 @@ module _ (width height period : ℕ) (bad : ℕ → Bool) (value : ℕ → ℕ �
         few = omega (arith, w .few);
         left =
             ap (λ (r : Neighbour). tallyOn width height period bad value x y (drop (i + 1) steps)
-                (pick r (λ xx yy. grown sum n (value xx yy)) (record { sum = sum; n = n })))
-              f
+            (pick r (λ xx yy. grown sum n (value xx yy)) (record { sum = sum; n = n })))
+            f
             ∙ sym (next all i (record { sum = sum; n = n }) e h)
             ∙ w .left;
       }

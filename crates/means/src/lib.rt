@@ -77,7 +77,15 @@ fn sound_at(marks: &[u32], n: usize, w: Window, x: usize, y: usize) -> Neighbour
 }
 
 // The neighbour one step away, where it is sound.
-fn beside(marks: &[u32], n: usize, w: Window, period: usize, x: usize, y: usize, s: Step) -> Neighbour
+fn beside(
+    marks: &[u32],
+    n: usize,
+    w: Window,
+    period: usize,
+    x: usize,
+    y: usize,
+    s: Step,
+) -> Neighbour
     requires { ⌜ Asks (now marks) n w period x y × ((oneStep (s .dx) ≡ true) × (oneStep (s .dy) ≡ true)) ⌝ }
     ensures { λ r. ⌜ r ≡ soundOf (w .width) (w .height) period (marked (now (marks .entry)) n) x y (pairOf s) ⌝ }
 {
@@ -100,12 +108,10 @@ pub fn sum_f32(
     plane: usize,
 ) -> Sum
     requires { ⌜ Looks (length (now samples)) (now marks) n w period x y plane ⌝ }
-    ensures {
-        λ r.
+    ensures { λ r.
         ⌜ tallyOf r
-            ≡ tallyAt (w .width) (w .height) period (marked (now (marks .entry)) n)
-            (λ xx yy. sampleAt nan w (now (samples .entry)) xx yy plane) x y ⌝
-    }
+        ≡ tallyAt (w .width) (w .height) period (marked (now (marks .entry)) n)
+        (λ xx yy. sampleAt nan w (now (samples .entry)) xx yy plane) x y ⌝ }
 {
     let all = steps();
     let mut sum: f32 = 0.0;
@@ -141,12 +147,10 @@ pub fn sum_u16(
     plane: usize,
 ) -> Sum
     requires { ⌜ Looks (length (now samples)) (now marks) n w period x y plane ⌝ }
-    ensures {
-        λ r.
+    ensures { λ r.
         ⌜ tallyOf r
-            ≡ tallyAt (w .width) (w .height) period (marked (now (marks .entry)) n)
-            (λ xx yy. wholeIn binary32 (sampleAt 0 w (now (samples .entry)) xx yy plane)) x y ⌝
-    }
+        ≡ tallyAt (w .width) (w .height) period (marked (now (marks .entry)) n)
+        (λ xx yy. wholeIn binary32 (sampleAt 0 w (now (samples .entry)) xx yy plane)) x y ⌝ }
 {
     let all = steps();
     let mut sum: f32 = 0.0;

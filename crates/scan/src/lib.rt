@@ -125,9 +125,7 @@ fn block_f32(
     marks: &mut [u32],
     n: usize,
 ) -> Marked
-    requires {
-        ⌜ Part (length (now samples)) w y from end × ((from < end) × Before w (same32 w c (now samples)) (now marks) n y from) ⌝
-    }
+    requires { ⌜ Part (length (now samples)) w y from end × ((from < end) × Before w (same32 w c (now samples)) (now marks) n y from) ⌝ }
     ensures { λ r. ⌜ Gathered (y * w .width + end) (same32 w c (now (samples .entry))) (now (marks .entry)) (now (marks .exit)) r ⌝ }
 {
     if clear_f32(samples, w, c, y, from, end) {
@@ -138,9 +136,7 @@ fn block_f32(
 
 // Row y, block by block.
 fn row_f32(samples: &[f32], w: Window, c: f32, y: usize, marks: &mut [u32], n: usize) -> Marked
-    requires {
-        ⌜ Whole (length (now samples)) w × ((y < w .height) × Before w (same32 w c (now samples)) (now marks) n y 0) ⌝
-    }
+    requires { ⌜ Whole (length (now samples)) w × ((y < w .height) × Before w (same32 w c (now samples)) (now marks) n y 0) ⌝ }
     ensures { λ r. ⌜ Gathered (y * w .width + w .width) (same32 w c (now (samples .entry))) (now (marks .entry)) (now (marks .exit)) r ⌝ }
 {
     let mut held = n;
@@ -257,9 +253,7 @@ fn block_u16(
     marks: &mut [u32],
     n: usize,
 ) -> Marked
-    requires {
-        ⌜ Part (length (now samples)) w y from end × ((from < end) × Before w (same16 w c (now samples)) (now marks) n y from) ⌝
-    }
+    requires { ⌜ Part (length (now samples)) w y from end × ((from < end) × Before w (same16 w c (now samples)) (now marks) n y from) ⌝ }
     ensures { λ r. ⌜ Gathered (y * w .width + end) (same16 w c (now (samples .entry))) (now (marks .entry)) (now (marks .exit)) r ⌝ }
 {
     if clear_u16(samples, w, c, y, from, end) {
@@ -270,9 +264,7 @@ fn block_u16(
 
 // Row y, block by block.
 fn row_u16(samples: &[u16], w: Window, c: u32, y: usize, marks: &mut [u32], n: usize) -> Marked
-    requires {
-        ⌜ Whole (length (now samples)) w × ((y < w .height) × Before w (same16 w c (now samples)) (now marks) n y 0) ⌝
-    }
+    requires { ⌜ Whole (length (now samples)) w × ((y < w .height) × Before w (same16 w c (now samples)) (now marks) n y 0) ⌝ }
     ensures { λ r. ⌜ Gathered (y * w .width + w .width) (same16 w c (now (samples .entry))) (now (marks .entry)) (now (marks .exit)) r ⌝ }
 {
     let mut held = n;

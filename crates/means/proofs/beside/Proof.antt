@@ -8,24 +8,16 @@ use Rattle.means.specs.Looks.{marked, pairOf}
 use Rattle.means.proofs.Walking.{step-is}
 use Rattle.means.proofs.beside.Statement.{statement}
 use Rattle.means.proofs.beside.Tie as tie
-use Rattle.means.proofs.beside.Reads as reads
-use Rattle.means.proofs.beside.Lts as lts
-use Rattle.means.proofs.sound_at.Reads as sound-at-reads
-use Rattle.means.proofs.shifted.Reads as shifted-reads
 
--- src/lib.rt:87:9
 shifted-requires : tie.Need-shifted-requires
 shifted-requires c κs = search needs
 
--- src/lib.rt:88:9
 shifted-requires-2 : tie.Need-shifted-requires-2
 shifted-requires-2 c κs = search needs
 
--- src/lib.rt:89:5
 sound-at-requires : tie.Need-sound-at-requires
 sound-at-requires c κs = search needs
 
--- src/lib.rt:79:1
 returns : tie.Need-returns
 returns c =
     let a = c .before .before .before .before .before .before .args in

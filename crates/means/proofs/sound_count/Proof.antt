@@ -28,9 +28,10 @@ array-copy-out-s : tie.Need-array-copy-out-s Inv-loop μ-loop
 array-copy-out-s c = search needs
 
 beside-requires : tie.Need-beside-requires Inv-loop μ-loop
-beside-requires c κs =
-    (c .before .before .before .before .before .pre,
-    step-one (c .before .before .before .steps .result) (c .before .before .loop .i) (c .before .before .before .steps .ensures) (c .before .loop-test .taken))
+beside-requires c κs = (
+  c .before .before .before .before .before .pre,
+  step-one (c .before .before .before .steps .result) (c .before .before .loop .i) (c .before .before .before .steps .ensures) (c .before .loop-test .taken),
+)
 
 enum-told : tie.Need-enum-told Inv-loop μ-loop
 enum-told c = search needs

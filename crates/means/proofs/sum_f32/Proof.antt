@@ -12,11 +12,6 @@ use Rattle.means.proofs.Walking.{Walked, walk-start, walk-at, walk-miss
 use Rattle.scan.proofs.Places.{place-in}
 use Rattle.means.proofs.sum_f32.Statement.{statement}
 use Rattle.means.proofs.sum_f32.Tie as tie
-use Rattle.means.proofs.sum_f32.Reads as reads
-use Rattle.means.proofs.sum_f32.Lts as lts
-use Rattle.means.proofs.beside.Reads as beside-reads
-use Rattle.scan.proofs.place.Reads as place-reads
-use Rattle.means.proofs.steps.Reads as steps-reads
 
 abbrev Inv-loop : tie.InvT-loop
 Inv-loop samples marks n w period x y plane all sum₀ count₀ i₀ sum count i =

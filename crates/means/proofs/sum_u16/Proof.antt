@@ -13,11 +13,6 @@ use Rattle.means.proofs.Walking.{Walked, walk-start, walk-at, walk-miss
 use Rattle.scan.proofs.Places.{place-in}
 use Rattle.means.proofs.sum_u16.Statement.{statement}
 use Rattle.means.proofs.sum_u16.Tie as tie
-use Rattle.means.proofs.sum_u16.Reads as reads
-use Rattle.means.proofs.sum_u16.Lts as lts
-use Rattle.means.proofs.beside.Reads as beside-reads
-use Rattle.scan.proofs.place.Reads as place-reads
-use Rattle.means.proofs.steps.Reads as steps-reads
 
 abbrev Inv-loop : tie.InvT-loop
 Inv-loop samples marks n w period x y plane all sum₀ count₀ i₀ sum count i =
@@ -101,7 +96,7 @@ loop-again c =
     (t .before .before .before .before .steps .result) (t .before .before .before .loop .i) (t .before .before .before .loop .sum)
     (c .f32-of-u16 .result) (t .before .before .before .loop .count) (near .0 .0) (near .0 .1 .0)
     (t .before .before .before .loop .inv) (t .before .before .before .before .steps .ensures) (t .before .before .loop-test .taken)
-    (sym (near .1) ∙ t .beside .ensures) 
+    (sym (near .1) ∙ t .beside .ensures)
     (c .f32-of-u16 .ensures ∙ ap (λ (j : ℕ). wholeIn binary32 (getD (a .samples .now) j 0)) (c .before .before .place .ensures))
 
 enum-told : tie.Need-enum-told Inv-loop μ-loop

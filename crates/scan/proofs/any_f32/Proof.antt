@@ -9,8 +9,6 @@ use lib.ListN.{length, getD}
 use Rattle.scan.proofs.Scanning.{None, none-more}
 use Rattle.scan.proofs.any_f32.Statement.{statement}
 use Rattle.scan.proofs.any_f32.Tie as tie
-use Rattle.scan.proofs.any_f32.Reads as reads
-use Rattle.scan.proofs.any_f32.Lts as lts
 
 abbrev Inv-loop : tie.InvT-loop
 Inv-loop s c hit₀ i₀ hit i = (i ≤ length s) × (hit ≡ false → None (λ k. eq (getD s k nan) c) i)

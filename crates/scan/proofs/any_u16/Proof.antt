@@ -9,8 +9,6 @@ use lib.ListN.{length, getD}
 use Rattle.scan.proofs.Scanning.{None, none-more}
 use Rattle.scan.proofs.any_u16.Statement.{statement}
 use Rattle.scan.proofs.any_u16.Tie as tie
-use Rattle.scan.proofs.any_u16.Reads as reads
-use Rattle.scan.proofs.any_u16.Lts as lts
 
 abbrev Inv-loop : tie.InvT-loop
 Inv-loop s c hit₀ i₀ hit i = (i ≤ length s) × (hit ≡ false → None (λ k. eqb (getD s k 0) c) i)

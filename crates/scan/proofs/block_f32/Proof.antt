@@ -4,10 +4,6 @@ use Rattle.scan.specs.Parts.{same32}
 use Rattle.scan.proofs.Scanning.{scan-clear}
 use Rattle.scan.proofs.block_f32.Statement.{statement}
 use Rattle.scan.proofs.block_f32.Tie as tie
-use Rattle.scan.proofs.block_f32.Reads as reads
-use Rattle.scan.proofs.block_f32.Lts as lts
-use Rattle.scan.proofs.clear_f32.Reads as clear-f32-reads
-use Rattle.scan.proofs.part_f32.Reads as part-f32-reads
 
 clear-f32-requires : tie.Need-clear-f32-requires
 clear-f32-requires c κs = search needs

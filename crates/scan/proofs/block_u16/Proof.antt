@@ -4,10 +4,6 @@ use Rattle.scan.specs.Parts.{same16}
 use Rattle.scan.proofs.Scanning.{scan-clear}
 use Rattle.scan.proofs.block_u16.Statement.{statement}
 use Rattle.scan.proofs.block_u16.Tie as tie
-use Rattle.scan.proofs.block_u16.Reads as reads
-use Rattle.scan.proofs.block_u16.Lts as lts
-use Rattle.scan.proofs.clear_u16.Reads as clear-u16-reads
-use Rattle.scan.proofs.part_u16.Reads as part-u16-reads
 
 clear-u16-requires : tie.Need-clear-u16-requires
 clear-u16-requires c κs = search needs

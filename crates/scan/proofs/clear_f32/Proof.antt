@@ -10,10 +10,6 @@ use borrow.Author.Tests.{not-true}
 use Rattle.scan.proofs.Scanning.{part-in, part-clear}
 use Rattle.scan.proofs.clear_f32.Statement.{statement}
 use Rattle.scan.proofs.clear_f32.Tie as tie
-use Rattle.scan.proofs.clear_f32.Reads as reads
-use Rattle.scan.proofs.clear_f32.Lts as lts
-use Rattle.scan.proofs.any_f32.Reads as any-f32-reads
-use Rattle.scan.proofs.tested.Reads as tested-reads
 
 -- the part ends among the samples
 inside : (c : tie.After-tested)

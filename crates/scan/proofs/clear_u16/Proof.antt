@@ -12,10 +12,6 @@ use Rattle.scan.proofs.Places.{bad-at}
 use Rattle.scan.proofs.Scanning.{part-in, part-clear}
 use Rattle.scan.proofs.clear_u16.Statement.{statement}
 use Rattle.scan.proofs.clear_u16.Tie as tie
-use Rattle.scan.proofs.clear_u16.Reads as reads
-use Rattle.scan.proofs.clear_u16.Lts as lts
-use Rattle.scan.proofs.any_u16.Reads as any-u16-reads
-use Rattle.scan.proofs.tested.Reads as tested-reads
 
 -- the part ends among the samples
 inside : (c : tie.After-tested)

@@ -11,11 +11,6 @@ use Rattle.scan.proofs.Places.{place-in, bad-read}
 use Rattle.scan.proofs.Scanning.{Scanned, scan-past, scan-more, scan-full, scan-end}
 use Rattle.scan.proofs.part_f32.Statement.{statement}
 use Rattle.scan.proofs.part_f32.Tie as tie
-use Rattle.scan.proofs.part_f32.Reads as reads
-use Rattle.scan.proofs.part_f32.Lts as lts
-use Rattle.scan.proofs.tested.Reads as tested-reads
-use Rattle.scan.proofs.position.Reads as position-reads
-use Rattle.scan.proofs.keep.Reads as keep-reads
 
 abbrev Inv-loop : tie.InvT-loop
 Inv-loop samples w c y from end marks₀ n held₀ x₀ marks held x = Scanned w (same32 w c samples) y end marks₀ marks held x

@@ -9,10 +9,6 @@ use Rattle.scan.specs.Parts.{same32}
 use Rattle.scan.proofs.Scanning.{Scanned, scan-join, scan-over, scan-end, hold-base}
 use Rattle.scan.proofs.row_f32.Statement.{statement}
 use Rattle.scan.proofs.row_f32.Tie as tie
-use Rattle.scan.proofs.row_f32.Reads as reads
-use Rattle.scan.proofs.row_f32.Lts as lts
-use Rattle.scan.proofs.block_end.Reads as block-end-reads
-use Rattle.scan.proofs.block_f32.Reads as block-f32-reads
 
 abbrev Inv-loop : tie.InvT-loop
 Inv-loop samples w c y marks₀ n held₀ x₀ marks held x = Scanned w (same32 w c samples) y (w .width) marks₀ marks held x
@@ -30,9 +26,13 @@ block-f32-requires : tie.Need-block-f32-requires Inv-loop μ-loop
 block-f32-requires c κs =
     let s = c .before .before .before .before .before .before .before in
     let e = c .before .block-end .ensures in
-    let l = c .before .before .before .before .loop in
-    (record { whole = s .pre .0; row = s .pre .1 .0; order = omega (arith, e .0); edge = e .1 }, (e .0,
-    hold-base _ _ (s .args .marks .now) (l .marks) (l .marks) (l .held) (sym (l .inv .long)) (l .inv .held)))
+    let l = c .before .before .before .before .loop in (
+      record { whole = s .pre .0; row = s .pre .1 .0; order = omega (arith, e .0); edge = e .1 },
+      (
+        e .0,
+        hold-base _ _ (s .args .marks .now) (l .marks) (l .marks) (l .held) (sym (l .inv .long)) (l .inv .held),
+      ),
+    )
 
 enum-known-got : tie.Need-enum-known-got Inv-loop μ-loop
 enum-known-got c = search needs
