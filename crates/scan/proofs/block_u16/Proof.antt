@@ -1,6 +1,5 @@
 -- `scan::block_u16` meets its contract: a part that is clear leaves the scratch as it is. Assumes nothing.
 use borrow.Author.Needs.{needs}
-use Rattle.scan.specs.Parts.{same16}
 use Rattle.scan.proofs.Scanning.{scan-clear}
 use Rattle.scan.proofs.block_u16.Statement.{statement}
 use Rattle.scan.proofs.block_u16.Tie as tie
@@ -11,9 +10,7 @@ clear-u16-requires c κs = search needs
 returns : tie.Need-returns
 returns c =
     let s = c .before .before .before .before in
-    let a = s .args in
-    scan-clear (a .w) (same16 (a .w) (a .c) (a .samples .now)) (a .y) (a .from) (a .end) (a .marks .now) (a .n) (s .pre .0 .order) (s .pre .1 .1)
-    (c .before .clear-u16 .ensures (c .if1 .taken))
+    scan-clear (s .args .w) (s .args .y) (s .args .from) (s .args .end) (s .pre .0 .order) (s .pre .1 .1) (c .before .clear-u16 .ensures (c .if1 .taken))
 
 part-u16-requires : tie.Need-part-u16-requires
 part-u16-requires c κs = search needs
@@ -25,5 +22,4 @@ returns-2 : tie.Need-returns-2
 returns-2 c = search needs
 
 pub block-u16-spec : {M : Type 1} → statement M
-block-u16-spec =
-    tie.close (tie.spec clear-u16-requires returns part-u16-requires same-length returns-2)
+block-u16-spec = tie.close (tie.spec clear-u16-requires returns part-u16-requires same-length returns-2)
