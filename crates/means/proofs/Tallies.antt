@@ -75,7 +75,8 @@ sound-le : (width height period : ℕ) (bad : ℕ → Bool) (x y : ℕ) (d : ℤ
 sound-le width height period bad x y d =
     sound-any width height period bad x y d (λ (k : ℕ). k ≤ 1) (λ xx yy. 1) 0 (λ xx yy h k. omega arith) (omega arith)
 
-pub sound-few : (width height period : ℕ) (bad : ℕ → Bool) (x y : ℕ) (ds : List (ℤ × ℤ)) → soundOn width height period bad x y ds ≤ length ds
+pub sound-few : (width height period : ℕ) (bad : ℕ → Bool) (x y : ℕ) (ds : List (ℤ × ℤ))
+    → soundOn width height period bad x y ds ≤ length ds
 unfolding soundOn
 sound-few width height period bad x y [] = omega arith
 sound-few width height period bad x y (d ∷ ds) =

@@ -106,7 +106,9 @@ pub step-one : (all : List Step) (i : ℕ) → map pairOf all ≡ steps → i < 
     → (oneStep (stepOn all i .0) ≡ true) × (oneStep (stepOn all i .1) ≡ true)
 unfolding allOf
 step-one all i e h =
-    (and-first (oneStep (stepOn all i .0)) (oneStep (stepOn all i .1)) good, and-second (oneStep (stepOn all i .0)) (oneStep (stepOn all i .1)) good)
+    let x : Bool = oneStep (stepOn all i .0) in
+    let y : Bool = oneStep (stepOn all i .1) in
+    (and-first x y good, and-second x y good)
   where
     good : single (stepOn all i) ≡ true
     good = ap single (step-at all i e) ∙ each single steps i (pairOf stay) (unfold oneStep in refl) h
@@ -142,7 +144,8 @@ pub walk-start : (w : Window) (period : ℕ) (bad : ℕ → Bool) (value : ℕ �
     → Walked w period bad value x y 0 (record { sum = nought; n = 0 })
 walk-start w period bad value x y = record { within = omega arith; few = omega arith; left = refl }
 
-module _ {w : Window} {period : ℕ} {bad : ℕ → Bool} {value : ℕ → ℕ → Float} {x y i : ℕ} {t : Tally} (k : Walked w period bad value x y i t) where
+module _ {w : Window} {period : ℕ} {bad : ℕ → Bool} {value : ℕ → ℕ → Float} {x y i : ℕ} {t : Tally}
+    (k : Walked w period bad value x y i t) where
   -- one step of the tally
   next : (all : List Step) → map pairOf all ≡ steps → i < 8
       → onward w period bad value x y i t

@@ -119,7 +119,8 @@ module _ {w : Window} {m : ℕ → Bool} {y end : ℕ} {s s′ : List ℕ} {n x 
   scan-before = hold-base (t .held) s′ (sym (t .long))
 
   -- and what that part answers, of the whole row
-  pub scan-join : {s″ : List ℕ} {k e : ℕ} → e ≤ end → length s″ ≡ length s′ → Holds (y * w .width + e) m s′ s″ k → Scanned w m y end s s″ k e
+  pub scan-join : {s″ : List ℕ} {k e : ℕ} → e ≤ end → length s″ ≡ length s′ → Holds (y * w .width + e) m s′ s″ k
+      → Scanned w m y end s s″ k e
   scan-join h l g = record { within = h; long = l ∙ t .long; held = hold-base g s (t .long) }
 
   pub scan-over : (e : ℕ) → e ≤ end → length s′ < countBelow (y * w .width + e) m → length s < countBelow (y * w .width + end) m
@@ -132,7 +133,8 @@ scan-clear w y from end {m} h b c = hold-at (hold-skip (end - from) b unmarked) 
   where
     unmarked : (q : ℕ) → y * w .width + from ≤ q → q < y * w .width + from + (end - from) → m q ≡ false
     unmarked q l k =
-        subst (λ (z : ℕ). m z ≡ false) {x = y * w .width + (q - y * w .width)} (omega arith) (c (q - y * w .width) (omega arith) (omega arith))
+        let x : ℕ = q - y * w .width in
+        subst (λ (z : ℕ). m z ≡ false) {x = y * w .width + x} (omega arith) (c x (omega arith) (omega arith))
 
 -- ---- the rows
 

@@ -160,7 +160,9 @@ fn row_f32(samples: &[f32], w: Window, c: f32, y: usize, marks: &mut [u32], n: u
 // The positions whose plane 0 equals the constant, ascending, or that there are more than the scratch has entries.
 pub fn constant_marks_f32(samples: &[f32], w: Window, c: f32, marks: &mut [u32]) -> Marked
     requires { ⌜ Whole (length (now samples)) w ⌝ }
-    ensures { λ r. ⌜ Gathered (positions w) (badValue nan w (λ v. eq v c) (now (samples .entry))) (now (marks .entry)) (now (marks .exit)) r ⌝ }
+    ensures { λ r.
+        ⌜ Gathered (positions w) (badValue nan w (λ v. eq v c) (now (samples .entry)))
+        (now (marks .entry)) (now (marks .exit)) r ⌝ }
 {
     let mut held = 0;
     let mut y = 0;
@@ -288,7 +290,9 @@ fn row_u16(samples: &[u16], w: Window, c: u32, y: usize, marks: &mut [u32], n: u
 // The positions whose plane 0 equals the constant, ascending, or that there are more than the scratch has entries.
 pub fn constant_marks_u16(samples: &[u16], w: Window, c: u32, marks: &mut [u32]) -> Marked
     requires { ⌜ Whole (length (now samples)) w ⌝ }
-    ensures { λ r. ⌜ Gathered (positions w) (badValue 0 w (λ v. eqb v c) (now (samples .entry))) (now (marks .entry)) (now (marks .exit)) r ⌝ }
+    ensures { λ r.
+        ⌜ Gathered (positions w) (badValue 0 w (λ v. eqb v c) (now (samples .entry)))
+        (now (marks .entry)) (now (marks .exit)) r ⌝ }
 {
     let mut held = 0;
     let mut y = 0;

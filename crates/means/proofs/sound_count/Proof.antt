@@ -61,7 +61,8 @@ loop-less c = search needs
 loop-again : tie.Need-loop-again Inv-loop μ-loop
 loop-again c =
     let b = c .before .before in
-    count-at (turn b .before .loop .inv) (array (turn b)) (made (turn b)) (turn b .loop-test .taken) (b .beside .ensures) (c .enum-told .given .1)
+    count-at (turn b .before .loop .inv) (array (turn b)) (made (turn b)) (turn b .loop-test .taken) (b .beside .ensures)
+    (c .enum-told .given .1)
 
 enum-told-2 : tie.Need-enum-told-2 Inv-loop μ-loop
 enum-told-2 c = search needs
@@ -75,7 +76,8 @@ loop-less-2 c = search needs
 loop-again-2 : tie.Need-loop-again-2 Inv-loop μ-loop
 loop-again-2 c =
     let b = c .before .before in
-    count-missing (turn b .before .loop .inv) (array (turn b)) (made (turn b)) (turn b .loop-test .taken) (b .beside .ensures) (c .enum-told2 .given .1)
+    count-missing (turn b .before .loop .inv) (array (turn b)) (made (turn b)) (turn b .loop-test .taken) (b .beside .ensures)
+    (c .enum-told2 .given .1)
 
 returns : tie.Need-returns Inv-loop μ-loop
 returns c = count-end (c .before .loop .inv) (c .loop-test .left)

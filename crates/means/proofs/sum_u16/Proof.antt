@@ -55,14 +55,16 @@ array-copy-out-s c = search needs
 
 beside-requires : tie.Need-beside-requires Inv-loop μ-loop
 beside-requires c κs =
-    (start (c .before) .pre .asks, step-one (array (c .before)) (c .before .before .loop .i) (made (c .before)) (c .before .loop-test .taken))
+    let t = c .before in
+    (start t .pre .asks, step-one (array t) (t .before .loop .i) (made t) (t .loop-test .taken))
 
 enum-known-near : tie.Need-enum-known-near Inv-loop μ-loop
 enum-known-near c = search needs
 
 -- the neighbour that was found lies in the window, and its sample among the samples
 inside : (c : tie.After-near Inv-loop μ-loop)
-    → (c .near .given .0 .0 < start (turn (c .before .before)) .args .w .width) × (c .near .given .0 .1 .0 < start (turn (c .before .before)) .args .w .height)
+    → (c .near .given .0 .0 < start (turn (c .before .before)) .args .w .width)
+    × (c .near .given .0 .1 .0 < start (turn (c .before .before)) .args .w .height)
 inside c =
     let t = turn (c .before .before) in
     let a = start t .args in
@@ -75,11 +77,13 @@ place-requires c κs =
     let p = start (turn (c .before .before .before)) .pre in
     (record { fits = p .asks .fits; column = h .0; row = h .1 }, p .layer)
 
-there : (c : tie.After-place Inv-loop μ-loop) → c .place .result < length (start (turn (c .before .before .before .before)) .args .samples .now)
+there : (c : tie.After-place Inv-loop μ-loop)
+    → c .place .result < length (start (turn (c .before .before .before .before)) .args .samples .now)
 there c =
     let h = inside (c .before .before) in
     let s = start (turn (c .before .before .before .before)) in
-    rw (c .place .ensures) (place-in (s .args .w) _ _ (h .0) (h .1) (length (s .args .samples .now)) (s .args .plane) (s .pre .layer) (s .pre .full))
+    rw (c .place .ensures)
+    (place-in (s .args .w) _ _ (h .0) (h .1) (length (s .args .samples .now)) (s .args .plane) (s .pre .layer) (s .pre .full))
 
 mul-f32-of-u16 : tie.Need-mul-f32-of-u16 Inv-loop μ-loop
 mul-f32-of-u16 c = omega (arith, there c, start (turn (c .before .before .before .before)) .good .0 .1)
@@ -102,8 +106,10 @@ loop-less c = search needs
 loop-again : tie.Need-loop-again Inv-loop μ-loop
 loop-again c =
     let b = c .before .before .before .before .before .before in
-    walk-at (turn b .before .loop .inv) (array (turn b)) (made (turn b)) (turn b .loop-test .taken) (b .beside .ensures) (c .before .before .before .before .near .given .1)
-    (c .f32-of-u16 .ensures ∙ ap (λ (j : ℕ). wholeIn binary32 (getD (start (turn b) .args .samples .now) j 0)) (c .before .before .place .ensures))
+    walk-at (turn b .before .loop .inv) (array (turn b)) (made (turn b)) (turn b .loop-test .taken) (b .beside .ensures)
+    (c .before .before .before .before .near .given .1)
+    (c .f32-of-u16 .ensures
+    ∙ ap (λ (j : ℕ). wholeIn binary32 (getD (start (turn b) .args .samples .now) j 0)) (c .before .before .place .ensures))
 
 enum-told : tie.Need-enum-told Inv-loop μ-loop
 enum-told c = search needs
@@ -117,7 +123,8 @@ loop-less-2 c = search needs
 loop-again-2 : tie.Need-loop-again-2 Inv-loop μ-loop
 loop-again-2 c =
     let b = c .before .before in
-    walk-missing (turn b .before .loop .inv) (array (turn b)) (made (turn b)) (turn b .loop-test .taken) (b .beside .ensures) (c .enum-told .given .1)
+    walk-missing (turn b .before .loop .inv) (array (turn b)) (made (turn b)) (turn b .loop-test .taken) (b .beside .ensures)
+    (c .enum-told .given .1)
 
 returns : tie.Need-returns Inv-loop μ-loop
 returns c = walk-end (c .before .loop .inv) (c .loop-test .left)

@@ -33,8 +33,9 @@ loop-less c = search needs
 
 loop-again : tie.Need-loop-again Inv-loop μ-loop
 loop-again c =
+    let l = c .before .before .loop in
     let a = c .before .before .before .args in
-    (omega arith, none-more (λ k. eq (getD (a .s .now) k nan) (a .c)) (c .before .before .loop .i) (c .before .before .loop .hit) (c .before .before .loop .inv .1))
+    (omega arith, none-more (λ k. eq (getD (a .s .now) k nan) (a .c)) (l .i) (l .hit) (l .inv .1))
 
 returns : tie.Need-returns Inv-loop μ-loop
 returns c = λ e k h. c .before .loop .inv .1 e k (omega (arith, c .loop-test .left, c .before .loop .inv .0))

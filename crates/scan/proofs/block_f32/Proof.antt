@@ -10,7 +10,8 @@ clear-f32-requires c κs = search needs
 returns : tie.Need-returns
 returns c =
     let s = c .before .before .before .before in
-    scan-clear (s .args .w) (s .args .y) (s .args .from) (s .args .end) (s .pre .0 .order) (s .pre .1 .1) (c .before .clear-f32 .ensures (c .if1 .taken))
+    scan-clear (s .args .w) (s .args .y) (s .args .from) (s .args .end) (s .pre .0 .order) (s .pre .1 .1)
+    (c .before .clear-f32 .ensures (c .if1 .taken))
 
 part-f32-requires : tie.Need-part-f32-requires
 part-f32-requires c κs = search needs

@@ -10,7 +10,8 @@ clear-u16-requires c κs = search needs
 returns : tie.Need-returns
 returns c =
     let s = c .before .before .before .before in
-    scan-clear (s .args .w) (s .args .y) (s .args .from) (s .args .end) (s .pre .0 .order) (s .pre .1 .1) (c .before .clear-u16 .ensures (c .if1 .taken))
+    scan-clear (s .args .w) (s .args .y) (s .args .from) (s .args .end) (s .pre .0 .order) (s .pre .1 .1)
+    (c .before .clear-u16 .ensures (c .if1 .taken))
 
 part-u16-requires : tie.Need-part-u16-requires
 part-u16-requires c κs = search needs

@@ -18,8 +18,8 @@ inside : (c : tie.After-tested)
 inside c =
     let s = c .before .before .before .before in
     let a = s .args in
-    part-in nan (a .w) (λ v. eq v (a .c)) (a .samples .now) (a .y) (a .from) (a .end) (c .tested .result) (c .tested .result + (a .end - a .from))
-    (s .pre .0) (s .pre .1) (c .before .if1 .taken) (c .tested .ensures) refl
+    part-in nan (a .w) (λ v. eq v (a .c)) (a .samples .now) (a .y) (a .from) (a .end) (c .tested .result)
+    (c .tested .result + (a .end - a .from)) (s .pre .0) (s .pre .1) (c .before .if1 .taken) (c .tested .ensures) refl
 
 tested-requires : tie.Need-tested-requires
 tested-requires c κs = search needs
@@ -50,8 +50,9 @@ returns c = λ e.
     let t = c .before .before in
     let s = t .before .before .before .before in
     let a = s .args in
-    part-clear nan (a .w) (λ v. eq v (a .c)) (a .samples .now) (a .y) (a .from) (a .end) (t .tested .result) (t .tested .result + (a .end - a .from))
-    (s .pre .0) (s .pre .1) (t .before .if1 .taken) (t .tested .ensures) refl (c .any-f32 .ensures (not-true (c .any-f32 .result) e))
+    part-clear nan (a .w) (λ v. eq v (a .c)) (a .samples .now) (a .y) (a .from) (a .end) (t .tested .result)
+    (t .tested .result + (a .end - a .from)) (s .pre .0) (s .pre .1) (t .before .if1 .taken) (t .tested .ensures) refl
+    (c .any-f32 .ensures (not-true (c .any-f32 .result) e))
 
 returns-2 : tie.Need-returns-2
 returns-2 c = λ e. absurd (false≢true e)

@@ -20,8 +20,8 @@ inside : (c : tie.After-tested)
 inside c =
     let s = c .before .before .before .before .before in
     let a = s .args in
-    part-in 0 (a .w) (λ v. eqb v (a .c)) (a .samples .now) (a .y) (a .from) (a .end) (c .tested .result) (c .tested .result + (a .end - a .from))
-    (s .pre .0) (s .pre .1) (c .before .if2 .taken) (c .tested .ensures) refl
+    part-in 0 (a .w) (λ v. eqb v (a .c)) (a .samples .now) (a .y) (a .from) (a .end) (c .tested .result)
+    (c .tested .result + (a .end - a .from)) (s .pre .0) (s .pre .1) (c .before .if2 .taken) (c .tested .ensures) refl
 
 returns : tie.Need-returns
 returns c = λ e x l h.
@@ -63,8 +63,9 @@ returns-2 c = λ e.
     let t = c .before .before in
     let s = t .before .before .before .before .before in
     let a = s .args in
-    part-clear 0 (a .w) (λ v. eqb v (a .c)) (a .samples .now) (a .y) (a .from) (a .end) (t .tested .result) (t .tested .result + (a .end - a .from))
-    (s .pre .0) (s .pre .1) (t .before .if2 .taken) (t .tested .ensures) refl (c .any-u16 .ensures (not-true (c .any-u16 .result) e))
+    part-clear 0 (a .w) (λ v. eqb v (a .c)) (a .samples .now) (a .y) (a .from) (a .end) (t .tested .result)
+    (t .tested .result + (a .end - a .from)) (s .pre .0) (s .pre .1) (t .before .if2 .taken) (t .tested .ensures) refl
+    (c .any-u16 .ensures (not-true (c .any-u16 .result) e))
 
 returns-3 : tie.Need-returns-3
 returns-3 c = λ e. absurd (false≢true e)

@@ -56,7 +56,8 @@ loop-less c = omega arith
 loop-again : tie.Need-loop-again Inv-loop μ-loop
 loop-again c =
     let r = c .before .before .before .before .before in
-    rows-join (turn r .before .before .loop .inv) (turn r .if1 .taken) (r .row-u16 .kept .1 .1 .1 .1 .0) (answer r _ (c .before .got .given .1))
+    rows-join (turn r .before .before .loop .inv) (turn r .if1 .taken) (r .row-u16 .kept .1 .1 .1 .1 .0)
+    (answer r _ (c .before .got .given .1))
 
 enum-told : tie.Need-enum-told Inv-loop μ-loop
 enum-told c = search needs

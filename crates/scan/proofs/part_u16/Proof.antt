@@ -79,13 +79,14 @@ read c = c .before .before .before .before
 answer : (c : tie.After-keep Inv-loop μ-loop) (r : Bool) → c .keep .result ≡ r
     → Keeps (turn (read c) .before .loop .marks) (c .keep .last .0) (turn (read c) .before .loop .held) (c .before .position .result) r
 answer c r e =
-    subst (Keeps (turn (read c) .before .loop .marks) (c .keep .last .0) (turn (read c) .before .loop .held) (c .before .position .result)) e
-    (c .keep .ensures)
+    let l = turn (read c) .before .loop in
+    subst (Keeps (l .marks) (c .keep .last .0) (l .held) (c .before .position .result)) e (c .keep .ensures)
 
 add-held : tie.Need-add-held Inv-loop μ-loop
 add-held c =
     let k = c .before .before .before in
-    omega (arith, answer k true (c .if2 .taken) .0, turn (read k) .before .loop .inv .long, start (turn (read k)) .good .1 .1 .1 .1 .1 .1 .0 .0)
+    let t = turn (read k) in
+    omega (arith, answer k true (c .if2 .taken) .0, t .before .loop .inv .long, start t .good .1 .1 .1 .1 .1 .1 .0 .0)
 
 add-x : tie.Need-add-x Inv-loop μ-loop
 add-x c = search needs
@@ -96,7 +97,8 @@ loop-less c = omega (arith, turn (read (c .before .before .before)) .loop-test .
 loop-again : tie.Need-loop-again Inv-loop μ-loop
 loop-again c =
     let k = c .before .before .before in
-    scan-more (turn (read k) .before .loop .inv) (turn (read k) .loop-test .taken) (seen (read k) true (eq-eqb _ _ (k .before .before .before .if1 .taken)))
+    scan-more (turn (read k) .before .loop .inv) (turn (read k) .loop-test .taken)
+    (seen (read k) true (eq-eqb _ _ (k .before .before .before .if1 .taken)))
     (k .before .position .ensures) (answer k true (c .if2 .taken))
 
 same-length : tie.Need-same-length Inv-loop μ-loop
@@ -105,7 +107,8 @@ same-length c = let k = c .before .before .before in k .keep .kept .0 ∙ turn (
 returns : tie.Need-returns Inv-loop μ-loop
 returns c =
     let k = c .before .before .before in
-    scan-full (turn (read k) .before .loop .inv) (turn (read k) .loop-test .taken) (seen (read k) true (eq-eqb _ _ (k .before .before .before .if1 .taken)))
+    scan-full (turn (read k) .before .loop .inv) (turn (read k) .loop-test .taken)
+    (seen (read k) true (eq-eqb _ _ (k .before .before .before .if1 .taken)))
     (answer k false (c .if2 .left))
 
 add-x-2 : tie.Need-add-x-2 Inv-loop μ-loop

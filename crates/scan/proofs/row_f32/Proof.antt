@@ -45,9 +45,10 @@ block-end-requires c κs = search needs
 block-f32-requires : tie.Need-block-f32-requires Inv-loop μ-loop
 block-f32-requires c κs =
     let s = start (c .before .before) in
-    let e = c .before .block-end .ensures in
-    (record { whole = s .pre .0; row = s .pre .1 .0; order = omega (arith, e .0); edge = e .1 },
-    (e .0, scan-before (c .before .before .before .before .loop .inv)))
+    let e = c .before .block-end .ensures in (
+      record { whole = s .pre .0; row = s .pre .1 .0; order = omega (arith, e .0); edge = e .1 },
+      (e .0, scan-before (c .before .before .before .before .loop .inv)),
+    )
 
 enum-known-got : tie.Need-enum-known-got Inv-loop μ-loop
 enum-known-got c = search needs
