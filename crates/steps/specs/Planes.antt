@@ -1,0 +1,36 @@
+-- The walk over one plane of a row, made from the row's place, a region and its first column.
+use Prim.Native.Nat.{ℕ, _-_, _<_, min, max}
+use mathlib.Core.Path.{_≡_}
+use Rattle.select.specs.declared.Walk.{Walk}
+use Rattle.select.specs.declared.Start.{Start}
+use Rattle.dng.specs.declared.Region.{Region}
+use Rattle.steps.specs.declared.Place.{Place}
+
+-- a pitch of 0 counts as 1
+abbrev pub walkOf : Place → Region → Start → ℕ → Walk
+walkOf g r s plane =
+    record {
+      x0 = g .x0;
+      planes = g .planes;
+      left = r .left;
+      right = r .right;
+      pitch = max (r .«col_pitch») 1;
+      plane = plane;
+      col = s .col;
+      nth = s .nth;
+    }
+
+pub record WalkIs (g : Place) (r : Region) (s : Start) (plane : ℕ) (k : Walk) : Type 0 where
+  pub is : k ≡ walkOf g r s plane
+  pub left32 : k .left < 4294967296
+  pub right32 : k .right < 4294967296
+  pub pitch32 : k .pitch < 4294967296
+
+-- a walk over columns of the region r
+pub record Along (r : Region) (k : Walk) : Type 0 where
+  pub left-is : k .left ≡ r .left
+  pub pitch-is : k .pitch ≡ max (r .«col_pitch») 1
+
+-- map plane min(k, last), k counted from the region's first plane
+abbrev pub mapPlane : (plane first planes : ℕ) → ℕ
+mapPlane plane first planes = min (plane - first) (max planes 1 - 1)
