@@ -37,8 +37,8 @@ first-pitch lo pitch x0 col n f =
 
 -- ---- the walk of a plane
 
-module _ {g : Place} {r : Region} {s : Start} {plane n : ℕ} {k : Walk} (w : WalkIs g r s plane k) where
-  pub walks-of : RowFits (g .x0) (g .planes) (g .y) n → First (r .left) (r .«col_pitch») (g .x0) (s .col) (s .nth) → plane < g .planes
+module _ {g : Place} {r : Region} {s : Start} {plane : ℕ} {k : Walk} (w : WalkIs g r s plane k) where
+  pub walks-of : {n : ℕ} → RowFits (g .x0) (g .planes) (g .y) n → First (r .left) (r .«col_pitch») (g .x0) (s .col) (s .nth) → plane < g .planes
       → Walks k n
   walks-of fits f below =
       record {

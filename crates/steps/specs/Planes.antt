@@ -6,19 +6,22 @@ use Rattle.select.specs.declared.Start.{Start}
 use Rattle.dng.specs.declared.Region.{Region}
 use Rattle.steps.specs.declared.Place.{Place}
 
--- a pitch of 0 counts as 1
-abbrev pub walkOf : Place → Region → Start → ℕ → Walk
-walkOf g r s plane =
+abbrev pub walkBy : Place → Region → Start → (plane pitch : ℕ) → Walk
+walkBy g r s plane pitch =
     record {
       x0 = g .x0;
       planes = g .planes;
       left = r .left;
       right = r .right;
-      pitch = max (r .«col_pitch») 1;
+      pitch = pitch;
       plane = plane;
       col = s .col;
       nth = s .nth;
     }
+
+-- a pitch of 0 counts as 1
+abbrev pub walkOf : Place → Region → Start → (plane : ℕ) → Walk
+walkOf g r s plane = walkBy g r s plane (max (r .«col_pitch») 1)
 
 pub record WalkIs (g : Place) (r : Region) (s : Start) (plane : ℕ) (k : Walk) : Type 0 where
   pub is : k ≡ walkOf g r s plane

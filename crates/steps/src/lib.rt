@@ -4,6 +4,7 @@ ghost use mathlib.Core.Bool.{true, cond};
 ghost use lib.Dec.{eqb};
 ghost use Prim.Native.Nat.{_-_, _≤_, _<_, min, max};
 ghost use lib.ListN.{length};
+ghost use lib.Ieee.{Float};
 ghost use Rattle.points.specs.Points.{each};
 ghost use Rattle.points.specs.Select.{inRow, onColumns, First};
 ghost use Rattle.select.specs.Walks.{walked, Walks};
@@ -166,4 +167,92 @@ fn map_plane(plane: usize, first: u32, planes: u32) -> u32
 {
     let last = select::larger(planes as usize, 1) - 1;
     select::smaller(select::less(plane, first as usize), last) as u32
+}
+
+fn delta_columns(row: &mut [f32], k: Walk, r: Region, body: &[u8], n: u32, scale: f32)
+    requires { ⌜ Walks k (length (now row)) × Along r k ⌝ }
+    ensures { λ _.
+        ⌜ now (row .exit)
+        ≡ walked k (λ x p v. delta scale (nth n (now (body .entry)) nought (columnIndex r x)) v) (now (row .entry)) ⌝ }
+{
+    lines::add_columns(row, k, body, n, scale);
+}
+
+fn scale_columns(row: &mut [f32], k: Walk, r: Region, body: &[u8], n: u32)
+    requires { ⌜ Walks k (length (now row)) × Along r k ⌝ }
+    ensures { λ _.
+        ⌜ now (row .exit)
+        ≡ walked k (λ x p v. scaled (nth n (now (body .entry)) one (columnIndex r x)) v) (now (row .entry)) ⌝ }
+{
+    lines::scale_columns(row, k, body, n);
+}
+
+fn gain_plane(
+    row: &mut [f32],
+    k: Walk,
+    r: Region,
+    g: Place,
+    body: &[u8],
+    points_v: u32,
+    points_h: u32,
+    grid: Grid,
+    map_planes: u32,
+)
+    requires { ⌜ Walks k (length (now row)) × (taskFits (Task.Gain «points_v» «points_h» grid «map_planes») ≡ true) ⌝ }
+    ensures { λ _.
+        ⌜ ((scale : Float)
+        → now (row .exit)
+        ≡ walked k
+        (gained (frameAt scale (g .«full_width») (g .«full_height»)) (now (body .entry)) r «points_v» «points_h» grid «map_planes» (g .y))
+        (now (row .entry))) ⌝ }
+{
+    let m = map_plane(k.plane, r.plane, map_planes);
+    gain::gain_row(
+        row,
+        k,
+        body,
+        grid,
+        g.y,
+        g.full_height,
+        g.full_width,
+        points_v,
+        points_h,
+        map_planes,
+        m,
+    );
+}
+
+// A task on one plane of a row.
+fn one_plane(row: &mut [f32], k: Walk, r: Region, t: Task, g: Place, body: &[u8], scale: f32)
+    requires { ⌜ Walks k (length (now row)) × Along r k × (taskFits t ≡ true) ⌝ }
+    ensures { λ _.
+        ⌜ now (row .exit)
+        ≡ walked k (taskRule (frameAt scale (g .«full_width») (g .«full_height»)) r (now (body .entry)) t (g .y)) (now (row .entry)) ⌝ }
+{
+    match t {
+        Task::Table { n } => table_plane(row, k, body, n, scale),
+        Task::Polynomial { degree } => maps::polynomial_row(row, k, body, degree, scale),
+        Task::Gain { points_v, points_h, grid, map_planes } => {
+            gain_plane(row, k, r, g, body, points_v, points_h, grid, map_planes)
+        }
+        Task::DeltaRows { n } => delta_rows(row, k, r, g.y, body, n, scale),
+        Task::DeltaColumns { n } => delta_columns(row, k, r, body, n, scale),
+        Task::ScaleRows { n } => scale_rows(row, k, r, g.y, body, n),
+        Task::ScaleColumns { n } => scale_columns(row, k, r, body, n),
+    }
+}
+
+fn walk_at(g: Place, r: Region, start: Start, plane: usize) -> Walk
+    ensures { λ k. ⌜ WalkIs g r start plane k ⌝ }
+{
+    Walk {
+        x0: g.x0 as usize,
+        planes: g.planes as usize,
+        left: r.left as usize,
+        right: r.right as usize,
+        pitch: select::larger(r.col_pitch as usize, 1),
+        plane,
+        col: start.col,
+        nth: start.nth,
+    }
 }
