@@ -18,7 +18,8 @@ use Rattle.dng.specs.declared.Region.{Region}
 use Rattle.dng.specs.Select.{Rule, onRegion, onRow, wholePixel}
 use Rattle.dng.specs.Bounds.{RowFits}
 use Rattle.steps.specs.declared.Place.{Place}
-use Rattle.steps.specs.Planes.{walkOf, WalkIs, Along}
+use Rattle.steps.specs.Ready.{Leaves}
+use Rattle.steps.specs.Planes.{WalkIs, Along, regionPlanes}
 
 -- a pitch of 0 counts as 1, once and again
 pitch-twice : (pitch : ℕ) → max (max pitch 1) 1 ≡ max pitch 1
@@ -83,3 +84,71 @@ module _ {A : Type 0} where
   pub walked-none : (k : Walk) (l : List A) → walked k (λ x p v. v) l ≡ l
   unfolding walked inRow onColumns
   walked-none k l = each-none _ l (λ i v h. simp either)
+
+  -- ---- plane after plane
+
+  pub planes-begin : (g : Place) (r : Region) (f : ℕ → ℕ → A → A) (l : List A) → l ≡ regionPlanes g r (r .plane - r .plane) f l
+  unfolding regionPlanes
+  planes-begin g r f l =
+      sym
+      (ap (λ (n : ℕ). each (inRow (g .x0) (g .planes) (onColumns (r .left) (r .right) (r .«col_pitch») (r .plane) n f)) l) (omega arith)
+      ∙ planes-none (r .left) (r .right) (r .«col_pitch») (r .plane) (g .x0) (g .planes) f l)
+
+  -- a turn: row has the planes before j done, and the walk does plane j
+  pub planes-turn : {g : Place} {r : Region} {s : Start} {j : ℕ} {k : Walk} → WalkIs g r s j k → (f : ℕ → ℕ → A → A) (l row row′ : List A)
+      → r .plane ≤ j → row ≡ regionPlanes g r (j - r .plane) f l → row′ ≡ walked k f row → row′ ≡ regionPlanes g r (j + 1 - r .plane) f l
+  unfolding regionPlanes
+  planes-turn {g} {r} {s} {j} {k} w f l row row′ from done step =
+      step ∙ walked-of w f row
+      ∙ ap₂ (λ (n : ℕ) (m : List A). each (inRow (g .x0) (g .planes) (onColumns (r .left) (r .right) (r .«col_pitch») n 1 f)) m) at done
+      ∙ planes-next (r .left) (r .right) (r .«col_pitch») (r .plane) (j - r .plane) (g .x0) (g .planes) f l
+      ∙ ap (λ (n : ℕ). each (inRow (g .x0) (g .planes) (onColumns (r .left) (r .right) (r .«col_pitch») (r .plane) n f)) l) next
+    where
+      at : j ≡ r .plane + (j - r .plane)
+      at = omega arith
+
+      next : j - r .plane + 1 ≡ j + 1 - r .plane
+      next = omega arith
+
+  -- past the last plane that the region and the row have, all is done
+  pub planes-done : (g : Place) (r : Region) (f : ℕ → ℕ → A → A) (l : List A) (j end : ℕ) → 1 ≤ g .planes
+      → end ≡ min (r .plane + r .planes) (g .planes) → end ≤ j → j ≤ max (r .plane) end
+      → regionPlanes g r (j - r .plane) f l ≡ regionPlanes g r (r .planes) f l
+  unfolding regionPlanes
+  planes-done g r f l j end some e past near =
+      ap (λ (n : ℕ). each (inRow (g .x0) (g .planes) (onColumns (r .left) (r .right) (r .«col_pitch») (r .plane) n f)) l) count
+      ∙ planes-end (r .left) (r .right) (r .«col_pitch») (r .plane) (r .planes) (g .x0) (g .planes) f l some
+    where
+      count : j - r .plane ≡ min (r .plane + r .planes) (g .planes) - r .plane
+      count = omega arith
+
+  pub length-planes : (g : Place) (r : Region) (n : ℕ) (f : ℕ → ℕ → A → A) (l : List A) → length (regionPlanes g r n f l) ≡ length l
+  unfolding regionPlanes
+  length-planes g r n f l = length-each _ l
+
+  -- ---- a row that the region selects, and one that it does not
+
+  pub row-in : (g : Place) (r : Region) (f : ℕ → ℕ → ℕ → A → A) (l : List A) → selects (r .top) (r .bottom) (r .«row_pitch») (g .y) ≡ true
+      → regionPlanes g r (r .planes) (f (g .y)) l ≡ each (onRow (g .x0) (g .planes) (g .y) (length l) (onRegion r f)) l
+  unfolding regionPlanes inRow onRow onRegion
+  row-in g r f l h = each-agree _ _ l (λ i v q. ap (λ (b : Bool). cond b (at i v) v) (sym h))
+    where
+      at : ℕ → A → A
+      at i v = onColumns (r .left) (r .right) (r .«col_pitch») (r .plane) (r .planes) (f (g .y)) (g .x0 + i / g .planes) (i % g .planes) v
+
+  pub row-out : (g : Place) (r : Region) (f : ℕ → ℕ → ℕ → A → A) (l : List A) → selects (r .top) (r .bottom) (r .«row_pitch») (g .y) ≡ false
+      → l ≡ each (onRow (g .x0) (g .planes) (g .y) (length l) (onRegion r f)) l
+  unfolding onRow onRegion
+  row-out g r f l h = sym (each-none _ l (λ i v q. ap (λ (b : Bool). cond b (at i v) v) h))
+    where
+      at : ℕ → A → A
+      at i v = onColumns (r .left) (r .right) (r .«col_pitch») (r .plane) (r .planes) (f (g .y)) (g .x0 + i / g .planes) (i % g .planes) v
+
+  -- ---- rules of a row
+
+  pub row-rule : (x0 p y : ℕ) (l : List A) {f f′ : Rule A} → f ≡ f′ → each (onRow x0 p y (length l) f) l ≡ each (onRow x0 p y (length l) f′) l
+  row-rule x0 p y l e = ap (λ (h : Rule A). each (onRow x0 p y (length l) h) l) e
+
+  pub row-left : (x0 p y : ℕ) (l : List A) (f : Rule A) → Leaves f → l ≡ each (onRow x0 p y (length l) f) l
+  unfolding onRow
+  row-left x0 p y l f h = sym (each-none _ l (λ i v q. h (wholePixel p (length l) i) y (x0 + i / p) (i % p) v))

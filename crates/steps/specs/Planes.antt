@@ -1,6 +1,9 @@
 -- The walk over one plane of a row, made from the row's place, a region and its first column.
 use Prim.Native.Nat.{ℕ, _-_, _<_, min, max}
 use mathlib.Core.Path.{_≡_}
+use mathlib.Core.List.{List}
+use Rattle.points.specs.Points.{each}
+use Rattle.points.specs.Select.{inRow, onColumns}
 use Rattle.select.specs.declared.Walk.{Walk}
 use Rattle.select.specs.declared.Start.{Start}
 use Rattle.dng.specs.declared.Region.{Region}
@@ -37,3 +40,8 @@ pub record Along (r : Region) (k : Walk) : Type 0 where
 -- map plane min(k, last), k counted from the region's first plane
 abbrev pub mapPlane : (plane first planes : ℕ) → ℕ
 mapPlane plane first planes = min (plane - first) (max planes 1 - 1)
+
+-- `f` at the columns of the region and at n of its planes, from its first on
+unfoldable pub regionPlanes : {A : Type 0} → Place → Region → (n : ℕ) → (ℕ → ℕ → A → A) → List A → List A
+regionPlanes g r n f l =
+    each (inRow (g .x0) (g .planes) (onColumns (r .left) (r .right) (r .«col_pitch») (r .plane) n f)) l

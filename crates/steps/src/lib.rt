@@ -14,7 +14,7 @@ ghost use Rattle.dng.specs.Value.{ruleOf, rule16Of, rowIndex, columnIndex, mapT
 ghost use Rattle.vignette.specs.Reach.{frameAt};
 ghost use Rattle.steps.specs.Plans.{planOf, taskRule, taskFits};
 ghost use Rattle.steps.specs.Ready.{Ready};
-ghost use Rattle.steps.specs.Planes.{WalkIs, Along, mapPlane};
+ghost use Rattle.steps.specs.Planes.{WalkIs, Along, mapPlane, regionPlanes};
 use dng::Grid;
 use dng::Opcode;
 use dng::Radial;
@@ -254,5 +254,66 @@ fn walk_at(g: Place, r: Region, start: Start, plane: usize) -> Walk
         plane,
         col: start.col,
         nth: start.nth,
+    }
+}
+
+// ---- a row
+
+// The planes of a region, one after another.
+fn region_planes(row: &mut [f32], g: Place, r: Region, t: Task, start: Start, body: &[u8], scale: f32)
+    requires { ⌜
+        RowFits (g .x0) (g .planes) (g .y) (length (now row)) × First (r .left) (r .«col_pitch») (g .x0) (start .col) (start .nth)
+        × (taskFits t ≡ true)
+        ⌝ }
+    ensures { λ _.
+        ⌜ now (row .exit)
+        ≡ regionPlanes g r (r .planes)
+        (taskRule (frameAt scale (g .«full_width») (g .«full_height»)) r (now (body .entry)) t (g .y))
+        (now (row .entry)) ⌝ }
+{
+    let end = select::plane_end(r.plane, r.planes, g.planes as usize);
+    let mut p = r.plane as usize;
+    while p < end {
+        one_plane(row, walk_at(g, r, start, p), r, t, g, body, scale);
+        p += 1;
+    }
+}
+
+fn region_row(row: &mut [f32], g: Place, r: Region, t: Task, start: Start, body: &[u8], scale: f32)
+    requires { ⌜
+        RowFits (g .x0) (g .planes) (g .y) (length (now row)) × First (r .left) (r .«col_pitch») (g .x0) (start .col) (start .nth)
+        × (taskFits t ≡ true)
+        ⌝ }
+    ensures { λ _.
+        ⌜ now (row .exit)
+        ≡ each
+        (onRow (g .x0) (g .planes) (g .y) (length (now (row .entry)))
+        (onRegion r (taskRule (frameAt scale (g .«full_width») (g .«full_height»)) r (now (body .entry)) t)))
+        (now (row .entry)) ⌝ }
+{
+    if select::row_selected(r.top, r.bottom, r.row_pitch, g.y as usize) {
+        region_planes(row, g, r, t, start, body, scale);
+    }
+}
+
+// One opcode on one row. What the opcode is was worked out by `prepare`; `op` stands here for the contract alone.
+pub fn row_step(row: &mut [f32], g: Place, op: Opcode, ready: Prepared, body: &[u8], scale: f32)
+    requires { ⌜
+        RowFits (g .x0) (g .planes) (g .y) (length (now row)) × (bounded op ≡ true)
+        × Ready op (g .x0) (g .«full_width») (g .«full_height») ready
+        ⌝ }
+    ensures { λ _.
+        ⌜ now (row .exit)
+        ≡ each
+        (onRow (g .x0) (g .planes) (g .y) (length (now (row .entry)))
+        (ruleOf (frameAt scale (g .«full_width») (g .«full_height»)) op (now (body .entry))))
+        (now (row .entry)) ⌝ }
+{
+    match ready {
+        Prepared::Nothing => {}
+        Prepared::Vignette { radial, m2 } => {
+            vignette::vignette_row(row, radial, m2, g.x0, g.planes, g.y, g.full_width, g.full_height)
+        }
+        Prepared::Area { region, task, start } => region_row(row, g, region, task, start, body, scale),
     }
 }
