@@ -1,10 +1,12 @@
 -- A plan has its opcode's rule, in both forms, and its bounds: each case by computing. Assumes nothing.
 use Prim.Native.Nat.{ℕ}
-use mathlib.Core.Path.{_≡_, refl, sym, ap, _∙_}
-use mathlib.Core.Bool.{false}
+use mathlib.Core.Path.{_≡_, refl, sym, ap, subst, _∙_}
+use mathlib.Core.Bool.{true, false}
 use mathlib.Core.List.{List}
 use lib.Ieee.{Float}
+use Rattle.select.specs.declared.Start.{Start}
 use Rattle.dng.specs.declared.Radial.{Radial}
+use Rattle.dng.specs.declared.Region.{Region}
 use Rattle.dng.specs.declared.Opcode.{Opcode}
 use Rattle.dng.specs.declared.Opcode.the-variants as Op
 use Rattle.dng.specs.Select.{Rule}
@@ -12,10 +14,13 @@ use Rattle.dng.specs.Bounds.{bounded}
 use Rattle.dng.specs.Value.{Frame, ruleOf, rule16Of, usable, m2Of}
 use Rattle.vignette.specs.Reach.{frameAt}
 use Rattle.vignette.proofs.Vignetted.{vignette-unusable}
+use Rattle.steps.specs.declared.Task.{Task}
 use Rattle.steps.specs.declared.Plan.{Plan}
-use Rattle.steps.specs.declared.Plan.the-variants.{Nothing, Vignette}
-use Rattle.steps.specs.Plans.{planOf, planRule, planRule16, planFits}
-use Rattle.steps.specs.Ready.{Idle}
+use Rattle.steps.specs.declared.Plan.the-variants.{Nothing, Vignette, Area}
+use Rattle.steps.specs.Plans.{planOf, planRule, planRule16, planFits, taskFits}
+use Rattle.steps.specs.declared.Prepared.{Prepared}
+use Rattle.steps.specs.declared.Prepared.the-variants as Made
+use Rattle.steps.specs.Ready.{Idle, Reached, Begun, Ready}
 
 pub plan-rule : (fr : Frame) (op : Opcode) (b : List ℕ) → ruleOf fr op b ≡ planRule fr (planOf op) b
 plan-rule fr (Op.WarpRectilinear n cx cy) b = refl
@@ -90,3 +95,17 @@ idle-vignette op q fw fh e u =
           ∙ vignette-unusable (frameAt scale fw fh) q y x k v whole (u scale);
       rule16 = λ b whole y x k v. ap (λ (f : Rule ℕ). f whole y x k v) (rule16-of op e b);
     }
+
+pub task-fits : (op : Opcode) (r : Region) (t : Task) → planOf op ≡ Area r t → bounded op ≡ true → taskFits t ≡ true
+task-fits op r t e h = sym (ap planFits e) ∙ sym (plan-fits op) ∙ h
+
+-- a prepared opcode taken apart
+module _ (op : Opcode) (x0 fw fh : ℕ) {p : Prepared} (ready : Ready op x0 fw fh p) where
+  pub idle : p ≡ Made.Nothing → Idle op fw fh
+  idle e = subst (Ready op x0 fw fh) e ready
+
+  pub reached : {q : Radial} {m2 : Float} → p ≡ Made.Vignette q m2 → Reached op q m2 fw fh
+  reached e = subst (Ready op x0 fw fh) e ready
+
+  pub begun : {r : Region} {t : Task} {s : Start} → p ≡ Made.Area r t s → Begun op r t s x0
+  begun e = subst (Ready op x0 fw fh) e ready
