@@ -5,7 +5,8 @@ use mathlib.Core.Path.{_≡_, refl, sym, ap, ap₂, subst, _∙_}
 use mathlib.Core.Bool.{Bool, true, false, cond}
 use mathlib.Core.List.{List}
 use native.Mathlib.Omega.{arith}
-use lib.Dec.{leb, ltb}
+use borrow.Author.Tests.{eq-eqb, ne-eqb}
+use lib.Dec.{leb, ltb, eqb}
 use lib.ListN.{length}
 use Rattle.points.specs.Points.{each}
 use Rattle.points.specs.Select.{selects, inRow, onColumns, First}
@@ -81,9 +82,19 @@ module _ {A : Type 0} where
   either false v = refl
 
   -- a walk that changes nothing
-  pub walked-none : (k : Walk) (l : List A) → walked k (λ x p v. v) l ≡ l
+  walked-none : (k : Walk) (l : List A) → walked k (λ x p v. v) l ≡ l
   unfolding walked inRow onColumns
   walked-none k l = each-none _ l (λ i v h. simp either)
+
+  -- a table with entries, and an empty one
+  pub table-some : (k : Walk) (n : ℕ) (f : A → A) (l row : List A) → 0 < n → row ≡ walked k (λ x p v. f v) l
+      → row ≡ walked k (λ x p v. cond (eqb n 0) v (f v)) l
+  table-some k n f l row h e =
+      e ∙ ap (λ (b : Bool). walked k (λ x p v. cond b v (f v)) l) (sym (ne-eqb n 0 (λ z. omega arith)))
+
+  pub table-none : (k : Walk) (n : ℕ) (f : A → A) (l : List A) → n ≤ 0 → l ≡ walked k (λ x p v. cond (eqb n 0) v (f v)) l
+  table-none k n f l h =
+      sym (ap (λ (b : Bool). walked k (λ x p v. cond b v (f v)) l) (eq-eqb n 0 (omega arith)) ∙ walked-none k l)
 
   -- ---- plane after plane
 

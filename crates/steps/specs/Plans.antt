@@ -75,3 +75,12 @@ abbrev pub planFits : Plan → Bool
 planFits Nothing = true
 planFits (Vignette q) = true
 planFits (Area r t) = taskFits t
+
+abbrev pub tableSize : Task → ℕ
+tableSize (Table n) = n
+tableSize (Polynomial d) = 0
+tableSize (Gain pv ph g mp) = 0
+tableSize (DeltaRows n) = 0
+tableSize (DeltaColumns n) = 0
+tableSize (ScaleRows n) = 0
+tableSize (ScaleColumns n) = 0

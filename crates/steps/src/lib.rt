@@ -10,9 +10,9 @@ ghost use Rattle.points.specs.Select.{inRow, onColumns, First};
 ghost use Rattle.select.specs.Walks.{walked, Walks};
 ghost use Rattle.dng.specs.Select.{onRow, onRegion};
 ghost use Rattle.dng.specs.Bounds.{bounded, RowFits};
-ghost use Rattle.dng.specs.Value.{ruleOf, rule16Of, rowIndex, columnIndex, mapTable, mapPolynomial, nought, one, nth, delta, scaled, gained};
+ghost use Rattle.dng.specs.Value.{ruleOf, rule16Of, rowIndex, columnIndex, mapTable, mapTable16, nought, one, nth, delta, scaled, gained};
 ghost use Rattle.vignette.specs.Reach.{frameAt};
-ghost use Rattle.steps.specs.Plans.{planOf, taskRule, taskFits};
+ghost use Rattle.steps.specs.Plans.{planOf, taskRule, taskFits, tableSize};
 ghost use Rattle.steps.specs.Ready.{Ready};
 ghost use Rattle.steps.specs.Planes.{WalkIs, Along, mapPlane, regionPlanes};
 use dng::Grid;
@@ -315,5 +315,80 @@ pub fn row_step(row: &mut [f32], g: Place, op: Opcode, ready: Prepared, body: &[
             vignette::vignette_row(row, radial, m2, g.x0, g.planes, g.y, g.full_width, g.full_height)
         }
         Prepared::Area { region, task, start } => region_row(row, g, region, task, start, body, scale),
+    }
+}
+
+// ---- a row of whole numbers: tables alone
+
+// How many entries a task's table has. What is no table has none, and an empty table changes nothing.
+fn table_size(t: Task) -> u32
+    ensures { λ r. ⌜ r ≡ tableSize t ⌝ }
+{
+    match t {
+        Task::Table { n } => n,
+        Task::Polynomial { .. } => 0,
+        Task::Gain { .. } => 0,
+        Task::DeltaRows { .. } => 0,
+        Task::DeltaColumns { .. } => 0,
+        Task::ScaleRows { .. } => 0,
+        Task::ScaleColumns { .. } => 0,
+    }
+}
+
+fn table_plane16(row: &mut [u16], k: Walk, body: &[u8], n: u32)
+    requires { ⌜ Walks k (length (now row)) ⌝ }
+    ensures { λ _.
+        ⌜ now (row .exit) ≡ walked k (λ x p v. cond (eqb n 0) v (mapTable16 n (now (body .entry)) v)) (now (row .entry)) ⌝ }
+{
+    if 0 < n {
+        maps::table_row16(row, k, body, n);
+    }
+}
+
+fn region_planes16(row: &mut [u16], g: Place, r: Region, n: u32, start: Start, body: &[u8])
+    requires { ⌜
+        RowFits (g .x0) (g .planes) (g .y) (length (now row)) × First (r .left) (r .«col_pitch») (g .x0) (start .col) (start .nth)
+        ⌝ }
+    ensures { λ _.
+        ⌜ now (row .exit)
+        ≡ regionPlanes g r (r .planes) (λ x k v. cond (eqb n 0) v (mapTable16 n (now (body .entry)) v)) (now (row .entry)) ⌝ }
+{
+    let end = select::plane_end(r.plane, r.planes, g.planes as usize);
+    let mut p = r.plane as usize;
+    while p < end {
+        table_plane16(row, walk_at(g, r, start, p), body, n);
+        p += 1;
+    }
+}
+
+fn region_row16(row: &mut [u16], g: Place, r: Region, n: u32, start: Start, body: &[u8])
+    requires { ⌜
+        RowFits (g .x0) (g .planes) (g .y) (length (now row)) × First (r .left) (r .«col_pitch») (g .x0) (start .col) (start .nth)
+        ⌝ }
+    ensures { λ _.
+        ⌜ now (row .exit)
+        ≡ each
+        (onRow (g .x0) (g .planes) (g .y) (length (now (row .entry)))
+        (onRegion r (λ y x k v. cond (eqb n 0) v (mapTable16 n (now (body .entry)) v))))
+        (now (row .entry)) ⌝ }
+{
+    if select::row_selected(r.top, r.bottom, r.row_pitch, g.y as usize) {
+        region_planes16(row, g, r, n, start, body);
+    }
+}
+
+// One opcode on one row of whole numbers; `op` stands here for the contract alone.
+pub fn row_step16(row: &mut [u16], g: Place, op: Opcode, ready: Prepared, body: &[u8])
+    requires { ⌜
+        RowFits (g .x0) (g .planes) (g .y) (length (now row)) × Ready op (g .x0) (g .«full_width») (g .«full_height») ready
+        ⌝ }
+    ensures { λ _.
+        ⌜ now (row .exit)
+        ≡ each (onRow (g .x0) (g .planes) (g .y) (length (now (row .entry))) (rule16Of op (now (body .entry)))) (now (row .entry)) ⌝ }
+{
+    match ready {
+        Prepared::Nothing => {}
+        Prepared::Vignette { .. } => {}
+        Prepared::Area { region, task, start } => region_row16(row, g, region, table_size(task), start, body),
     }
 }

@@ -3,7 +3,6 @@ use Prim.Native.Nat.{ℕ, _-_, _≤_, max}
 use mathlib.Core.Path.{_≡_, refl, sym, ap, subst, _∙_}
 use native.Mathlib.Omega.{arith}
 use borrow.Author.Needs.{needs}
-use lib.Ieee.{Float}
 use lib.ListN.{length}
 use Rattle.dng.specs.Bounds.{RowFits}
 use Rattle.vignette.specs.Reach.{frameAt}
