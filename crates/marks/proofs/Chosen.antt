@@ -37,7 +37,8 @@ unfolding countBelow
 count-lt zero f g p k a b h = absurd (not-suc-le-zero k)
 count-lt (suc n) f g p k a b h =
     equal-or p n
-    (λ e. rw (subst (λ (q : ℕ). f q ≡ false) e a, subst (λ (q : ℕ). g q ≡ true) e b) (omega (arith, count-le n f g (λ q k. h q (omega arith)))))
+    (λ e. rw (subst (λ (q : ℕ). f q ≡ false) e a, subst (λ (q : ℕ). g q ≡ true) e b)
+    (omega (arith, count-le n f g (λ q k. h q (omega arith)))))
     (λ d.
     let r : countBelow n f < countBelow n g = count-lt n f g p (omega arith) a b (λ q k. h q (omega arith)) in
     by-cases (f n) (λ e. rw (e, h n (omega arith) e) (omega arith)) (λ e. rw e (omega arith)))
@@ -53,7 +54,8 @@ pub chosen-rises : (m : ℕ → Bool) (a n : ℕ) → Rises a (chosen m a n)
 unfolding chosen Rises
 chosen-rises m a zero = tt
 chosen-rises m a (suc n) =
-    by-cases (m a) (λ e. rw e (omega arith, chosen-rises m (suc a) n)) (λ e. rw e (rises-less (suc a) a (chosen m (suc a) n) (omega arith) (chosen-rises m (suc a) n)))
+    by-cases (m a) (λ e. rw e (omega arith, chosen-rises m (suc a) n))
+    (λ e. rw e (rises-less (suc a) a (chosen m (suc a) n) (omega arith) (chosen-rises m (suc a) n)))
 
 -- what stands there is marked, and below the end
 pub chosen-in : (m : ℕ → Bool) (a n q : ℕ) → 1 ≤ occ (chosen m a n) q → (q < a + n) × (m q ≡ true)
@@ -79,7 +81,8 @@ chosen-all m a (suc n) q h k t =
 pub chosen-has : (m : ℕ → Bool) (top q : ℕ) → q < top → has (chosen m 0 top) q ≡ m q
 chosen-has m top q h =
     by-cases (m q) (λ e. some-has (chosen m 0 top) q (chosen-all m 0 top q (omega arith) (omega arith) e) ∙ sym e)
-    (λ e. none-has (chosen m 0 top) q (below-or 0 (occ (chosen m 0 top) q) (λ k. both (chosen-in m 0 top q k .1) e) (λ k. omega arith)) ∙ sym e)
+    (λ e. none-has (chosen m 0 top) q (below-or 0 (occ (chosen m 0 top) q) (λ k. both (chosen-in m 0 top q k .1) e)
+    (λ k. omega arith)) ∙ sym e)
 
 -- the last number looked at stands last
 chosen-end : (m : ℕ → Bool) (a n : ℕ) → chosen m a (suc n) ≡ chosen m a n ++ cond (m (a + n)) ((a + n) ∷ []) []
@@ -161,13 +164,16 @@ too-many top l p r f h e =
     (count-lt top (has l) (λ q. has l q || eqb q p) p h e (rw (e, eq-eqb p p refl) refl) (λ q k t. rw t refl))
 
 -- what stands at a place is marked
-pub chosen-at : (m : ℕ → Bool) (a n i : ℕ) → i < length (chosen m a n) → (getD (chosen m a n) i 0 < a + n) × (m (getD (chosen m a n) i 0) ≡ true)
+pub chosen-at : (m : ℕ → Bool) (a n i : ℕ) → i < length (chosen m a n)
+    → (getD (chosen m a n) i 0 < a + n) × (m (getD (chosen m a n) i 0) ≡ true)
 chosen-at m a n i h = chosen-in m a n (getD (chosen m a n) i 0) (occ-at (chosen m a n) i h)
 
 -- what `find` answers of a front that holds the marks
-pub found : (m : ℕ → Bool) (top : ℕ) (s : List ℕ) (n q : ℕ) (r : Bool) → n ≤ length s → take n s ≡ chosen m 0 top → q < top → Finds s n q r → r ≡ m q
+pub found : (m : ℕ → Bool) (top : ℕ) (s : List ℕ) (n q : ℕ) (r : Bool) → n ≤ length s → take n s ≡ chosen m 0 top → q < top → Finds s n q r
+    → r ≡ m q
 found m top s n q r h e l f =
     f h (rw e (chosen-rises m 0 top)) ∙ ap (λ (x : List ℕ). has x q) e ∙ chosen-has m top q l
 
-pub found-held : (m : ℕ → Bool) (top : ℕ) (s s′ : List ℕ) (n q : ℕ) (r : Bool) → Holds top m s s′ n → length s′ ≡ length s → q < top → Finds s′ n q r → r ≡ m q
+pub found-held : (m : ℕ → Bool) (top : ℕ) (s s′ : List ℕ) (n q : ℕ) (r : Bool) → Holds top m s s′ n → length s′ ≡ length s → q < top
+    → Finds s′ n q r → r ≡ m q
 found-held m top s s′ n q r h e l f = found m top s′ n q r (omega (arith, h .fits)) (h .front) l f

@@ -23,11 +23,18 @@ use Rattle.sorts.proofs.Searching.{past-above}
 pub packed-all : (top : ℕ) (s : List ℕ) (n t : ℕ) → Front top s n t → n ≡ t → Packed top s t s n
 packed-all top s n t f e =
     record {
-      front = record { order = omega arith; fits = omega (arith, f .fits); rises = f .rises; below = λ q h. f .below q (subst (λ (k : ℕ). has (take k s) q ≡ true) e h) };
+      front = record {
+        order = omega arith;
+        fits = omega (arith, f .fits);
+        rises = f .rises;
+        below = λ q h. f .below q
+            (subst (λ (k : ℕ). has (take k s) q ≡ true) e h);
+      };
       same = λ q. ap (λ (k : ℕ). has (take k s) q) e;
     }
 
-pub packed : (top : ℕ) (s : List ℕ) (n t : ℕ) (z d : List ℕ) (k : ℕ) → Front top s n t → Distinct (take t s) z k → length z ≡ length (take t s)
+pub packed : (top : ℕ) (s : List ℕ) (n t : ℕ) (z d : List ℕ) (k : ℕ) → Front top s n t → Distinct (take t s) z k
+    → length z ≡ length (take t s)
     → Packed top s t (z ++ d) k
 packed top s n t z d k f v e =
     record {
@@ -60,7 +67,8 @@ place-there top s n t p f e =
     record {
       front = f;
       same = λ q h. equal-or q p
-          (λ d. let i : has (take t s) q ≡ true = has-more s n t q (f .order) (subst (λ (y : ℕ). has (take n s) y ≡ true) (sym d) e) in rw i refl)
+          (λ d. let i : has (take t s) q ≡ true = has-more s n t q (f .order)
+          (subst (λ (y : ℕ). has (take n s) y ≡ true) (sym d) e) in rw i refl)
           (λ d. rw (ne-eqb q p d, or-false) refl);
     }
 
@@ -98,7 +106,8 @@ module _ (top : ℕ) (s : List ℕ) (n t p : ℕ) (f : Front top s n t) (more : 
             record {
               order = omega arith;
               fits = omega (arith, length-set s t p);
-              rises = subst (λ (k : ℕ). Rises 0 (take (k + 1) (set s t p))) (sym e) (rw placed (rises-more 0 (take t s) p rises (omega arith) above));
+              rises = subst (λ (k : ℕ). Rises 0 (take (k + 1) (set s t p))) (sym e)
+                  (rw placed (rises-more 0 (take t s) p rises (omega arith) above));
               below = placed-below;
             };
         same = λ q h. placed-has q;
@@ -116,8 +125,10 @@ module _ (top : ℕ) (s : List ℕ) (n t p : ℕ) (f : Front top s n t) (more : 
   place-grown k e =
       by-cases (leb t n && pastAll (take n s) p)
       (λ b. subst (λ (y : ℕ). Gains top (λ q. eqb q p) s t (set s t p) y (t + 1)) (sym (e ∙ ap (λ (z : Bool). cond z (n + 1) n) b))
-      (by-cases (leb t n) (λ d. place-front (omega (arith, f .order, leb-true t n d)) (rw d at b)) (λ d. both {b = false} (rw d at b) refl)))
-      (λ b. subst (λ (y : ℕ). Gains top (λ q. eqb q p) s t (set s t p) y (t + 1)) (sym (e ∙ ap (λ (z : Bool). cond z (n + 1) n) b)) place-behind)
+      (by-cases (leb t n) (λ d. place-front (omega (arith, f .order, leb-true t n d)) (rw d at b))
+      (λ d. both {b = false} (rw d at b) refl)))
+      (λ b. subst (λ (y : ℕ). Gains top (λ q. eqb q p) s t (set s t p) y (t + 1))
+      (sym (e ∙ ap (λ (z : Bool). cond z (n + 1) n) b)) place-behind)
 
 -- no room, and all that is held ascends
 pub place-full : (top : ℕ) (s : List ℕ) (n t p : ℕ) → Front top s n t → n ≡ t → length s ≤ t → p < top → has (take n s) p ≡ false
@@ -125,5 +136,6 @@ pub place-full : (top : ℕ) (s : List ℕ) (n t p : ℕ) → Front top s n t �
 place-full top s n t p f e h l a =
     let long : length (take t s) ≡ t = length-take-le t s (f .fits) in
     let z : length (take t s) < countBelow top (λ q. has (take t s) q || eqb q p) =
-    too-many top (take t s) p (subst (λ (k : ℕ). Rises 0 (take k s)) e (f .rises)) (f .below) l (subst (λ (k : ℕ). has (take k s) p ≡ false) e a) in
+    too-many top (take t s) p (subst (λ (k : ℕ). Rises 0 (take k s)) e (f .rises)) (f .below) l
+    (subst (λ (k : ℕ). has (take k s) p ≡ false) e a) in
     omega arith

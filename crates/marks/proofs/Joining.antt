@@ -47,7 +47,8 @@ and-of x y e d = rw (e, d) refl
 -- ---- steps
 
 -- nothing new
-pub gains-held : (top : ℕ) (m : ℕ → Bool) (s : List ℕ) (n t : ℕ) → Front top s n t → ((q : ℕ) → q < top → m q ≡ true → has (take t s) q ≡ true)
+pub gains-held : (top : ℕ) (m : ℕ → Bool) (s : List ℕ) (n t : ℕ) → Front top s n t
+    → ((q : ℕ) → q < top → m q ≡ true → has (take t s) q ≡ true)
     → Gains top m s t s n t
 gains-held top m s n t f h =
     record { front = f; same = λ q l. iff-eq _ _ (or-left _ _) (λ e. or-cases (has (take t s) q) (m q) e (λ d. d) (h q l)) }
@@ -56,7 +57,8 @@ pub gains-packed : (top : ℕ) (s : List ℕ) (t : ℕ) (s₁ : List ℕ) (k : �
 gains-packed top s t s₁ k v = record { front = v .front; same = λ q l. v .same q ∙ sym (or-false (has (take t s) q)) }
 
 -- what a step leaves that found room
-pub held-front : (top : ℕ) (m : ℕ → Bool) (s : List ℕ) (t₀ : ℕ) (s₁ : List ℕ) (r : Kept) (n t : ℕ) → r ≡ K.Held n t → Joined top m s t₀ s₁ r → Gains top m s t₀ s₁ n t
+pub held-front : (top : ℕ) (m : ℕ → Bool) (s : List ℕ) (t₀ : ℕ) (s₁ : List ℕ) (r : Kept) (n t : ℕ) → r ≡ K.Held n t
+    → Joined top m s t₀ s₁ r → Gains top m s t₀ s₁ n t
 held-front top m s t₀ s₁ r n t e j = subst (λ (x : Kept). Joined top m s t₀ s₁ x) e j
 
 -- one step after another
@@ -72,7 +74,8 @@ joined-next top m₁ m₂ m s t s₁ n₁ t₁ s₂ (K.Held n₂ t₂) g e h j =
 joined-next top m₁ m₂ m s t s₁ n₁ t₁ s₂ K.Full g e h j =
     let same : countBelow top (λ q. has (take t₁ s₁) q || m₂ q) ≡ countBelow top (λ q. has (take t s) q || m q) =
     count-same top (λ q. has (take t₁ s₁) q || m₂ q) (λ q. has (take t s) q || m q)
-    (λ q l. ap (λ (b : Bool). b || m₂ q) (g .same q l) ∙ or-assoc (has (take t s) q) (m₁ q) (m₂ q) ∙ ap (λ (b : Bool). has (take t s) q || b) (sym (h q l))) in
+    (λ q l. ap (λ (b : Bool). b || m₂ q) (g .same q l) ∙ or-assoc (has (take t s) q) (m₁ q) (m₂ q) ∙ ap
+    (λ (b : Bool). has (take t s) q || b) (sym (h q l))) in
     omega arith
 
 -- the same marks by another name
@@ -82,11 +85,13 @@ joined-as top m m′ s t s′ (K.Held n′ t′) h j =
     record { front = j .front; same = λ q l. j .same q l ∙ ap (λ (b : Bool). has (take t s) q || b) (h q l) }
 joined-as top m m′ s t s′ K.Full h j =
     let same : countBelow top (λ q. has (take t s) q || m q) ≡ countBelow top (λ q. has (take t s) q || m′ q) =
-    count-same top (λ q. has (take t s) q || m q) (λ q. has (take t s) q || m′ q) (λ q l. ap (λ (b : Bool). has (take t s) q || b) (h q l)) in
+    count-same top (λ q. has (take t s) q || m q) (λ q. has (take t s) q || m′ q)
+    (λ q l. ap (λ (b : Bool). has (take t s) q || b) (h q l)) in
     omega arith
 
 -- more marks than a step that found no room
-pub joined-over : (top : ℕ) (m₁ m₂ m : ℕ → Bool) (s : List ℕ) (t : ℕ) (s₁ : List ℕ) (n₁ t₁ : ℕ) → Gains top m₁ s t s₁ n₁ t₁ → length s₁ ≡ length s
+pub joined-over : (top : ℕ) (m₁ m₂ m : ℕ → Bool) (s : List ℕ) (t : ℕ) (s₁ : List ℕ) (n₁ t₁ : ℕ) → Gains top m₁ s t s₁ n₁ t₁
+    → length s₁ ≡ length s
     → ((q : ℕ) → q < top → (m₁ q || m₂ q) ≡ true → m q ≡ true) → length s₁ < countBelow top (λ q. has (take t₁ s₁) q || m₂ q)
     → length s < countBelow top (λ q. has (take t s) q || m q)
 joined-over top m₁ m₂ m s t s₁ n₁ t₁ g e h j =
@@ -112,7 +117,8 @@ pub span-more : (a p q : ℕ) → a ≤ p → span a (p + 1) q ≡ (span a p q |
 span-more a p q h =
     iff-eq _ _
     (λ e. let w = span-is a (p + 1) q e in
-    equal-or q p (λ d. or-right (span a p q) (eqb q p) (eq-eqb q p d)) (λ d. or-left (span a p q) (eqb q p) (span-of a p q (w .0) (omega (arith, w .1)))))
+    equal-or q p (λ d. or-right (span a p q) (eqb q p) (eq-eqb q p d))
+    (λ d. or-left (span a p q) (eqb q p) (span-of a p q (w .0) (omega (arith, w .1)))))
     (λ e. or-cases (span a p q) (eqb q p) e (λ d. let w = span-is a p q d in span-of a (p + 1) q (w .0) (omega (arith, w .1)))
     (λ d. let z = eqb-true q p d in span-of a (p + 1) q (omega arith) (omega arith)))
 
@@ -120,7 +126,8 @@ pub span-none : (a q : ℕ) → span a a q ≡ true → ⊥
 span-none a q e = let w = span-is a a q e in omega (arith, w .0, w .1)
 
 -- the front has as many numbers between a and b as there are
-pub covered : (l : List ℕ) (a b i j : ℕ) → Cut l a i → Cut l b j → Rises 0 l → a < b → i + (b - a) ≡ j → (q : ℕ) → a ≤ q → q < b → has l q ≡ true
+pub covered : (l : List ℕ) (a b i j : ℕ) → Cut l a i → Cut l b j → Rises 0 l → a < b → i + (b - a) ≡ j → (q : ℕ) → a ≤ q → q < b
+    → has l q ≡ true
 covered l a b i j u v r h e q lo hi =
     some-has l q
     (let o : 1 ≤ occ part q = has-true part q (chosen-full (has part) a (b - a) q (sym (ap length is) ∙ long) lo (omega arith)) in
@@ -175,15 +182,18 @@ pub record Steps (top : ℕ) (f : ℕ → ℕ → Bool) (s₀ : List ℕ) (t₀ 
   pub gains : Gains top (f i) s₀ t₀ s k u
   pub long : length s ≡ length s₀
 
-pub steps-start : (top : ℕ) (f : ℕ → ℕ → Bool) (s : List ℕ) (n t i : ℕ) → Front top s n t → ((q : ℕ) → f i q ≡ true → ⊥) → Steps top f s t s n t i
+pub steps-start : (top : ℕ) (f : ℕ → ℕ → Bool) (s : List ℕ) (n t i : ℕ) → Front top s n t → ((q : ℕ) → f i q ≡ true → ⊥)
+    → Steps top f s t s n t i
 steps-start top f s n t i h none = record { gains = gains-held top (f i) s n t h (λ q l e. absurd (none q e)); long = refl }
 
-module _ (top : ℕ) (f : ℕ → ℕ → Bool) (s₀ : List ℕ) (t₀ : ℕ) (s : List ℕ) (k u i : ℕ) (v : Steps top f s₀ t₀ s k u i) (g : ℕ → Bool) (s′ : List ℕ) where
+module _ (top : ℕ) (f : ℕ → ℕ → Bool) (s₀ : List ℕ) (t₀ : ℕ) (s : List ℕ) (k u i : ℕ) (v : Steps top f s₀ t₀ s k u i) (g : ℕ → Bool)
+    (s′ : List ℕ) where
   pub steps-next : (r : Kept) (k′ u′ : ℕ) → r ≡ K.Held k′ u′ → Joined top g s u s′ r → length s′ ≡ length s
       → ((q : ℕ) → q < top → f (i + 1) q ≡ (f i q || g q)) → Steps top f s₀ t₀ s′ k′ u′ (i + 1)
   steps-next r k′ u′ e j l h =
       record {
-        gains = joined-next top (f i) g (f (i + 1)) s₀ t₀ s k u s′ (K.Held k′ u′) (v .gains) (v .long) h (subst (λ (x : Kept). Joined top g s u s′ x) e j);
+        gains = joined-next top (f i) g (f (i + 1)) s₀ t₀ s k u s′ (K.Held k′ u′) (v .gains) (v .long) h
+            (subst (λ (x : Kept). Joined top g s u s′ x) e j);
         long = l ∙ v .long;
       }
 
@@ -216,6 +226,7 @@ stands-there s n h p m k e =
     some-has (take n s) p
     (subst (λ (y : ℕ). 1 ≤ occ (take n s) y) (getD-take n s h 0 k ∙ e) (occ-at (take n s) h (omega (arith, length-take-le n s m))))
 
-pub run-covered : (top a b : ℕ) (s : List ℕ) (n t : ℕ) → Front top s n t → ((q : ℕ) → a ≤ q → q < b → has (take n s) q ≡ true) → Gains top (span a b) s t s n t
+pub run-covered : (top a b : ℕ) (s : List ℕ) (n t : ℕ) → Front top s n t → ((q : ℕ) → a ≤ q → q < b → has (take n s) q ≡ true)
+    → Gains top (span a b) s t s n t
 run-covered top a b s n t f h =
     gains-held top (span a b) s n t f (λ q l e. let w = span-is a b q e in has-more s n t q (f .order) (h q (w .0) (w .1)))

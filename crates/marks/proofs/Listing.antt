@@ -26,11 +26,13 @@ use Rattle.marks.proofs.Joining.{iff-eq, or-cases, or-left, or-right, a
 
 -- ---- rows
 
-pub block-of : (width r0 c0 r1 c1 q : ℕ) → (r0 ≤ q / width) → (q / width < r1) → (c0 ≤ q % width) → (q % width < c1) → block width r0 c0 r1 c1 q ≡ true
+pub block-of : (width r0 c0 r1 c1 q : ℕ) → (r0 ≤ q / width) → (q / width < r1) → (c0 ≤ q % width) → (q % width < c1)
+    → block width r0 c0 r1 c1 q ≡ true
 unfolding block
 block-of width r0 c0 r1 c1 q a b d e = and-of _ _ (span-of r0 r1 (q / width) a b) (span-of c0 c1 (q % width) d e)
 
-pub block-is : (width r0 c0 r1 c1 q : ℕ) → block width r0 c0 r1 c1 q ≡ true → (r0 ≤ q / width) × (q / width < r1) × (c0 ≤ q % width) × (q % width < c1)
+pub block-is : (width r0 c0 r1 c1 q : ℕ) → block width r0 c0 r1 c1 q ≡ true
+    → (r0 ≤ q / width) × (q / width < r1) × (c0 ≤ q % width) × (q % width < c1)
 unfolding block
 block-is width r0 c0 r1 c1 q e =
     let w = and-both (span r0 r1 (q / width)) (span c0 c1 (q % width)) e in
@@ -69,9 +71,11 @@ block-more width r0 c0 c1 y q h k =
     block-of width r0 c0 (y + 1) c1 q (omega (arith, i .0)) (omega (arith, i .0)) (omega (arith, i .1, w .0)) (omega (arith, i .1, w .1))))
 
 pub block-low : (width r0 c0 r1 c1 y q : ℕ) → y ≤ r1 → block width r0 c0 y c1 q ≡ true → block width r0 c0 r1 c1 q ≡ true
-block-low width r0 c0 r1 c1 y q h e = let w = block-is width r0 c0 y c1 q e in block-of width r0 c0 r1 c1 q (w .0) (omega (arith, w .1)) (w .2) (w .3)
+block-low width r0 c0 r1 c1 y q h e = let w = block-is width r0 c0 y c1 q e in block-of width r0 c0 r1 c1 q (w .0) (omega (arith, w .1))
+    (w .2) (w .3)
 
-pub block-row : (width r0 c0 r1 c1 y q : ℕ) → r0 ≤ y → y < r1 → c1 ≤ width → span (y * width + c0) (y * width + c1) q ≡ true → block width r0 c0 r1 c1 q ≡ true
+pub block-row : (width r0 c0 r1 c1 y q : ℕ) → r0 ≤ y → y < r1 → c1 ≤ width → span (y * width + c0) (y * width + c1) q ≡ true
+    → block width r0 c0 r1 c1 q ≡ true
 block-row width r0 c0 r1 c1 y q h l k e =
     block-low width r0 c0 r1 c1 (y + 1) q (omega arith) (block-more width r0 c0 c1 y q h k ∙ or-right (block width r0 c0 y c1 q) _ e)
 
@@ -91,10 +95,12 @@ block-rows width r0 r1 q h =
     let lo = le-div-iff-mul-le {k = width} {x = r0} {y = q} h in
     let hi = div-lt-iff-lt-mul {k = width} {x = q} {y = r1} h in
     iff-eq _ _
-    (λ e. let w = span-is (r0 * width) (r1 * width) q e in block-of width r0 0 r1 width q (lo .1 (w .0)) (hi .1 (w .1)) (omega arith) (mod-lt q h))
+    (λ e. let w = span-is (r0 * width) (r1 * width) q e in block-of width r0 0 r1 width q (lo .1 (w .0)) (hi .1 (w .1)) (omega arith)
+    (mod-lt q h))
     (λ e. let w = block-is width r0 0 r1 width q e in span-of (r0 * width) (r1 * width) q (lo .0 (w .0)) (hi .0 (w .1)))
 
-pub patch-rows : (width r0 c0 r1 c1 top q : ℕ) → Inside width c0 r1 c1 top → c1 - c0 ≡ width → span (r0 * width) (r1 * width) q ≡ block width r0 c0 r1 c1 q
+pub patch-rows : (width r0 c0 r1 c1 top q : ℕ) → Inside width c0 r1 c1 top → c1 - c0 ≡ width
+    → span (r0 * width) (r1 * width) q ≡ block width r0 c0 r1 c1 q
 patch-rows width r0 c0 r1 c1 top q i e =
     let z : c0 ≡ 0 = omega (arith, i .wide, i .order, i .columns) in
     let w : c1 ≡ width = omega (arith, i .wide, i .order, i .columns) in
@@ -114,7 +120,8 @@ pub cut-window : (w : Window) (r0 c0 r1 c1 q : ℕ) → 1 ≤ w .width → q < p
     → block (w .width) (r0 - w .y0) (c0 - w .x0) (min (r1 - w .y0) (w .height)) (min (c1 - w .x0) (w .width)) q ≡ inImage w r0 c0 r1 c1 q
 unfolding block inImage
 cut-window w r0 c0 r1 c1 q h l =
-    let y : q / w .width < w .height = div-lt-iff-lt-mul {k = w .width} {x = q} {y = w .height} h .1 (rw (mul-comm (w .height) (w .width)) l) in
+    let y : q / w .width < w .height = div-lt-iff-lt-mul {k = w .width} {x = q} {y = w .height} h .1
+    (rw (mul-comm (w .height) (w .width)) l) in
     let x : q % w .width < w .width = mod-lt q h in
     sym (ap₂ _&&_ (cut-span r0 r1 (w .y0) (w .height) (q / w .width) y) (cut-span c0 c1 (w .x0) (w .width) (q % w .width) x))
 
@@ -128,7 +135,8 @@ pub record Cutting (w : Window) (r0 c0 r1 c1 y0 x0 y1 x1 : ℕ) : Type 0 where
   pub bottom : y1 ≡ min (r1 - w .y0) (w .height)
   pub right : x1 ≡ min (c1 - w .x0) (w .width)
 
-pub cutting : (w : Window) (r0 c0 r1 c1 y0 x0 y1 x1 dy dx : ℕ) → y0 ≡ r0 - w .y0 → dy ≡ r1 - w .y0 → y1 ≡ min dy (w .height) → x0 ≡ c0 - w .x0
+pub cutting : (w : Window) (r0 c0 r1 c1 y0 x0 y1 x1 dy dx : ℕ) → y0 ≡ r0 - w .y0 → dy ≡ r1 - w .y0 → y1 ≡ min dy (w .height)
+    → x0 ≡ c0 - w .x0
     → dx ≡ c1 - w .x0 → x1 ≡ min dx (w .width) → Cutting w r0 c0 r1 c1 y0 x0 y1 x1
 cutting w r0 c0 r1 c1 y0 x0 y1 x1 dy dx a b c d e f =
     record { top = a; left = d; bottom = c ∙ ap (λ (n : ℕ). min n (w .height)) b; right = f ∙ ap (λ (n : ℕ). min n (w .width)) e }
@@ -171,8 +179,10 @@ point-marks w b i r c e d q =
     ap₂ _&&_ (one-span r (w .y0 + q / w .width) ∙ ap (λ (v : ℕ). eqb v (w .y0 + q / w .width)) e)
     (one-span c (w .x0 + q % w .width) ∙ ap (λ (v : ℕ). eqb v (w .x0 + q % w .width)) d)
 
-pub rect-marks : (w : Window) (b : List ℕ) (np i r0 c0 r1 c1 : ℕ) → r0 ≡ u32At b (12 + 8 * np + 16 * i) → c0 ≡ u32At b (12 + 8 * np + 16 * i + 4)
-    → r1 ≡ u32At b (12 + 8 * np + 16 * i + 8) → c1 ≡ u32At b (12 + 8 * np + 16 * i + 12) → (q : ℕ) → inImage w r0 c0 r1 c1 q ≡ inRect w b np i q
+pub rect-marks : (w : Window) (b : List ℕ) (np i r0 c0 r1 c1 : ℕ) → r0 ≡ u32At b (12 + 8 * np + 16 * i)
+    → c0 ≡ u32At b (12 + 8 * np + 16 * i + 4)
+    → r1 ≡ u32At b (12 + 8 * np + 16 * i + 8) → c1 ≡ u32At b (12 + 8 * np + 16 * i + 12) → (q : ℕ)
+    → inImage w r0 c0 r1 c1 q ≡ inRect w b np i q
 unfolding inImage rectAt span
 rect-marks w b np i r0 c0 r1 c1 e₀ d₀ e₁ d₁ q =
     let y : ℕ = w .y0 + q / w .width in
@@ -193,7 +203,8 @@ pub any-low : (i n : ℕ) (f : ℕ → Bool) → i ≤ n → anyBelow i f ≡ tr
 unfolding anyBelow
 any-low i zero f h e = let z : i ≡ 0 = omega arith in subst (λ (k : ℕ). anyBelow k f ≡ true) z e
 any-low i (suc n) f h e =
-    equal-or i (suc n) (λ d. subst (λ (k : ℕ). anyBelow k f ≡ true) d e) (λ d. or-right (f n) (anyBelow n f) (any-low i n f (omega arith) e))
+    equal-or i (suc n) (λ d. subst (λ (k : ℕ). anyBelow k f ≡ true) d e)
+    (λ d. or-right (f n) (anyBelow n f) (any-low i n f (omega arith) e))
 
 pub any-at : (i n : ℕ) (f : ℕ → Bool) → i < n → f i ≡ true → anyBelow n f ≡ true
 any-at i n f h e = any-low (i + 1) n f (omega arith) (any-more i f ∙ or-right (anyBelow i f) (f i) e)
@@ -209,7 +220,8 @@ pub front-none : (top : ℕ) (s : List ℕ) → Front top s 0 0
 unfolding Rises
 front-none top s = record { order = omega arith; fits = omega arith; rises = tt; below = λ q e. both e (no-has s q) }
 
-pub listed-over : (top : ℕ) (m : ℕ → Bool) (s : List ℕ) → length s < countBelow top (λ q. has (take 0 s) q || m q) → length s < countBelow top m
+pub listed-over : (top : ℕ) (m : ℕ → Bool) (s : List ℕ) → length s < countBelow top (λ q. has (take 0 s) q || m q)
+    → length s < countBelow top m
 listed-over top m s h =
     let e : countBelow top (λ q. has (take 0 s) q || m q) ≡ countBelow top m =
     count-same top (λ q. has (take 0 s) q || m q) m (λ q l. ap (λ (b : Bool). b || m q) (no-has s q)) in
@@ -235,7 +247,8 @@ pub listed-both : (w : Window) (b : List ℕ) (np nr : ℕ) (q : ℕ)
 unfolding listed
 listed-both w b np nr q = refl
 
-module _ (w : Window) (b : List ℕ) (np nr : ℕ) (s s₁ : List ℕ) (r : Kept) (j : Joined (positions w) (λ q. anyBelow np (λ i. atPoint w b i q)) s 0 s₁ r) where
+module _ (w : Window) (b : List ℕ) (np nr : ℕ) (s s₁ : List ℕ) (r : Kept)
+    (j : Joined (positions w) (λ q. anyBelow np (λ i. atPoint w b i q)) s 0 s₁ r) where
   -- the points alone are too many
   pub points-over : r ≡ K.Full → length s < countBelow (positions w) (listedAt w b np nr)
   points-over e =
@@ -251,15 +264,18 @@ module _ (w : Window) (b : List ℕ) (np nr : ℕ) (s s₁ : List ℕ) (r : Kept
       (j₂ : Joined (positions w) (λ q. anyBelow nr (λ i. inRect w b np i q)) s₁ t s₂ r₂) where
     both-joined : Joined (positions w) (listedAt w b np nr) s 0 s₂ r₂
     both-joined =
-        joined-next (positions w) (λ q. anyBelow np (λ i. atPoint w b i q)) (λ q. anyBelow nr (λ i. inRect w b np i q)) (listedAt w b np nr) s 0 s₁ n t s₂ r₂
+        joined-next (positions w) (λ q. anyBelow np (λ i. atPoint w b i q)) (λ q. anyBelow nr (λ i. inRect w b np i q))
+        (listedAt w b np nr) s 0 s₁ n t s₂ r₂
         (held-front (positions w) (λ q. anyBelow np (λ i. atPoint w b i q)) s 0 s₁ r n t e j) long (λ q l. listed-both w b np nr q) j₂
 
     -- with the rectangles they are too many
     pub rects-over : r₂ ≡ K.Full → length s < countBelow (positions w) (listedAt w b np nr)
     rects-over e₂ =
-        listed-over (positions w) (listedAt w b np nr) s (subst (λ (x : Kept). Joined (positions w) (listedAt w b np nr) s 0 s₂ x) e₂ both-joined)
+        listed-over (positions w) (listedAt w b np nr) s (subst
+        (λ (x : Kept). Joined (positions w) (listedAt w b np nr) s 0 s₂ x) e₂ both-joined)
 
-    pub list-done : (k u : ℕ) → r₂ ≡ K.Held k u → length s₂ ≡ length s₁ → (s₃ : List ℕ) (m : ℕ) → Packed (positions w) s₂ u s₃ m → length s₃ ≡ length s₂
+    pub list-done : (k u : ℕ) → r₂ ≡ K.Held k u → length s₂ ≡ length s₁ → (s₃ : List ℕ) (m : ℕ) → Packed (positions w) s₂ u s₃ m
+        → length s₃ ≡ length s₂
         → Holds (positions w) (listedAt w b np nr) s s₃ m
     list-done k u e₂ d s₃ m v l =
         listed-all (positions w) (listedAt w b np nr) s s₂ k u s₃ m

@@ -57,7 +57,8 @@ returns c =
     let less = c .before .before .before .before .before .before .loop-test .taken in
     let at = c .before .before .before .before .before .before .before .before .before .before in
     steps-full _ _ _ _ _ _ _ _ (in-loop .inv .0) _ _ _ (one .result) (c .enum-told .given .1) (one .ensures)
-    (λ q l. any-low (in-loop .i) (at .args .points) (λ i. atPoint (at .args .w) (at .args .body .now) i q) (in-loop .inv .1)) (λ q l. any-at (in-loop .i) (at .args .points) (λ i. atPoint (at .args .w) (at .args .body .now) i q) less)
+    (λ q l. any-low (in-loop .i) (at .args .points) (λ i. atPoint (at .args .w) (at .args .body .now) i q) (in-loop .inv .1))
+    (λ q l. any-at (in-loop .i) (at .args .points) (λ i. atPoint (at .args .w) (at .args .body .now) i q) less)
 
 same-length-2 : tie.Need-same-length-2 Inv-loop μ-loop
 same-length-2 c = c .before .loop .inv .0 .long
@@ -67,7 +68,8 @@ returns-2 c =
     let in-loop = c .before .loop in
     let at = c .before .before .before .before in
     let done : in-loop .i ≡ at .args .points = omega (arith, in-loop .inv .1, c .loop-test .left) in
-    steps-end _ _ _ _ _ _ _ _ _ (in-loop .inv .0) (λ q l. ap (λ (n : ℕ). anyBelow n (λ i. atPoint (at .args .w) (at .args .body .now) i q)) done)
+    steps-end _ _ _ _ _ _ _ _ _ (in-loop .inv .0) (λ q l. ap
+    (λ (n : ℕ). anyBelow n (λ i. atPoint (at .args .w) (at .args .body .now) i q)) done)
 
 pub all-points-spec : {M : Type 1} → statement M
 all-points-spec =

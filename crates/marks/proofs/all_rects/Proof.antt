@@ -12,7 +12,8 @@ use Rattle.marks.proofs.all_rects.Statement.{statement}
 use Rattle.marks.proofs.all_rects.Tie as tie
 
 abbrev Inv-loop : tie.InvT-loop
-Inv-loop body points rects w s₀ n t k₀ u₀ i₀ s k u i = Steps (positions w) (λ j q. anyBelow j (λ i. inRect w body points i q)) s₀ t s k u i × (i ≤ rects)
+Inv-loop body points rects w s₀ n t k₀ u₀ i₀ s k u i = Steps (positions w)
+    (λ j q. anyBelow j (λ i. inRect w body points i q)) s₀ t s k u i × (i ≤ rects)
 
 abbrev μ-loop : tie.MeasureT-loop
 μ-loop body points rects w s₀ n t k₀ u₀ i₀ s k u i = rects - i
@@ -57,7 +58,9 @@ returns c =
     let less = c .before .before .before .before .before .before .loop-test .taken in
     let at = c .before .before .before .before .before .before .before .before .before .before in
     steps-full _ _ _ _ _ _ _ _ (in-loop .inv .0) _ _ _ (one .result) (c .enum-told .given .1) (one .ensures)
-    (λ q l. any-low (in-loop .i) (at .args .rects) (λ i. inRect (at .args .w) (at .args .body .now) (at .args .points) i q) (in-loop .inv .1)) (λ q l. any-at (in-loop .i) (at .args .rects) (λ i. inRect (at .args .w) (at .args .body .now) (at .args .points) i q) less)
+    (λ q l. any-low (in-loop .i) (at .args .rects) (λ i. inRect (at .args .w) (at .args .body .now) (at .args .points) i q)
+    (in-loop .inv .1)) (λ q l. any-at (in-loop .i) (at .args .rects)
+    (λ i. inRect (at .args .w) (at .args .body .now) (at .args .points) i q) less)
 
 same-length-2 : tie.Need-same-length-2 Inv-loop μ-loop
 same-length-2 c = c .before .loop .inv .0 .long
@@ -67,7 +70,8 @@ returns-2 c =
     let in-loop = c .before .loop in
     let at = c .before .before .before .before in
     let done : in-loop .i ≡ at .args .rects = omega (arith, in-loop .inv .1, c .loop-test .left) in
-    steps-end _ _ _ _ _ _ _ _ _ (in-loop .inv .0) (λ q l. ap (λ (n : ℕ). anyBelow n (λ i. inRect (at .args .w) (at .args .body .now) (at .args .points) i q)) done)
+    steps-end _ _ _ _ _ _ _ _ _ (in-loop .inv .0) (λ q l. ap
+    (λ (n : ℕ). anyBelow n (λ i. inRect (at .args .w) (at .args .body .now) (at .args .points) i q)) done)
 
 pub all-rects-spec : {M : Type 1} → statement M
 all-rects-spec =

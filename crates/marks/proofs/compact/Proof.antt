@@ -1,6 +1,7 @@
 -- `marks::compact` meets its contract: what is held comes out packed, or ascends already.
 -- Assumes nothing.
 use mathlib.Core.Path.{sym}
+use native.Mathlib.Omega.{arith}
 use borrow.Author.Needs.{needs}
 use lib.Seq.{length-take-le}
 use Rattle.marks.proofs.Filling.{packed-all, packed}
@@ -14,7 +15,9 @@ slice-relend-prefix-pack : tie.Need-slice-relend-prefix-pack
 slice-relend-prefix-pack c = search needs
 
 slice-aggregate-pack : tie.Need-slice-aggregate-pack
-slice-aggregate-pack c = sym (length-take-le (c .before .before .before .args .t) (c .before .before .before .args .s .now) (c .before .before .before .pre .fits))
+slice-aggregate-pack c =
+    let f = c .before .before .before .pre in
+    sym (length-take-le _ _ (omega (arith, f .order, f .fits)))
 
 pack-requires : tie.Need-pack-requires
 pack-requires c κs = search needs

@@ -40,7 +40,8 @@ sub-result c = search needs
 returns-2 : tie.Need-returns-2
 returns-2 c =
     let at = c .before .before .before in
-    λ e r u. covered-by (at .args .s .now) (at .args .n) (at .args .h) (at .args .a) (at .args .b) (at .pre .1) (c .before .before .if1 .left) (c .before .if2 .taken)
+    λ e r u. covered-by (at .args .s .now) (at .args .n) (at .args .h) (at .args .a) (at .args .b) (at .pre .1)
+    (c .before .before .if1 .left) (c .before .if2 .taken)
     (eqb-true _ _ e) r u
 
 returns-3 : tie.Need-returns-3

@@ -7,7 +7,8 @@ use Rattle.marks.proofs.follow.Statement.{statement}
 use Rattle.marks.proofs.follow.Tie as tie
 
 slice-aggregate-lower : tie.Need-slice-aggregate-lower
-slice-aggregate-lower c = sym (length-take-le (c .before .before .before .args .n) (c .before .before .before .args .s .now) (c .before .before .before .pre))
+slice-aggregate-lower c = sym (length-take-le (c .before .before .before .args .n) (c .before .before .before .args .s .now)
+    (c .before .before .before .pre))
 
 lower-requires : tie.Need-lower-requires
 lower-requires c κs = search needs

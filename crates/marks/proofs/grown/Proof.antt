@@ -21,10 +21,18 @@ add-result : tie.Need-add-result
 add-result c = search needs
 
 returns-2 : tie.Need-returns-2
-returns-2 c = rw (le-leb (c .before .before .before .before .before .args .t) (c .before .before .before .before .before .args .n) (c .before .before .before .if1 .left), sym (c .before .past .ensures) ∙ c .if2 .taken) refl
+returns-2 c = rw (
+  le-leb (c .before .before .before .before .before .args .t) (c .before .before .before .before .before .args .n)
+      (c .before .before .before .if1 .left),
+  sym (c .before .past .ensures) ∙ c .if2 .taken,
+) refl
 
 returns-3 : tie.Need-returns-3
-returns-3 c = rw (le-leb (c .before .before .before .before .before .args .t) (c .before .before .before .before .before .args .n) (c .before .before .before .if1 .left), sym (c .before .past .ensures) ∙ c .if2 .left) refl
+returns-3 c = rw (
+  le-leb (c .before .before .before .before .before .args .t) (c .before .before .before .before .before .args .n)
+      (c .before .before .before .if1 .left),
+  sym (c .before .past .ensures) ∙ c .if2 .left,
+) refl
 
 pub grown-spec : {M : Type 1} → statement M
 grown-spec =

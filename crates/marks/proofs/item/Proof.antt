@@ -34,7 +34,8 @@ returns c =
     let dx = c .before .before .less4 in
     let x1 = c .before .lesser2 in
     let at = c .before .before .before .before .before .before .before .before in
-    let v : Cutting (at .args .w) (at .args .r0) (at .args .c0) (at .args .r1) (at .args .c1) (y0 .result) (x0 .result) (y1 .result) (x1 .result) =
+    let v : Cutting (at .args .w) (at .args .r0) (at .args .c0) (at .args .r1) (at .args .c1) (y0 .result) (x0 .result) (y1 .result)
+    (x1 .result) =
     cutting _ _ _ _ _ _ _ _ _ _ _ (y0 .ensures) (dy .ensures) (y1 .ensures) (x0 .ensures) (dx .ensures) (x1 .ensures) in
     cut-none _ _ _ _ _ _ _ _ _ (at .pre .1) v (c .if1 .taken) _ _ _ (at .pre .0)
 
@@ -47,12 +48,17 @@ returns-2 c =
     let dx = c .before .before .before .less4 in
     let x1 = c .before .before .lesser2 in
     let at = c .before .before .before .before .before .before .before .before .before in
-    let v : Cutting (at .args .w) (at .args .r0) (at .args .c0) (at .args .r1) (at .args .c1) (y0 .result) (x0 .result) (y1 .result) (x1 .result) =
+    let v : Cutting (at .args .w) (at .args .r0) (at .args .c0) (at .args .r1) (at .args .c1) (y0 .result) (x0 .result) (y1 .result)
+    (x1 .result) =
     cutting _ _ _ _ _ _ _ _ _ _ _ (y0 .ensures) (dy .ensures) (y1 .ensures) (x0 .ensures) (dx .ensures) (x1 .ensures) in
     cut-no-rows _ _ _ _ _ _ _ _ _ (at .pre .1) v (c .if2 .taken) _ _ _ (at .pre .0)
 
 mul-patch : tie.Need-mul-patch
-mul-patch c = omega (arith, area (c .before .before .before .before .before .before .before .before .before .before .before .args .w) (c .before .before .before .before .before .before .before .before .before .before .before .pre .1))
+mul-patch c = omega (
+  arith,
+  area (c .before .before .before .before .before .before .before .before .before .before .before .args .w)
+      (c .before .before .before .before .before .before .before .before .before .before .before .pre .1),
+)
 
 patch-requires : tie.Need-patch-requires
 patch-requires c κs =
@@ -63,9 +69,16 @@ patch-requires c κs =
     let dx = c .before .before .before .before .before .less4 in
     let x1 = c .before .before .before .before .lesser2 in
     let at = c .before .before .before .before .before .before .before .before .before .before .before in
-    let v : Cutting (at .args .w) (at .args .r0) (at .args .c0) (at .args .r1) (at .args .c1) (y0 .result) (x0 .result) (y1 .result) (x1 .result) =
-    cutting _ _ _ _ _ _ _ _ _ _ _ (y0 .ensures) (dy .ensures) (y1 .ensures) (x0 .ensures) (dx .ensures) (x1 .ensures) in
-    (at .pre .0, (cut-inside _ _ _ _ _ _ _ _ _ (at .pre .1) v (c .before .before .before .if1 .left), omega (arith, c .before .before .if2 .left)))
+    let v : Cutting (at .args .w) (at .args .r0) (at .args .c0) (at .args .r1) (at .args .c1) (y0 .result) (x0 .result) (y1 .result)
+    (x1 .result) =
+    cutting _ _ _ _ _ _ _ _ _ _ _ (y0 .ensures) (dy .ensures) (y1 .ensures) (x0 .ensures) (dx .ensures) (x1 .ensures) in (
+      at .pre .0,
+      (
+        cut-inside _ _ _ _ _ _ _ _ _ (at .pre .1) v (c .before .before .before .if1 .left),
+        omega
+            (arith, c .before .before .if2 .left),
+      ),
+    )
 
 same-length : tie.Need-same-length
 same-length c = search needs
@@ -79,9 +92,11 @@ returns-3 c =
     let dx = c .before .before .before .before .before .before .before .before .less4 in
     let x1 = c .before .before .before .before .before .before .before .lesser2 in
     let at = c .before .before .before .before .before .before .before .before .before .before .before .before .before .before in
-    let v : Cutting (at .args .w) (at .args .r0) (at .args .c0) (at .args .r1) (at .args .c1) (y0 .result) (x0 .result) (y1 .result) (x1 .result) =
+    let v : Cutting (at .args .w) (at .args .r0) (at .args .c0) (at .args .r1) (at .args .c1) (y0 .result) (x0 .result) (y1 .result)
+    (x1 .result) =
     cutting _ _ _ _ _ _ _ _ _ _ _ (y0 .ensures) (dy .ensures) (y1 .ensures) (x0 .ensures) (dx .ensures) (x1 .ensures) in
-    joined-as _ _ _ _ _ _ (c .before .before .patch .result) (cut-marks _ _ _ _ _ _ _ _ _ (at .pre .1) v) (c .before .before .patch .ensures)
+    joined-as _ _ _ _ _ _ (c .before .before .patch .result) (cut-marks _ _ _ _ _ _ _ _ _ (at .pre .1) v)
+    (c .before .before .patch .ensures)
 
 pub item-spec : {M : Type 1} → statement M
 item-spec =

@@ -23,13 +23,16 @@ returns : tie.Need-returns
 returns c =
     let at = c .before .before .before .before .before .before .before .before in
     let points = c .before .before .before .before .all-points in
-    points-over (at .args .w) (at .args .body .now) (at .args .points) (at .args .rects) _ _ (points .result) (points .ensures) (c .enum-told .given .1)
+    points-over (at .args .w) (at .args .body .now) (at .args .points) (at .args .rects) _ _ (points .result) (points .ensures)
+    (c .enum-told .given .1)
 
 all-rects-requires : tie.Need-all-rects-requires
 all-rects-requires c κs =
     let at = c .before .before .before .before .before .before .before .before .before .before in
-    let points = c .before .before .before .before .before .before .all-points in
-    (held-front _ _ _ _ _ (points .result) _ _ (c .before .before .n .given .1) (points .ensures) .front, (at .pre, (omega arith, omega arith)))
+    let points = c .before .before .before .before .before .before .all-points in (
+      held-front _ _ _ _ _ (points .result) _ _ (c .before .before .n .given .1) (points .ensures) .front,
+      (at .pre, (omega arith, omega arith)),
+    )
 
 enum-known-k : tie.Need-enum-known-k
 enum-known-k c = search needs
@@ -45,10 +48,16 @@ returns-2 c =
     let at = c .before .before .before .before .before .before .before .before .before .before .before .before .before .before .before in
     let points = c .before .before .before .before .before .before .before .before .before .before .before .all-points in
     let rects = c .before .before .before .before .all-rects in
-    rects-over (at .args .w) (at .args .body .now) (at .args .points) (at .args .rects) _ _ (points .result) (points .ensures) _ _ (c .before .before .before .before .before .before .before .n .given .1) (points .kept .1 .1 .1 .0) _ (rects .result) (rects .ensures) (c .enum-told2 .given .1)
+    rects-over (at .args .w) (at .args .body .now) (at .args .points) (at .args .rects) _ _ (points .result) (points .ensures) _ _
+    (c .before .before .before .before .before .before .before .n .given .1) (points .kept .1 .1 .1 .0) _ (rects .result)
+    (rects .ensures) (c .enum-told2 .given .1)
 
 mul-compact : tie.Need-mul-compact
-mul-compact c = omega (arith, area (c .before .before .before .before .before .before .before .before .before .before .before .before .before .before .before .before .before .before .args .w) (c .before .before .before .before .before .before .before .before .before .before .before .before .before .before .before .before .before .before .pre))
+mul-compact c = omega (
+  arith,
+  area
+      (c .before .before .before .before .before .before .before .before .before .before .before .before .before .before .before .before .before .before .args .w) (c .before .before .before .before .before .before .before .before .before .before .before .before .before .before .before .before .before .before .pre),
+)
 
 compact-requires : tie.Need-compact-requires
 compact-requires c κs =
@@ -64,7 +73,9 @@ returns-3 c =
     let points = c .before .before .before .before .before .before .before .before .before .before .before .before .before .before .before .before .before .all-points in
     let rects = c .before .before .before .before .before .before .before .before .before .before .all-rects in
     let small = c .before .before .compact in
-    list-done (at .args .w) (at .args .body .now) (at .args .points) (at .args .rects) _ _ (points .result) (points .ensures) _ _ (c .before .before .before .before .before .before .before .before .before .before .before .before .before .n .given .1) (points .kept .1 .1 .1 .0) _ (rects .result) (rects .ensures) _ _
+    list-done (at .args .w) (at .args .body .now) (at .args .points) (at .args .rects) _ _ (points .result) (points .ensures) _ _
+    (c .before .before .before .before .before .before .before .before .before .before .before .before .before .n .given .1)
+    (points .kept .1 .1 .1 .0) _ (rects .result) (rects .ensures) _ _
     (c .before .before .before .before .before .before .k .given .1) (rects .kept .1 .1 .1 .1 .0) _ _ (small .ensures) (small .kept .0)
 
 pub list-marks-spec : {M : Type 1} → statement M

@@ -33,7 +33,8 @@ returns c =
     let at = c .before .before .before .before .before .before in
     let a = at .args in
     joined-as _ _ _ _ _ _ (c .before .before .run .result)
-    (λ q l. patch-rows (a .width) (a .r0) (a .c0) (a .r1) (a .c1) (a .top) q (at .pre .1 .0) (c .before .before .before .before .if1 .taken)) (c .before .before .run .ensures)
+    (λ q l. patch-rows (a .width) (a .r0) (a .c0) (a .r1) (a .c1) (a .top) q (at .pre .1 .0)
+    (c .before .before .before .before .if1 .taken)) (c .before .before .run .ensures)
 
 same-length-2 : tie.Need-same-length-2
 same-length-2 c = search needs

@@ -28,7 +28,8 @@ same-length c = search needs
 returns : tie.Need-returns
 returns c =
     let small = c .before .before .before .before .before .before .compact in
-    joined-next _ (λ q. false) _ _ _ _ _ _ _ _ (c .before .before .place .result) (gains-packed _ _ _ _ _ (small .ensures)) (small .kept .0) (λ q l. refl)
+    joined-next _ (λ q. false) _ _ _ _ _ _ _ _ (c .before .before .place .result) (gains-packed _ _ _ _ _ (small .ensures))
+    (small .kept .0) (λ q l. refl)
     (c .before .before .place .ensures)
 
 same-length-2 : tie.Need-same-length-2

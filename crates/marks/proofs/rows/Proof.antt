@@ -17,34 +17,60 @@ abbrev μ-loop : tie.MeasureT-loop
 μ-loop s₀ n t width r0 c0 r1 c1 top k₀ u₀ y₀ s k u y = r1 - y
 
 loop-holds : tie.Need-loop-holds Inv-loop μ-loop
-loop-holds c = (steps-start _ _ _ _ _ _ (c .before .pre .0) (block-none (c .before .args .width) (c .before .args .r0) (c .before .args .c0) (c .before .args .c1)), omega arith, omega arith)
+loop-holds c = (
+  steps-start _ _ _ _ _ _ (c .before .pre .0) (block-none (c .before .args .width) (c .before .args .r0)
+      (c .before .args .c0) (c .before .args .c1)),
+  omega arith,
+  omega arith,
+)
 
 mul-run : tie.Need-mul-run Inv-loop μ-loop
 mul-run c =
     let at = c .before .before .before .before in
-    omega (arith, row-in (at .args .width) (c .before .before .loop .y) (at .args .r1) (at .args .top) (at .args .c1) (c .before .loop-test .taken) (at .pre .1 .rows) (at .pre .1 .columns), at .pre .1 .small)
+    omega (
+      arith,
+      row-in (at .args .width) (c .before .before .loop .y) (at .args .r1) (at .args .top) (at .args .c1)
+          (c .before .loop-test .taken) (at .pre .1 .rows) (at .pre .1 .columns),
+      at .pre .1 .small,
+    )
 
 add-run : tie.Need-add-run Inv-loop μ-loop
 add-run c =
     let at = c .before .before .before .before in
-    omega (arith, row-in (at .args .width) (c .before .before .loop .y) (at .args .r1) (at .args .top) (at .args .c0) (c .before .loop-test .taken) (at .pre .1 .rows) (omega (arith, at .pre .1 .order, at .pre .1 .columns)), at .pre .1 .small)
+    omega (
+      arith,
+      row-in (at .args .width) (c .before .before .loop .y) (at .args .r1) (at .args .top) (at .args .c0)
+          (c .before .loop-test .taken) (at .pre .1 .rows) (omega (arith, at .pre .1 .order, at .pre .1 .columns)),
+      at .pre .1 .small,
+    )
 
 mul-run-2 : tie.Need-mul-run-2 Inv-loop μ-loop
 mul-run-2 c =
     let at = c .before .before .before .before in
-    omega (arith, row-in (at .args .width) (c .before .before .loop .y) (at .args .r1) (at .args .top) (at .args .c1) (c .before .loop-test .taken) (at .pre .1 .rows) (at .pre .1 .columns), at .pre .1 .small)
+    omega (
+      arith,
+      row-in (at .args .width) (c .before .before .loop .y) (at .args .r1) (at .args .top) (at .args .c1)
+          (c .before .loop-test .taken) (at .pre .1 .rows) (at .pre .1 .columns),
+      at .pre .1 .small,
+    )
 
 add-run-2 : tie.Need-add-run-2 Inv-loop μ-loop
 add-run-2 c =
     let at = c .before .before .before .before in
-    omega (arith, row-in (at .args .width) (c .before .before .loop .y) (at .args .r1) (at .args .top) (at .args .c1) (c .before .loop-test .taken) (at .pre .1 .rows) (at .pre .1 .columns), at .pre .1 .small)
+    omega (
+      arith,
+      row-in (at .args .width) (c .before .before .loop .y) (at .args .r1) (at .args .top) (at .args .c1)
+          (c .before .loop-test .taken) (at .pre .1 .rows) (at .pre .1 .columns),
+      at .pre .1 .small,
+    )
 
 run-requires : tie.Need-run-requires Inv-loop μ-loop
 run-requires c κs =
     let at = c .before .before .before .before in (
       c .before .before .loop .inv .0 .gains .front,
       (
-        row-in (at .args .width) (c .before .before .loop .y) (at .args .r1) (at .args .top) (at .args .c1) (c .before .loop-test .taken) (at .pre .1 .rows) (at .pre .1 .columns),
+        row-in (at .args .width) (c .before .before .loop .y) (at .args .r1) (at .args .top) (at .args .c1) (c .before .loop-test .taken)
+            (at .pre .1 .rows) (at .pre .1 .columns),
         at .pre .1 .small,
       ),
     )
@@ -64,7 +90,8 @@ loop-again c =
     let in-loop = c .before .before .before .before .before .before .before .before .loop in
     let at = c .before .before .before .before .before .before .before .before .before .before in (
       steps-next _ _ _ _ _ _ _ _ (in-loop .inv .0) _ _ (run .result) _ _ (c .before .k1 .given .1) (run .ensures) (run .kept .0)
-          (λ q l. block-more (at .args .width) (at .args .r0) (at .args .c0) (at .args .c1) (in-loop .y) q (in-loop .inv .1) (at .pre .1 .columns)),
+          (λ q l. block-more (at .args .width) (at .args .r0) (at .args .c0) (at .args .c1) (in-loop .y) q (in-loop .inv .1)
+          (at .pre .1 .columns)),
       omega (arith, in-loop .inv .1),
       omega (arith, c .before .before .before .before .before .before .before .loop-test .taken),
     )

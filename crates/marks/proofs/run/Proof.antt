@@ -13,7 +13,8 @@ slice-reshare-prefix-lower : tie.Need-slice-reshare-prefix-lower
 slice-reshare-prefix-lower c = search needs
 
 slice-aggregate-lower : tie.Need-slice-aggregate-lower
-slice-aggregate-lower c = sym (length-take-le (c .before .before .args .n) (c .before .before .args .s .now) (omega (arith, c .before .before .pre .0 .order, c .before .before .pre .0 .fits)))
+slice-aggregate-lower c = sym (length-take-le (c .before .before .args .n) (c .before .before .args .s .now)
+    (omega (arith, c .before .before .pre .0 .order, c .before .before .pre .0 .fits)))
 
 lower-requires : tie.Need-lower-requires
 lower-requires c κs = search needs
@@ -32,7 +33,8 @@ same-length c = search needs
 returns : tie.Need-returns
 returns c =
     let at = c .before .before .before .before .before .before in
-    run-covered _ _ _ _ _ _ (at .pre .0) (c .before .covers .ensures (c .if1 .taken) (at .pre .0 .rises) (c .before .before .before .lower .ensures))
+    run-covered _ _ _ _ _ _ (at .pre .0) (c .before .covers .ensures (c .if1 .taken) (at .pre .0 .rises)
+    (c .before .before .before .lower .ensures))
 
 walk-requires : tie.Need-walk-requires
 walk-requires c κs = search needs

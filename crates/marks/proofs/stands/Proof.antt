@@ -22,7 +22,11 @@ cast-result c = omega (arith, c .shared-slice-known .given (c .before .before .a
 returns : tie.Need-returns
 returns c =
     let at = c .before .before in
-    λ e. (c .before .if1 .taken, stands-there (at .args .s .now) (at .args .n) (at .args .h) (at .args .p) (at .pre) (c .before .if1 .taken) (eqb-true _ _ e))
+    λ e. (
+      c .before .if1 .taken,
+      stands-there (at .args .s .now) (at .args .n) (at .args .h) (at .args .p) (at .pre)
+          (c .before .if1 .taken) (eqb-true _ _ e),
+    )
 
 returns-2 : tie.Need-returns-2
 returns-2 c = λ e. both {b = false} e refl

@@ -28,7 +28,15 @@ add-h : tie.Need-add-h Inv-loop μ-loop
 add-h c =
     let at = c .before .before .before .before .loop in
     let front = at .inv .0 .gains .front in
-    omega (arith, c .before .stands .ensures (c .if1 .taken) .0, front .order, front .fits, at .inv .0 .long, c .before .before .before .before .before .before .good .0 .0)
+    omega (
+      arith,
+      c .before .stands .ensures
+          (c .if1 .taken) .0,
+      front .order,
+      front .fits,
+      at .inv .0 .long,
+      c .before .before .before .before .before .before .good .0 .0,
+    )
 
 add-p : tie.Need-add-p Inv-loop μ-loop
 add-p c = omega arith
@@ -40,7 +48,8 @@ loop-again : tie.Need-loop-again Inv-loop μ-loop
 loop-again c =
     let at = c .before .before .before .before .loop in
     let a = c .before .before .before .before .before .before .args .a in (
-      steps-next _ _ _ _ _ _ _ _ (at .inv .0) _ _ _ _ _ refl (place-there _ _ _ _ (at .p) (at .inv .0 .gains .front) (c .before .stands .ensures (c .if1 .taken) .1)) refl
+      steps-next _ _ _ _ _ _ _ _ (at .inv .0) _ _ _ _ _ refl (place-there _ _ _ _ (at .p) (at .inv .0 .gains .front)
+          (c .before .stands .ensures (c .if1 .taken) .1)) refl
           (λ q l. span-more a (at .p) q (at .inv .1)),
       omega (arith, at .inv .1),
       omega (arith, c .before .before .before .loop-test .taken),
@@ -50,7 +59,11 @@ cast-push : tie.Need-cast-push Inv-loop μ-loop
 cast-push c = omega arith
 
 push-requires : tie.Need-push-requires Inv-loop μ-loop
-push-requires c κs = (c .before .before .before .before .before .loop .inv .0 .gains .front, omega (arith, c .before .before .before .before .before .before .before .pre .1, c .before .before .before .before .loop-test .taken))
+push-requires c κs = (
+  c .before .before .before .before .before .loop .inv .0 .gains .front,
+  omega
+      (arith, c .before .before .before .before .before .before .before .pre .1, c .before .before .before .before .loop-test .taken),
+)
 
 enum-known-k1 : tie.Need-enum-known-k1 Inv-loop μ-loop
 enum-known-k1 c = search needs
@@ -75,7 +88,8 @@ loop-again-2 c =
     let push = c .before .before .before .before .before .before .before .push in
     let at = c .before .before .before .before .before .before .before .before .before .before .before .before .before .loop in
     let a = c .before .before .before .before .before .before .before .before .before .before .before .before .before .before .before .args .a in (
-      steps-next _ _ _ _ _ _ _ _ (at .inv .0) _ _ (push .result) _ _ (c .before .before .before .k1 .given .1) (push .ensures) (push .kept .0)
+      steps-next _ _ _ _ _ _ _ _ (at .inv .0) _ _ (push .result) _ _ (c .before .before .before .k1 .given .1) (push .ensures)
+          (push .kept .0)
           (λ q l. span-more a (at .p) q (at .inv .1)),
       omega (arith, at .inv .1),
       omega (arith, c .before .before .before .before .before .before .before .before .before .before .before .before .loop-test .taken),
@@ -103,7 +117,8 @@ same-length-2 c = c .before .loop .inv .0 .long
 returns-2 : tie.Need-returns-2 Inv-loop μ-loop
 returns-2 c =
     let at = c .before .loop in
-    steps-end _ _ _ _ _ _ _ _ _ (at .inv .0) (λ q l. span-whole (c .before .before .before .args .a) (c .before .before .before .args .b) (at .p) q (c .loop-test .left) (at .inv .2))
+    steps-end _ _ _ _ _ _ _ _ _ (at .inv .0) (λ q l. span-whole (c .before .before .before .args .a) (c .before .before .before .args .b)
+    (at .p) q (c .loop-test .left) (at .inv .2))
 
 pub walk-spec : {M : Type 1} → statement M
 walk-spec =
