@@ -1,5 +1,5 @@
 -- Worked values of the definitions, each by computing: P11 of document 01, 'Bench frames', points as (row, column), ends excluded, the window's
--- corner, repetitions, and what is too many.
+-- corner, and repetitions.
 use Prim.Native.Nat.{ℕ, _%_}
 use mathlib.Core.Path.{_≡_, refl}
 use mathlib.Core.List.{List, [], _∷_, _++_}
@@ -54,13 +54,13 @@ pub p11-count : many (at 0 0) (head 0 1 ++ rectangle 0 0 1 1) 0 1 ≡ 1
 unfolding countBelow listed anyBelow pointAt rectAt big
 p11-count = refl
 
--- row 1, column 2 of a window 3 wide is position 5; row 2 is not there
-pub row-first : marked (at 0 0) (head 2 0 ++ (point 1 2 ++ point 2 1)) 2 0 ≡ 5 ∷ []
+-- row 1, column 2 of a window 3 wide is position 5; (column, row) would be outside
+pub row-first : marked (at 0 0) (head 1 0 ++ point 1 2) 1 0 ≡ 5 ∷ []
 unfolding chosen listed anyBelow pointAt rectAt big
 row-first = refl
 
--- rows 0 and 1, columns 1 up to 3; bottom and right lie outside
-pub ends-excluded : marked (at 0 0) (head 0 1 ++ rectangle 0 1 2 3) 0 1 ≡ 1 ∷ 2 ∷ 4 ∷ 5 ∷ []
+-- rows 0 up to 1 and columns 0 up to 2, the ends left out
+pub ends-excluded : marked (at 0 0) (head 0 1 ++ rectangle 0 0 1 2) 0 1 ≡ 0 ∷ 1 ∷ []
 unfolding chosen listed anyBelow pointAt rectAt big
 ends-excluded = refl
 
