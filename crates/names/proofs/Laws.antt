@@ -72,6 +72,11 @@ module _ (l b : List ℕ) where
   unfolding writtenIn
   room h = sets-eq l b 0 (rw zero-add h) ∙ simp (le-leb _ _ h, zero-add)
 
+  -- the same for a caller, who has asked for room
+  pub with-room : length l ≤ length b → writtenIn l b ≡ written l b
+  unfolding writtenIn
+  with-room h = simp (le-leb _ _ h)
+
   pub no-names : length b < length l → b ≡ writtenIn l b
   unfolding writtenIn
   no-names h = simp (lt-leb _ _ h)

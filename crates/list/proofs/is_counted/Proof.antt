@@ -1,4 +1,5 @@
 -- `list::is_counted` meets its contract, by its two tests. Assumes nothing.
+use native.Mathlib.Omega.{arith}
 use Rattle.list.proofs.Laws.{count-short, count-over, count-kept}
 use borrow.Author.Needs.{needs}
 use Rattle.list.proofs.is_counted.Statement.{statement}
@@ -11,10 +12,10 @@ u32-at-requires : tie.Need-u32-at-requires
 u32-at-requires c κs = search needs
 
 returns-2 : tie.Need-returns-2
-returns-2 c = count-over _ (c .before .u32-at .ensures) (c .before .before .if1 .left) (c .if2 .taken)
+returns-2 c = count-over _ (c .before .u32-at .ensures) (omega arith) (omega arith)
 
 returns-3 : tie.Need-returns-3
-returns-3 c = count-kept _ (c .before .u32-at .ensures) (c .before .before .if1 .left) (c .if2 .left)
+returns-3 c = count-kept _ (c .before .u32-at .ensures) (omega arith) (omega arith)
 
 pub is-counted-spec : {M : Type 1} → statement M
 is-counted-spec = tie.close (tie.spec returns u32-at-requires returns-2 returns-3)
