@@ -66,3 +66,66 @@ fn rows(samples: &mut [f32], w: Window, op: Opcode, ready: Prepared, body: &[u8]
         y += 1;
     }
 }
+
+// A window without columns, or whose rows would overlap, is left as it is.
+pub fn window_step(samples: &mut [f32], w: Window, op: Opcode, body: &[u8], scale: f32)
+    requires { ⌜ WindowFits w × (bounded op ≡ true) ⌝ }
+    ensures { λ _.
+        ⌜ now (samples .exit)
+        ≡ each (onWindow w (length (now (samples .entry))) (ruleOf (frameOf w scale) op (now (body .entry)))) (now (samples .entry)) ⌝ }
+{
+    if w.width == 0 {
+        return;
+    }
+    if w.stride < w.width {
+        return;
+    }
+    let ready = steps::prepare(op, w.x0 as u32, w.full_width as u32, w.full_height as u32);
+    rows(samples, w, op, ready, body, scale);
+}
+
+// ---- whole numbers
+
+fn rows16(samples: &mut [u16], w: Window, op: Opcode, ready: Prepared, body: &[u8])
+    requires { ⌜ WindowFits w × Ordered w × Ready op (w .x0) (w .«full_width») (w .«full_height») ready ⌝ }
+    ensures { λ _.
+        ⌜ now (samples .exit)
+        ≡ each (onWindow w (length (now (samples .entry))) (rule16Of op (now (body .entry)))) (now (samples .entry)) ⌝ }
+{
+    let n = samples.len();
+    let width = w.width * w.planes;
+    let step = w.stride * w.planes;
+    let mut y = 0;
+    let mut at = 0;
+    while y < w.height {
+        if n <= at {
+            return;
+        }
+        let end = smaller(at + width, n);
+        steps::row_step16(
+            &mut samples[at..end],
+            place_at(w, y),
+            op,
+            ready,
+            body,
+        );
+        at += step;
+        y += 1;
+    }
+}
+
+pub fn window_step16(samples: &mut [u16], w: Window, op: Opcode, body: &[u8])
+    requires { ⌜ WindowFits w ⌝ }
+    ensures { λ _.
+        ⌜ now (samples .exit)
+        ≡ each (onWindow w (length (now (samples .entry))) (rule16Of op (now (body .entry)))) (now (samples .entry)) ⌝ }
+{
+    if w.width == 0 {
+        return;
+    }
+    if w.stride < w.width {
+        return;
+    }
+    let ready = steps::prepare(op, w.x0 as u32, w.full_width as u32, w.full_height as u32);
+    rows16(samples, w, op, ready, body);
+}
