@@ -2,11 +2,11 @@
 ghost use mathlib.Core.Path.{_≡_};
 ghost use mathlib.Core.Bool.{true, cond};
 ghost use lib.Dec.{eqb};
-ghost use Prim.Native.Nat.{_-_, _≤_, _<_, min, max};
+ghost use Prim.Native.Nat.{_+_, min};
 ghost use lib.ListN.{length};
 ghost use lib.Ieee.{Float};
 ghost use Rattle.points.specs.Points.{each};
-ghost use Rattle.points.specs.Select.{inRow, onColumns, First};
+ghost use Rattle.points.specs.Select.{selects, First};
 ghost use Rattle.select.specs.Walks.{walked, Walks};
 ghost use Rattle.dng.specs.Select.{onRow, onRegion};
 ghost use Rattle.dng.specs.Bounds.{bounded, RowFits};
@@ -259,6 +259,19 @@ fn walk_at(g: Place, r: Region, start: Start, plane: usize) -> Walk
 
 // ---- a row
 
+// Past the last plane that the region and the row have.
+fn planes_end(g: Place, r: Region) -> usize
+    ensures { λ e. ⌜ e ≡ min (r .plane + r .planes) (g .planes) ⌝ }
+{
+    select::plane_end(r.plane, r.planes, g.planes as usize)
+}
+
+fn selected(g: Place, r: Region) -> bool
+    ensures { λ b. ⌜ b ≡ selects (r .top) (r .bottom) (r .«row_pitch») (g .y) ⌝ }
+{
+    select::row_selected(r.top, r.bottom, r.row_pitch, g.y as usize)
+}
+
 // The planes of a region, one after another.
 fn region_planes(row: &mut [f32], g: Place, r: Region, t: Task, start: Start, body: &[u8], scale: f32)
     requires { ⌜
@@ -271,7 +284,7 @@ fn region_planes(row: &mut [f32], g: Place, r: Region, t: Task, start: Start, bo
         (taskRule (frameAt scale (g .«full_width») (g .«full_height»)) r (now (body .entry)) t (g .y))
         (now (row .entry)) ⌝ }
 {
-    let end = select::plane_end(r.plane, r.planes, g.planes as usize);
+    let end = planes_end(g, r);
     let mut p = r.plane as usize;
     while p < end {
         one_plane(row, walk_at(g, r, start, p), r, t, g, body, scale);
@@ -291,7 +304,7 @@ fn region_row(row: &mut [f32], g: Place, r: Region, t: Task, start: Start, body:
         (onRegion r (taskRule (frameAt scale (g .«full_width») (g .«full_height»)) r (now (body .entry)) t)))
         (now (row .entry)) ⌝ }
 {
-    if select::row_selected(r.top, r.bottom, r.row_pitch, g.y as usize) {
+    if selected(g, r) {
         region_planes(row, g, r, t, start, body, scale);
     }
 }
@@ -353,7 +366,7 @@ fn region_planes16(row: &mut [u16], g: Place, r: Region, n: u32, start: Start, b
         ⌜ now (row .exit)
         ≡ regionPlanes g r (r .planes) (λ x k v. cond (eqb n 0) v (mapTable16 n (now (body .entry)) v)) (now (row .entry)) ⌝ }
 {
-    let end = select::plane_end(r.plane, r.planes, g.planes as usize);
+    let end = planes_end(g, r);
     let mut p = r.plane as usize;
     while p < end {
         table_plane16(row, walk_at(g, r, start, p), body, n);
@@ -372,7 +385,7 @@ fn region_row16(row: &mut [u16], g: Place, r: Region, n: u32, start: Start, body
         (onRegion r (λ y x k v. cond (eqb n 0) v (mapTable16 n (now (body .entry)) v))))
         (now (row .entry)) ⌝ }
 {
-    if select::row_selected(r.top, r.bottom, r.row_pitch, g.y as usize) {
+    if selected(g, r) {
         region_planes16(row, g, r, n, start, body);
     }
 }

@@ -21,18 +21,15 @@ Inv-loop row₀ g r n start body end p₀ row p =
 abbrev μ-loop : tie.MeasureT-loop
 μ-loop row₀ g r n start body end p₀ row p = end - p
 
-cast-plane-end : tie.Need-cast-plane-end Inv-loop μ-loop
-cast-plane-end c = search needs
-
-plane-end-requires : tie.Need-plane-end-requires Inv-loop μ-loop
-plane-end-requires c κs = search needs
+planes-end-requires : tie.Need-planes-end-requires Inv-loop μ-loop
+planes-end-requires c κs = search needs
 
 cast-p : tie.Need-cast-p Inv-loop μ-loop
 cast-p c = search needs
 
 loop-holds : tie.Need-loop-holds Inv-loop μ-loop
 loop-holds c = 
-    let a = c .before .before .before .before .before .args in
+    let a = c .before .before .before .before .args in
     (planes-begin (a .g) (a .r) _ (a .row .now), omega arith, omega arith, refl)
 
 walk-at-requires : tie.Need-walk-at-requires Inv-loop μ-loop
@@ -42,10 +39,10 @@ table-plane16-requires : tie.Need-table-plane16-requires Inv-loop μ-loop
 table-plane16-requires c κs = 
     let h = c .before .before .before in
     let e = h .before .before in
-    let s = e .before .before .before .before in
+    let s = e .before .before .before in
     let a = s .args in
     walks-of (c .walk-at .ensures) (subst (RowFits (a .g .x0) (a .g .planes) (a .g .y)) (sym (h .loop .inv .3)) (s .pre .0)) (s .pre .1)
-    (omega (arith, c .before .before .loop-test .taken, e .plane-end .ensures))
+    (omega (arith, c .before .before .loop-test .taken, e .planes-end .ensures))
 
 add-p : tie.Need-add-p Inv-loop μ-loop
 add-p c = 
@@ -59,7 +56,7 @@ loop-again : tie.Need-loop-again Inv-loop μ-loop
 loop-again c = 
     let w = c .before .before .before in
     let h = w .before .before .before in
-    let a = h .before .before .before .before .before .before .args in
+    let a = h .before .before .before .before .before .args in
     let done = planes-turn (w .walk-at .ensures) _ (a .row .now) (h .loop .row) _ (h .loop .inv .1) (h .loop .inv .0) (c .before .before .table-plane16 .ensures) in
     (done, omega (arith, h .loop .inv .1), omega (arith, w .before .before .loop-test .taken),
     ap length done ∙ length-planes (a .g) (a .r) _ _ (a .row .now))
@@ -71,10 +68,10 @@ returns : tie.Need-returns Inv-loop μ-loop
 returns c = 
     let h = c .before in
     let e = h .before .before in
-    let s = e .before .before .before .before in
+    let s = e .before .before .before in
     let a = s .args in
     h .loop .inv .0
-    ∙ planes-done (a .g) (a .r) _ (a .row .now) (h .loop .p) (e .plane-end .result) (s .pre .0 .some) (e .plane-end .ensures)
+    ∙ planes-done (a .g) (a .r) _ (a .row .now) (h .loop .p) (e .planes-end .result) (s .pre .0 .some) (e .planes-end .ensures)
     (c .loop-test .left) (h .loop .inv .2)
 
 pub region-planes16-spec : {M : Type 1} → statement M
@@ -83,8 +80,7 @@ region-planes16-spec =
     (tie.spec
     Inv-loop
     μ-loop
-    cast-plane-end
-    plane-end-requires
+    planes-end-requires
     cast-p
     loop-holds
     walk-at-requires

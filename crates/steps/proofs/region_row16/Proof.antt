@@ -8,11 +8,8 @@ use Rattle.steps.proofs.Planes.{row-in, row-out}
 use Rattle.steps.proofs.region_row16.Statement.{statement}
 use Rattle.steps.proofs.region_row16.Tie as tie
 
-cast-row-selected : tie.Need-cast-row-selected
-cast-row-selected c = search needs
-
-row-selected-requires : tie.Need-row-selected-requires
-row-selected-requires c κs = search needs
+selected-requires : tie.Need-selected-requires
+selected-requires c κs = search needs
 
 region-planes16-requires : tie.Need-region-planes16-requires
 region-planes16-requires c κs = search needs
@@ -23,23 +20,22 @@ same-length c = search needs
 returns : tie.Need-returns
 returns c = 
     let i = c .before .before .before .before in
-    let a = i .before .before .before .before .before .args in
+    let a = i .before .before .before .before .args in
     c .before .before .region-planes16 .ensures
     ∙ row-in (a .g) (a .r) (λ y x k v. cond (eqb (a .n) 0) v (mapTable16 (a .n) (a .body .now) v)) (a .row .now)
-    (sym (i .before .row-selected .ensures) ∙ i .if1 .taken)
+    (sym (i .before .selected .ensures) ∙ i .if1 .taken)
 
 returns-2 : tie.Need-returns-2
 returns-2 c = 
-    let a = c .before .before .before .before .before .args in
+    let a = c .before .before .before .before .args in
     row-out (a .g) (a .r) (λ y x k v. cond (eqb (a .n) 0) v (mapTable16 (a .n) (a .body .now) v)) (a .row .now)
-    (sym (c .before .row-selected .ensures) ∙ c .if1 .left)
+    (sym (c .before .selected .ensures) ∙ c .if1 .left)
 
 pub region-row16-spec : {M : Type 1} → statement M
 region-row16-spec =
     tie.close
     (tie.spec
-    cast-row-selected
-    row-selected-requires
+    selected-requires
     region-planes16-requires
     same-length
     returns
