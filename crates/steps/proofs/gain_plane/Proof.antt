@@ -1,0 +1,33 @@
+-- `gain_plane` meets its contract: a walk with its own map plane. Assumes nothing.
+use mathlib.Core.Path.{_∙_}
+use borrow.Author.Needs.{needs}
+use Rattle.vignette.specs.Reach.{frameAt}
+use Rattle.gain.proofs.Rows.{gained-row}
+use Rattle.steps.proofs.Fits.{gain-fits}
+use Rattle.steps.proofs.gain_plane.Statement.{statement}
+use Rattle.steps.proofs.gain_plane.Tie as tie
+
+map-plane-requires : tie.Need-map-plane-requires
+map-plane-requires c κs = search needs
+
+gain-row-requires : tie.Need-gain-row-requires
+gain-row-requires c κs = 
+    let m = c .before in
+    let s = m .before .before .before in
+    let a = s .args in
+    (s .pre .0, gain-fits (a .points-v) (a .points-h) (a .grid) (a .map-planes) (a .k .plane) (a .r .plane) (s .pre .1) (m .map-plane .ensures))
+
+same-length : tie.Need-same-length
+same-length c = search needs
+
+returns : tie.Need-returns
+returns c = 
+    let m = c .before .before .before .before in
+    let a = m .before .before .before .args in
+    λ scale.
+    c .before .before .gain-row .ensures
+    ∙ gained-row (frameAt scale (a .g .«full_width») (a .g .«full_height»)) (a .body .now) (a .r) (a .points-v) (a .points-h) (a .grid)
+    (a .map-planes) (a .g .y) (m .map-plane .result) (a .k) (a .row .now) (m .map-plane .ensures)
+
+pub gain-plane-spec : {M : Type 1} → statement M
+gain-plane-spec = tie.close (tie.spec map-plane-requires gain-row-requires same-length returns)

@@ -1,0 +1,167 @@
+-- `one_plane` meets its contract, task by task. Assumes nothing.
+use Prim.Native.Nat.{ℕ}
+use mathlib.Core.Path.{_≡_, sym, ap, _∙_}
+use mathlib.Core.List.{List}
+use borrow.Author.Needs.{needs}
+use lib.Ieee.{Float}
+use Rattle.select.specs.declared.Walk.{Walk}
+use Rattle.select.specs.Walks.{walked}
+use Rattle.dng.specs.declared.Region.{Region}
+use Rattle.vignette.specs.Reach.{frameAt}
+use Rattle.steps.specs.declared.Task.{Task}
+use Rattle.steps.specs.declared.Place.{Place}
+use Rattle.steps.specs.Plans.{taskRule, taskFits}
+use Rattle.steps.proofs.Fits.{degree-fits}
+use Rattle.steps.proofs.one_plane.Statement.{statement}
+use Rattle.steps.proofs.one_plane.Tie as tie
+
+-- the task taken is the one lent
+taken : (k : Walk) (g : Place) (scale : Float) (r : Region) (b : List ℕ) (l : List Float) {t u : Task} → t ≡ u
+    → walked k (taskRule (frameAt scale (g .«full_width») (g .«full_height»)) r b u (g .y)) l
+    ≡ walked k (taskRule (frameAt scale (g .«full_width») (g .«full_height»)) r b t (g .y)) l
+taken k g scale r b l e =
+    ap (λ (w : Task). walked k (taskRule (frameAt scale (g .«full_width») (g .«full_height»)) r b w (g .y)) l) (sym e)
+
+enum-known-t : tie.Need-enum-known-t
+enum-known-t c = search needs
+
+table-plane-requires : tie.Need-table-plane-requires
+table-plane-requires c κs = search needs
+
+enum-known-t-2 : tie.Need-enum-known-t-2
+enum-known-t-2 c = search needs
+
+polynomial-row-requires : tie.Need-polynomial-row-requires
+polynomial-row-requires c κs = 
+    let u = c .before .before in
+    let s = u .before .before .before .before in
+    (s .pre .0, degree-fits _ (ap taskFits (sym (u .t2 .given .1)) ∙ s .pre .2))
+
+enum-known-t-3 : tie.Need-enum-known-t-3
+enum-known-t-3 c = search needs
+
+gain-plane-requires : tie.Need-gain-plane-requires
+gain-plane-requires c κs = 
+    let u = c .before .before in
+    let s = u .before .before .before .before in
+    (s .pre .0, ap taskFits (sym (u .t3 .given .1)) ∙ s .pre .2)
+
+enum-known-t-4 : tie.Need-enum-known-t-4
+enum-known-t-4 c = search needs
+
+delta-rows-requires : tie.Need-delta-rows-requires
+delta-rows-requires c κs = search needs
+
+enum-known-t-5 : tie.Need-enum-known-t-5
+enum-known-t-5 c = search needs
+
+delta-columns-requires : tie.Need-delta-columns-requires
+delta-columns-requires c κs = search needs
+
+enum-known-t-6 : tie.Need-enum-known-t-6
+enum-known-t-6 c = search needs
+
+scale-rows-requires : tie.Need-scale-rows-requires
+scale-rows-requires c κs = search needs
+
+enum-known-t-7 : tie.Need-enum-known-t-7
+enum-known-t-7 c = search needs
+
+scale-columns-requires : tie.Need-scale-columns-requires
+scale-columns-requires c κs = search needs
+
+same-length : tie.Need-same-length
+same-length c = search needs
+
+returns : tie.Need-returns
+returns c = 
+    let u = c .before .before .before .before .before in
+    let a = u .before .before .before .before .args in
+    c .before .before .table-plane .ensures ∙ taken (a .k) (a .g) (a .scale) (a .r) (a .body .now) (a .row .now) (u .t .given .1)
+
+same-length-2 : tie.Need-same-length-2
+same-length-2 c = search needs
+
+returns-2 : tie.Need-returns-2
+returns-2 c = 
+    let u = c .before .before .before .before .before in
+    let a = u .before .before .before .before .args in
+    c .before .before .polynomial-row .ensures ∙ taken (a .k) (a .g) (a .scale) (a .r) (a .body .now) (a .row .now) (u .t2 .given .1)
+
+same-length-3 : tie.Need-same-length-3
+same-length-3 c = search needs
+
+returns-3 : tie.Need-returns-3
+returns-3 c = 
+    let u = c .before .before .before .before .before in
+    let a = u .before .before .before .before .args in
+    c .before .before .gain-plane .ensures (a .scale) ∙ taken (a .k) (a .g) (a .scale) (a .r) (a .body .now) (a .row .now) (u .t3 .given .1)
+
+same-length-4 : tie.Need-same-length-4
+same-length-4 c = search needs
+
+returns-4 : tie.Need-returns-4
+returns-4 c = 
+    let u = c .before .before .before .before .before in
+    let a = u .before .before .before .before .args in
+    c .before .before .delta-rows .ensures ∙ taken (a .k) (a .g) (a .scale) (a .r) (a .body .now) (a .row .now) (u .t4 .given .1)
+
+same-length-5 : tie.Need-same-length-5
+same-length-5 c = search needs
+
+returns-5 : tie.Need-returns-5
+returns-5 c = 
+    let u = c .before .before .before .before .before in
+    let a = u .before .before .before .before .args in
+    c .before .before .delta-columns .ensures ∙ taken (a .k) (a .g) (a .scale) (a .r) (a .body .now) (a .row .now) (u .t5 .given .1)
+
+same-length-6 : tie.Need-same-length-6
+same-length-6 c = search needs
+
+returns-6 : tie.Need-returns-6
+returns-6 c = 
+    let u = c .before .before .before .before .before in
+    let a = u .before .before .before .before .args in
+    c .before .before .scale-rows .ensures ∙ taken (a .k) (a .g) (a .scale) (a .r) (a .body .now) (a .row .now) (u .t6 .given .1)
+
+same-length-7 : tie.Need-same-length-7
+same-length-7 c = search needs
+
+returns-7 : tie.Need-returns-7
+returns-7 c = 
+    let u = c .before .before .before .before .before in
+    let a = u .before .before .before .before .args in
+    c .before .before .scale-columns .ensures ∙ taken (a .k) (a .g) (a .scale) (a .r) (a .body .now) (a .row .now) (u .t7 .given .1)
+
+pub one-plane-spec : {M : Type 1} → statement M
+one-plane-spec =
+    tie.close
+    (tie.spec
+    enum-known-t
+    table-plane-requires
+    enum-known-t-2
+    polynomial-row-requires
+    enum-known-t-3
+    gain-plane-requires
+    enum-known-t-4
+    delta-rows-requires
+    enum-known-t-5
+    delta-columns-requires
+    enum-known-t-6
+    scale-rows-requires
+    enum-known-t-7
+    scale-columns-requires
+    same-length
+    returns
+    same-length-2
+    returns-2
+    same-length-3
+    returns-3
+    same-length-4
+    returns-4
+    same-length-5
+    returns-5
+    same-length-6
+    returns-6
+    same-length-7
+    returns-7)

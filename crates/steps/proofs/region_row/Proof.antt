@@ -1,0 +1,45 @@
+-- `region_row` meets its contract: a row that the region does not select stays. Assumes nothing.
+use mathlib.Core.Path.{sym, _∙_}
+use borrow.Author.Needs.{needs}
+use Rattle.vignette.specs.Reach.{frameAt}
+use Rattle.steps.specs.Plans.{taskRule}
+use Rattle.steps.proofs.Planes.{row-in, row-out}
+use Rattle.steps.proofs.region_row.Statement.{statement}
+use Rattle.steps.proofs.region_row.Tie as tie
+
+cast-row-selected : tie.Need-cast-row-selected
+cast-row-selected c = search needs
+
+row-selected-requires : tie.Need-row-selected-requires
+row-selected-requires c κs = search needs
+
+region-planes-requires : tie.Need-region-planes-requires
+region-planes-requires c κs = search needs
+
+same-length : tie.Need-same-length
+same-length c = search needs
+
+returns : tie.Need-returns
+returns c = 
+    let i = c .before .before .before .before in
+    let a = i .before .before .before .before .before .args in
+    c .before .before .region-planes .ensures
+    ∙ row-in (a .g) (a .r) (taskRule (frameAt (a .scale) (a .g .«full_width») (a .g .«full_height»)) (a .r) (a .body .now) (a .t)) (a .row .now)
+    (sym (i .before .row-selected .ensures) ∙ i .if1 .taken)
+
+returns-2 : tie.Need-returns-2
+returns-2 c = 
+    let a = c .before .before .before .before .before .args in
+    row-out (a .g) (a .r) (taskRule (frameAt (a .scale) (a .g .«full_width») (a .g .«full_height»)) (a .r) (a .body .now) (a .t)) (a .row .now)
+    (sym (c .before .row-selected .ensures) ∙ c .if1 .left)
+
+pub region-row-spec : {M : Type 1} → statement M
+region-row-spec =
+    tie.close
+    (tie.spec
+    cast-row-selected
+    row-selected-requires
+    region-planes-requires
+    same-length
+    returns
+    returns-2)

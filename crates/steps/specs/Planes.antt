@@ -1,0 +1,47 @@
+-- The walk over one plane of a row, made from the row's place, a region and its first column.
+use Prim.Native.Nat.{ℕ, _-_, _<_, min, max}
+use mathlib.Core.Path.{_≡_}
+use mathlib.Core.List.{List}
+use Rattle.points.specs.Points.{each}
+use Rattle.points.specs.Select.{inRow, onColumns}
+use Rattle.select.specs.declared.Walk.{Walk}
+use Rattle.select.specs.declared.Start.{Start}
+use Rattle.dng.specs.declared.Region.{Region}
+use Rattle.steps.specs.declared.Place.{Place}
+
+abbrev pub walkBy : Place → Region → Start → (plane pitch : ℕ) → Walk
+walkBy g r s plane pitch =
+    record {
+      x0 = g .x0;
+      planes = g .planes;
+      left = r .left;
+      right = r .right;
+      pitch = pitch;
+      plane = plane;
+      col = s .col;
+      nth = s .nth;
+    }
+
+-- a pitch of 0 counts as 1
+abbrev pub walkOf : Place → Region → Start → (plane : ℕ) → Walk
+walkOf g r s plane = walkBy g r s plane (max (r .«col_pitch») 1)
+
+pub record WalkIs (g : Place) (r : Region) (s : Start) (plane : ℕ) (k : Walk) : Type 0 where
+  pub is : k ≡ walkOf g r s plane
+  pub left32 : k .left < 4294967296
+  pub right32 : k .right < 4294967296
+  pub pitch32 : k .pitch < 4294967296
+
+-- a walk over columns of the region r
+pub record Along (r : Region) (k : Walk) : Type 0 where
+  pub left-is : k .left ≡ r .left
+  pub pitch-is : k .pitch ≡ max (r .«col_pitch») 1
+
+-- map plane min(k, last), k counted from the region's first plane
+abbrev pub mapPlane : (plane first planes : ℕ) → ℕ
+mapPlane plane first planes = min (plane - first) (max planes 1 - 1)
+
+-- `f` at the columns of the region and at n of its planes, from its first on
+unfoldable pub regionPlanes : {A : Type 0} → Place → Region → (n : ℕ) → (ℕ → ℕ → A → A) → List A → List A
+regionPlanes g r n f l =
+    each (inRow (g .x0) (g .planes) (onColumns (r .left) (r .right) (r .«col_pitch») (r .plane) n f)) l

@@ -1,0 +1,319 @@
+// One opcode on one lent row. A run prepares an opcode once and hands it to each of its rows.
+ghost use mathlib.Core.Path.{_≡_};
+ghost use mathlib.Core.Bool.{true, cond};
+ghost use lib.Dec.{eqb};
+ghost use Prim.Native.Nat.{_-_, _≤_, _<_, min, max};
+ghost use lib.ListN.{length};
+ghost use lib.Ieee.{Float};
+ghost use Rattle.points.specs.Points.{each};
+ghost use Rattle.points.specs.Select.{inRow, onColumns, First};
+ghost use Rattle.select.specs.Walks.{walked, Walks};
+ghost use Rattle.dng.specs.Select.{onRow, onRegion};
+ghost use Rattle.dng.specs.Bounds.{bounded, RowFits};
+ghost use Rattle.dng.specs.Value.{ruleOf, rule16Of, rowIndex, columnIndex, mapTable, mapPolynomial, nought, one, nth, delta, scaled, gained};
+ghost use Rattle.vignette.specs.Reach.{frameAt};
+ghost use Rattle.steps.specs.Plans.{planOf, taskRule, taskFits};
+ghost use Rattle.steps.specs.Ready.{Ready};
+ghost use Rattle.steps.specs.Planes.{WalkIs, Along, mapPlane, regionPlanes};
+use dng::Grid;
+use dng::Opcode;
+use dng::Radial;
+use dng::Region;
+use select::Start;
+use select::Walk;
+use vignette::Reach;
+
+// ---- what an opcode is to a row
+
+// What is done to each sample of a region.
+pub enum Task {
+    Table {
+        n: u32,
+    },
+    Polynomial {
+        degree: u32,
+    },
+    Gain {
+        points_v: u32,
+        points_h: u32,
+        grid: Grid,
+        map_planes: u32,
+    },
+    DeltaRows {
+        n: u32,
+    },
+    DeltaColumns {
+        n: u32,
+    },
+    ScaleRows {
+        n: u32,
+    },
+    ScaleColumns {
+        n: u32,
+    },
+}
+
+// A row knows three kinds of opcodes: those that leave it, the vignette, and those of a region.
+pub enum Plan {
+    Nothing,
+    Vignette { radial: Radial },
+    Area { region: Region, task: Task },
+}
+
+// The same with what is worked out once for all rows: m2 where it is usable, and a region's first column.
+pub enum Prepared {
+    Nothing,
+    Vignette {
+        radial: Radial,
+        m2: f64,
+    },
+    Area {
+        region: Region,
+        task: Task,
+        start: Start,
+    },
+}
+
+// Where a row lies: its first pixel is the image column x0 of the image row y, and a pixel has `planes` samples.
+pub struct Place {
+    pub x0: u32,
+    pub planes: u32,
+    pub y: u32,
+    pub full_width: u32,
+    pub full_height: u32,
+}
+
+fn plan_of(op: Opcode) -> Plan
+    ensures { λ r. ⌜ r ≡ planOf op ⌝ }
+{
+    match op {
+        Opcode::WarpRectilinear { .. } => Plan::Nothing,
+        Opcode::WarpFisheye => Plan::Nothing,
+        Opcode::FixVignetteRadial { radial } => Plan::Vignette { radial },
+        Opcode::FixBadPixelsConstant { .. } => Plan::Nothing,
+        Opcode::FixBadPixelsList { .. } => Plan::Nothing,
+        Opcode::TrimBounds { .. } => Plan::Nothing,
+        Opcode::MapTable { region, n } => Plan::Area { region, task: Task::Table { n } },
+        Opcode::MapPolynomial { region, degree } => Plan::Area { region, task: Task::Polynomial { degree } },
+        Opcode::GainMap { region, points_v, points_h, grid, map_planes } => Plan::Area {
+            region,
+            task: Task::Gain { points_v, points_h, grid, map_planes },
+        },
+        Opcode::DeltaPerRow { region, n } => Plan::Area { region, task: Task::DeltaRows { n } },
+        Opcode::DeltaPerColumn { region, n } => Plan::Area { region, task: Task::DeltaColumns { n } },
+        Opcode::ScalePerRow { region, n } => Plan::Area { region, task: Task::ScaleRows { n } },
+        Opcode::ScalePerColumn { region, n } => Plan::Area { region, task: Task::ScaleColumns { n } },
+        Opcode::Other { .. } => Plan::Nothing,
+    }
+}
+
+pub fn prepare(op: Opcode, x0: u32, full_width: u32, full_height: u32) -> Prepared
+    ensures { λ r. ⌜ Ready op x0 «full_width» «full_height» r ⌝ }
+{
+    match plan_of(op) {
+        Plan::Nothing => Prepared::Nothing,
+        Plan::Vignette { radial } => match vignette::m2(radial, full_width, full_height) {
+            Reach::Usable { m2 } => Prepared::Vignette { radial, m2 },
+            Reach::Unusable => Prepared::Nothing,
+        },
+        Plan::Area { region, task } => Prepared::Area {
+            region,
+            task,
+            start: select::first_column(region.left, region.col_pitch, x0),
+        },
+    }
+}
+
+// ---- one plane of a row
+
+// The selected rows are counted from the region's top.
+fn row_index(r: Region, y: u32) -> usize
+    ensures { λ i. ⌜ i ≡ rowIndex r y ⌝ }
+{
+    select::less(y as usize, r.top as usize) / select::larger(r.row_pitch as usize, 1)
+}
+
+fn table_plane(row: &mut [f32], k: Walk, body: &[u8], n: u32, scale: f32)
+    requires { ⌜ Walks k (length (now row)) ⌝ }
+    ensures { λ _.
+        ⌜ now (row .exit) ≡ walked k (λ x p v. cond (eqb n 0) v (mapTable scale n (now (body .entry)) v)) (now (row .entry)) ⌝ }
+{
+    if 0 < n {
+        maps::table_row(row, k, body, n, scale);
+    }
+}
+
+fn delta_rows(row: &mut [f32], k: Walk, r: Region, y: u32, body: &[u8], n: u32, scale: f32)
+    requires { ⌜ Walks k (length (now row)) ⌝ }
+    ensures { λ _.
+        ⌜ now (row .exit) ≡ walked k (λ x p v. delta scale (nth n (now (body .entry)) nought (rowIndex r y)) v) (now (row .entry)) ⌝ }
+{
+    let d = lines::row_delta(body, n, row_index(r, y), scale);
+    lines::add_row(row, k, d);
+}
+
+fn scale_rows(row: &mut [f32], k: Walk, r: Region, y: u32, body: &[u8], n: u32)
+    requires { ⌜ Walks k (length (now row)) ⌝ }
+    ensures { λ _.
+        ⌜ now (row .exit) ≡ walked k (λ x p v. scaled (nth n (now (body .entry)) one (rowIndex r y)) v) (now (row .entry)) ⌝ }
+{
+    let s = lines::row_scale(body, n, row_index(r, y));
+    lines::scale_row(row, k, s);
+}
+
+// The plane of a map for a plane of a row, counted from the region's first; past the map's last, the last.
+fn map_plane(plane: usize, first: u32, planes: u32) -> u32
+    ensures { λ r. ⌜ r ≡ mapPlane plane first planes ⌝ }
+{
+    let last = select::larger(planes as usize, 1) - 1;
+    select::smaller(select::less(plane, first as usize), last) as u32
+}
+
+fn delta_columns(row: &mut [f32], k: Walk, r: Region, body: &[u8], n: u32, scale: f32)
+    requires { ⌜ Walks k (length (now row)) × Along r k ⌝ }
+    ensures { λ _.
+        ⌜ now (row .exit)
+        ≡ walked k (λ x p v. delta scale (nth n (now (body .entry)) nought (columnIndex r x)) v) (now (row .entry)) ⌝ }
+{
+    lines::add_columns(row, k, body, n, scale);
+}
+
+fn scale_columns(row: &mut [f32], k: Walk, r: Region, body: &[u8], n: u32)
+    requires { ⌜ Walks k (length (now row)) × Along r k ⌝ }
+    ensures { λ _.
+        ⌜ now (row .exit)
+        ≡ walked k (λ x p v. scaled (nth n (now (body .entry)) one (columnIndex r x)) v) (now (row .entry)) ⌝ }
+{
+    lines::scale_columns(row, k, body, n);
+}
+
+fn gain_plane(
+    row: &mut [f32],
+    k: Walk,
+    r: Region,
+    g: Place,
+    body: &[u8],
+    points_v: u32,
+    points_h: u32,
+    grid: Grid,
+    map_planes: u32,
+)
+    requires { ⌜ Walks k (length (now row)) × (taskFits (Task.Gain «points_v» «points_h» grid «map_planes») ≡ true) ⌝ }
+    ensures { λ _.
+        ⌜ ((scale : Float)
+        → now (row .exit)
+        ≡ walked k
+        (gained (frameAt scale (g .«full_width») (g .«full_height»)) (now (body .entry)) r «points_v» «points_h» grid «map_planes» (g .y))
+        (now (row .entry))) ⌝ }
+{
+    let m = map_plane(k.plane, r.plane, map_planes);
+    gain::gain_row(
+        row,
+        k,
+        body,
+        grid,
+        g.y,
+        g.full_height,
+        g.full_width,
+        points_v,
+        points_h,
+        map_planes,
+        m,
+    );
+}
+
+// A task on one plane of a row.
+fn one_plane(row: &mut [f32], k: Walk, r: Region, t: Task, g: Place, body: &[u8], scale: f32)
+    requires { ⌜ Walks k (length (now row)) × Along r k × (taskFits t ≡ true) ⌝ }
+    ensures { λ _.
+        ⌜ now (row .exit)
+        ≡ walked k (taskRule (frameAt scale (g .«full_width») (g .«full_height»)) r (now (body .entry)) t (g .y)) (now (row .entry)) ⌝ }
+{
+    match t {
+        Task::Table { n } => table_plane(row, k, body, n, scale),
+        Task::Polynomial { degree } => maps::polynomial_row(row, k, body, degree, scale),
+        Task::Gain { points_v, points_h, grid, map_planes } => {
+            gain_plane(row, k, r, g, body, points_v, points_h, grid, map_planes)
+        }
+        Task::DeltaRows { n } => delta_rows(row, k, r, g.y, body, n, scale),
+        Task::DeltaColumns { n } => delta_columns(row, k, r, body, n, scale),
+        Task::ScaleRows { n } => scale_rows(row, k, r, g.y, body, n),
+        Task::ScaleColumns { n } => scale_columns(row, k, r, body, n),
+    }
+}
+
+fn walk_at(g: Place, r: Region, start: Start, plane: usize) -> Walk
+    ensures { λ k. ⌜ WalkIs g r start plane k ⌝ }
+{
+    Walk {
+        x0: g.x0 as usize,
+        planes: g.planes as usize,
+        left: r.left as usize,
+        right: r.right as usize,
+        pitch: select::larger(r.col_pitch as usize, 1),
+        plane,
+        col: start.col,
+        nth: start.nth,
+    }
+}
+
+// ---- a row
+
+// The planes of a region, one after another.
+fn region_planes(row: &mut [f32], g: Place, r: Region, t: Task, start: Start, body: &[u8], scale: f32)
+    requires { ⌜
+        RowFits (g .x0) (g .planes) (g .y) (length (now row)) × First (r .left) (r .«col_pitch») (g .x0) (start .col) (start .nth)
+        × (taskFits t ≡ true)
+        ⌝ }
+    ensures { λ _.
+        ⌜ now (row .exit)
+        ≡ regionPlanes g r (r .planes)
+        (taskRule (frameAt scale (g .«full_width») (g .«full_height»)) r (now (body .entry)) t (g .y))
+        (now (row .entry)) ⌝ }
+{
+    let end = select::plane_end(r.plane, r.planes, g.planes as usize);
+    let mut p = r.plane as usize;
+    while p < end {
+        one_plane(row, walk_at(g, r, start, p), r, t, g, body, scale);
+        p += 1;
+    }
+}
+
+fn region_row(row: &mut [f32], g: Place, r: Region, t: Task, start: Start, body: &[u8], scale: f32)
+    requires { ⌜
+        RowFits (g .x0) (g .planes) (g .y) (length (now row)) × First (r .left) (r .«col_pitch») (g .x0) (start .col) (start .nth)
+        × (taskFits t ≡ true)
+        ⌝ }
+    ensures { λ _.
+        ⌜ now (row .exit)
+        ≡ each
+        (onRow (g .x0) (g .planes) (g .y) (length (now (row .entry)))
+        (onRegion r (taskRule (frameAt scale (g .«full_width») (g .«full_height»)) r (now (body .entry)) t)))
+        (now (row .entry)) ⌝ }
+{
+    if select::row_selected(r.top, r.bottom, r.row_pitch, g.y as usize) {
+        region_planes(row, g, r, t, start, body, scale);
+    }
+}
+
+// One opcode on one row. What the opcode is was worked out by `prepare`; `op` stands here for the contract alone.
+pub fn row_step(row: &mut [f32], g: Place, op: Opcode, ready: Prepared, body: &[u8], scale: f32)
+    requires { ⌜
+        RowFits (g .x0) (g .planes) (g .y) (length (now row)) × (bounded op ≡ true)
+        × Ready op (g .x0) (g .«full_width») (g .«full_height») ready
+        ⌝ }
+    ensures { λ _.
+        ⌜ now (row .exit)
+        ≡ each
+        (onRow (g .x0) (g .planes) (g .y) (length (now (row .entry)))
+        (ruleOf (frameAt scale (g .«full_width») (g .«full_height»)) op (now (body .entry))))
+        (now (row .entry)) ⌝ }
+{
+    match ready {
+        Prepared::Nothing => {}
+        Prepared::Vignette { radial, m2 } => {
+            vignette::vignette_row(row, radial, m2, g.x0, g.planes, g.y, g.full_width, g.full_height)
+        }
+        Prepared::Area { region, task, start } => region_row(row, g, region, task, start, body, scale),
+    }
+}
