@@ -1,0 +1,58 @@
+-- `rows::run_row` meets its contract, by the plan: the row as it was, or with all opcodes. Assumes nothing.
+use denote.Ref.{now}
+use Rattle.rows.proofs.Laws.{refused, goes-narrow, goes-fits, done}
+use borrow.Author.Needs.{needs}
+use Rattle.rows.proofs.run_row.Statement.{statement}
+use Rattle.rows.proofs.run_row.Tie as tie
+
+settle-row-requires : tie.Need-settle-row-requires
+settle-row-requires c κs = search needs
+
+enum-known-answer : tie.Need-enum-known-answer
+enum-known-answer c = search needs
+
+enum-known-skipped : tie.Need-enum-known-skipped
+enum-known-skipped c = search needs
+
+place-of-requires : tie.Need-place-of-requires
+place-of-requires c κs =
+    let b4 = c .before .before .before .before in
+    let a = b4 .before .before .before .args in
+    goes-narrow (a .w) (a .scale) (a .y) (now (a .list)) (now (a .row)) (b4 .settle-row .ensures) (c .before .before .skipped .given .1)
+
+perform-requires : tie.Need-perform-requires
+perform-requires c κs =
+    let b5 = c .before .before .before .before .before in
+    let a = b5 .before .before .before .args in
+    goes-fits (a .w) (a .scale) (a .y) (now (a .list)) (now (a .row)) (b5 .settle-row .ensures) (c .before .before .before .skipped .given .1)
+    (c .place-of .ensures)
+
+returns : tie.Need-returns
+returns c =
+    let a = c .before .before .before .before .before .before .args in
+    refused (a .w) (a .scale) (a .y) (now (a .list)) (now (a .row)) (c .before .before .before .settle-row .ensures)
+    (c .before .answer .given .1)
+
+same-length : tie.Need-same-length
+same-length c = search needs
+
+returns-2 : tie.Need-returns-2
+returns-2 c =
+    let b4 = c .before .before .before .before in
+    let b8 = b4 .before .before .before .before in
+    let a = b8 .before .before .before .args in
+    done (a .w) (a .scale) (a .y) (now (a .list)) (now (a .row)) (b8 .settle-row .ensures) (b4 .before .before .skipped .given .1)
+    (c .before .before .before .place-of .ensures) (c .before .before .perform .ensures)
+
+pub run-row-spec : {M : Type 1} → statement M
+run-row-spec =
+    tie.close
+    (tie.spec
+    settle-row-requires
+    enum-known-answer
+    enum-known-skipped
+    place-of-requires
+    perform-requires
+    returns
+    same-length
+    returns-2)

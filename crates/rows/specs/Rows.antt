@@ -1,0 +1,32 @@
+-- What a row call promises, and where its row lies in the image. Document 01, 'What comes back'.
+use Prim.Native.Nat.{ℕ, _≤_}
+use mathlib.Core.List.{List}
+use mathlib.Core.Path.{_≡_}
+use lib.Ieee.{Float}
+use Rattle.dng.specs.declared.RowWindow.{RowWindow}
+use Rattle.dng.specs.declared.RowAnswer.{RowAnswer}
+use Rattle.dng.specs.Value.{Frame}
+use Rattle.dng.specs.Answer.{RowOut}
+use Rattle.steps.specs.declared.Place.{Place}
+
+-- the answer and the row are those of o
+pub record RowRan (o : RowOut) (r : RowAnswer) (row : List Float) : Type 0 where
+  pub answered : r ≡ o .answer
+  pub left : row ≡ o .row
+
+-- ---- inside: no caller is asked for these
+
+-- a window's numbers, each of which fits 32 bits
+pub record Narrow (w : RowWindow) (y : ℕ) : Type 0 where
+  pub few : w .planes ≤ 8
+  pub column : w .x0 ≤ 16777216
+  pub row : y ≤ 16842751
+  pub wide : w .«full_width» ≤ 16777216
+  pub high : w .«full_height» ≤ 16777216
+
+abbrev pub placeOf : RowWindow → (y : ℕ) → Place
+placeOf w y =
+    record { x0 = w .x0; planes = w .planes; y = y; «full_width» = w .«full_width»; «full_height» = w .«full_height» }
+
+abbrev pub frameOf : Place → Float → Frame
+frameOf g scale = record { scale = scale; fullWidth = g .«full_width»; fullHeight = g .«full_height» }

@@ -1,0 +1,85 @@
+// A list on one lent row: the row form as a caller knows it. Document 01, 'Taken and left' and 'What comes back'.
+use dng::Cursor;
+use dng::Entry;
+use dng::Opcode;
+use dng::RowAnswer;
+use dng::RowWindow;
+use dng::Step;
+use settles::RowPlan;
+use steps::Place;
+ghost use mathlib.Core.Path.{_≡_};
+ghost use mathlib.Core.Bool.{true};
+ghost use lib.ListN.{length};
+ghost use Rattle.points.specs.Points.{each};
+ghost use Rattle.dng.specs.List.{itemsOf, bodyOf};
+ghost use Rattle.dng.specs.Select.{onRow};
+ghost use Rattle.dng.specs.Value.{ruleOf};
+ghost use Rattle.dng.specs.Run.{rowOn};
+ghost use Rattle.dng.specs.Answer.{rowOut};
+ghost use Rattle.dng.specs.Bounds.{bounded, RowFits};
+ghost use Rattle.rows.specs.Rows.{RowRan, Narrow, placeOf, frameOf};
+
+// The row's place in the image. Its numbers are in range, so that none is cut.
+fn place_of(w: RowWindow, y: usize) -> Place
+    requires { ⌜ Narrow w y ⌝ }
+    ensures { λ r. ⌜ r ≡ placeOf w y ⌝ }
+{
+    Place {
+        x0: w.x0 as u32,
+        planes: w.planes as u32,
+        y: y as u32,
+        full_width: w.full_width as u32,
+        full_height: w.full_height as u32,
+    }
+}
+
+// One opcode of the list.
+fn perform_one(list: &[u8], row: &mut [f32], g: Place, e: Entry, op: Opcode, scale: f32)
+    requires { ⌜ RowFits (g .x0) (g .planes) (g .y) (length (now row)) × (bounded op ≡ true) ⌝ }
+    ensures { λ _.
+        ⌜ now (row .exit)
+        ≡ each
+        (onRow (g .x0) (g .planes) (g .y) (length (now (row .entry)))
+        (ruleOf (frameOf g scale) op (bodyOf (now (list .entry)) e)))
+        (now (row .entry)) ⌝ }
+{
+    let ready = steps::prepare(op, g.x0, g.full_width, g.full_height);
+    steps::row_step(&mut *row, g, op, ready, entries::body(list, e), scale);
+}
+
+// All opcodes, in list order.
+fn perform(list: &[u8], row: &mut [f32], g: Place, scale: f32)
+    requires { ⌜ RowFits (g .x0) (g .planes) (g .y) (length (now row)) ⌝ }
+    ensures { λ _.
+        ⌜ now (row .exit)
+        ≡ rowOn (frameOf g scale) (g .x0) (g .planes) (g .y) (now (list .entry)) (itemsOf (now (list .entry))) (now (row .entry)) ⌝ }
+{
+    let n = list::count(list);
+    let mut k: usize = 0;
+    let mut c = Cursor { at: 4 };
+    while k < n {
+        match list::step(list, c) {
+            Step::Item { entry, op, next } => {
+                perform_one(list, &mut *row, g, entry, op, scale);
+                c = next;
+                k += 1;
+            }
+            Step::Malformed => {
+                return;
+            }
+        }
+    }
+}
+
+// Runs a list on a row, the row y of the image, as the f32 run would: 1, 2 or 3 in this order leave the row as it is.
+pub fn run_row(list: &[u8], row: &mut [f32], w: RowWindow, y: usize, scale: f32) -> RowAnswer
+    ensures { λ r. ⌜ RowRan (rowOut w scale y (now (list .entry)) (now (row .entry))) r (now (row .exit)) ⌝ }
+{
+    match settles::settle_row(list, w, y, row.len()) {
+        RowPlan::Refuse { answer } => answer,
+        RowPlan::Go { skipped } => {
+            perform(list, &mut *row, place_of(w, y), scale);
+            RowAnswer::Done { skipped: skipped }
+        }
+    }
+}

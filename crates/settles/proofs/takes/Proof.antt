@@ -1,0 +1,17 @@
+-- `settles::takes` meets its contract, by the form. Assumes nothing.
+use Rattle.settles.proofs.Cases.{taken, taken-all}
+use borrow.Author.Needs.{needs}
+use Rattle.settles.proofs.takes.Statement.{statement}
+use Rattle.settles.proofs.takes.Tie as tie
+
+u16-exact-requires : tie.Need-u16-exact-requires
+u16-exact-requires c κs = search needs
+
+returns : tie.Need-returns
+returns c = taken _ (c .before .if1 .taken) (c .u16-exact .ensures)
+
+returns-2 : tie.Need-returns-2
+returns-2 c = taken-all _ (c .if1 .left)
+
+pub takes-spec : {M : Type 1} → statement M
+takes-spec = tie.close (tie.spec u16-exact-requires returns returns-2)
