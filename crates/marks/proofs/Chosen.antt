@@ -8,11 +8,11 @@ use native.Mathlib.Nat.{not-suc-le-zero, le-of-suc-le-suc, zero-add, add-zero, s
 use native.Mathlib.Omega.{arith}
 use borrow.Author.Tests.{eqb-true, eq-eqb}
 use lib.Dec.{leb, ltb, eqb}
-use lib.ListN.{length, length-append}
+use lib.ListN.{length, getD, take, length-append}
 use Rattle.dng.specs.Repair.{countBelow}
-use Rattle.marks.specs.Marks.{chosen}
-use Rattle.sorts.specs.Sorts.{alike, occ, has, Rises}
-use Rattle.sorts.proofs.Occ.{by-cases, below-or, equal-or, alike-self, alike-other, alike-is, has-true, has-false, some-has, none-has, has-same, rises-low, rises-less}
+use Rattle.marks.specs.Marks.{chosen, Holds}
+use Rattle.sorts.specs.Sorts.{alike, occ, has, Rises, Finds}
+use Rattle.sorts.proofs.Occ.{occ-at, by-cases, below-or, equal-or, alike-self, alike-other, alike-is, has-true, has-false, some-has, none-has, has-same, rises-low, rises-less}
 
 -- the two values of a test are apart
 pub both : {C : Type 0} {b : Bool} → b ≡ true → b ≡ false → C
@@ -159,3 +159,15 @@ pub too-many : (top : ℕ) (l : List ℕ) (p : ℕ) → Rises 0 l → ((q : ℕ)
 too-many top l p r f h e =
     rw (rises-count top l r f)
     (count-lt top (has l) (λ q. has l q || eqb q p) p h e (rw (e, eq-eqb p p refl) refl) (λ q k t. rw t refl))
+
+-- what stands at a place is marked
+pub chosen-at : (m : ℕ → Bool) (a n i : ℕ) → i < length (chosen m a n) → (getD (chosen m a n) i 0 < a + n) × (m (getD (chosen m a n) i 0) ≡ true)
+chosen-at m a n i h = chosen-in m a n (getD (chosen m a n) i 0) (occ-at (chosen m a n) i h)
+
+-- what `find` answers of a front that holds the marks
+pub found : (m : ℕ → Bool) (top : ℕ) (s : List ℕ) (n q : ℕ) (r : Bool) → n ≤ length s → take n s ≡ chosen m 0 top → q < top → Finds s n q r → r ≡ m q
+found m top s n q r h e l f =
+    f h (rw e (chosen-rises m 0 top)) ∙ ap (λ (x : List ℕ). has x q) e ∙ chosen-has m top q l
+
+pub found-held : (m : ℕ → Bool) (top : ℕ) (s s′ : List ℕ) (n q : ℕ) (r : Bool) → Holds top m s s′ n → length s′ ≡ length s → q < top → Finds s′ n q r → r ≡ m q
+found-held m top s s′ n q r h e l f = found m top s′ n q r (omega (arith, h .fits)) (h .front) l f

@@ -40,10 +40,13 @@ same-length-3 : tie.Need-same-length-3
 same-length-3 c = search needs
 
 -- src/lib.rt:74:1
+sub-if2 : tie.Need-sub-if2
+sub-if2 c = search needs
+
 returns-3 : tie.Need-returns-3
 returns-3 c =
     let at = c .before .before .before .before .before in
-    place-full _ _ _ _ (at .args .p) (at .pre .0) refl (c .if2 .left) (at .pre .1)
+    place-full _ _ _ _ (at .args .p) (at .pre .0) refl (omega (arith, c .if2 .left)) (at .pre .1)
     (sym (c .before .before .find .ensures (at .pre .0 .fits) (at .pre .0 .rises)) ∙ c .before .if1 .left)
 
 pub place-spec : {M : Type 1} → statement M
@@ -53,6 +56,7 @@ place-spec =
     find-requires
     same-length
     returns
+    sub-if2
     append-requires
     same-length-2
     returns-2
