@@ -1,8 +1,225 @@
 // The repairs over a window, f32 and u16: marks into the u32 scratch, new values into the f32 scratch, then the samples.
+ghost use mathlib.Core.Path.{_≡_};
+ghost use mathlib.Core.Bool.{true};
+ghost use Prim.Native.Nat.{_+_, _-_, _*_, _/_, _%_, _≤_, _<_};
+ghost use lib.Ieee.{nan, binary32};
+ghost use lib.ListN.{length, getD, take};
+ghost use Rattle.convert.specs.Convert.{wholeIn};
+ghost use Rattle.whole.specs.Whole.{roundHeld};
+ghost use Rattle.points.specs.Points.{each, between};
+ghost use Rattle.dng.specs.Repair.{complete, stepOf, repairAt};
+ghost use Rattle.means.specs.Looks.{Asks, marked};
+ghost use Rattle.repair.specs.Works.{
+    Ranges, Marking, mendable, countIn, mended, meanIn, meanAt, Filled, Settled
+};
+use dng::Window;
 
 // Done, with the positions repaired and left; or too little room for the marks (5) or for the new values (6), the samples unchanged.
 pub enum Fixed {
     Done { repaired: usize, left: usize },
     Marks,
     Values,
+}
+
+// A period of 0 counts as 1.
+fn step_of(period: usize) -> usize
+    ensures { λ r. ⌜ r ≡ stepOf period ⌝ }
+{
+    if period == 0 { 1 } else { period }
+}
+
+// Whether n samples hold the whole window. The last row needs its width, not its stride.
+fn full(n: usize, w: Window) -> bool
+    requires { ⌜ Ranges w ⌝ }
+    ensures { λ r. ⌜ r ≡ complete w n ⌝ }
+{
+    if w.width == 0 {
+        return false;
+    }
+    if w.stride < w.width {
+        return false;
+    }
+    if w.height == 0 {
+        return false;
+    }
+    ((w.height - 1) * w.stride + w.width) * w.planes <= n
+}
+
+// ---- the marks
+
+// Whether mark i has a sound neighbour.
+fn mends(marks: &[u32], n: usize, w: Window, step: usize, i: usize) -> bool
+    requires { ⌜ Marking (now marks) n w step × (i < n) ⌝ }
+    ensures { λ r. ⌜ r ≡ mendable w step (marked (now (marks .entry)) n) (getD (now (marks .entry)) i 0) ⌝ }
+{
+    let q = marks[i] as usize;
+    let near = means::sound_count(marks, n, w, step, q % w.width, q / w.width);
+    1 <= near
+}
+
+// How many of the n marks can be repaired. It depends on the marks only, so that room for the new values is tested before any is made.
+fn repairable(marks: &[u32], n: usize, w: Window, step: usize) -> usize
+    requires { ⌜ Marking (now marks) n w step ⌝ }
+    ensures { λ r. ⌜ r ≡ mended (now (marks .entry)) n w step ⌝ }
+{
+    let mut count = 0;
+    let mut i = 0;
+    while i < n {
+        if mends(marks, n, w, step, i) {
+            count += 1;
+            i += 1;
+        } else {
+            i += 1;
+        }
+    }
+    count
+}
+
+// ---- the new values, from the samples at the start
+
+// The means of position q, plane by plane, from `at` on.
+fn pixel_f32(
+    samples: &[f32],
+    marks: &[u32],
+    n: usize,
+    w: Window,
+    step: usize,
+    q: usize,
+    values: &mut [f32],
+    at: usize,
+)
+    requires {
+        ⌜ Asks (now marks) n w step (q % w .width) (q / w .width)
+            × ((complete w (length (now samples)) ≡ true) × (at + w .planes ≤ length (now values))) ⌝
+    }
+    ensures {
+        λ r.
+        ⌜ now (values .exit)
+            ≡ each (between at (at + w .planes)
+            (λ j v. meanAt nan (λ u. u) w step (marked (now (marks .entry)) n) (now (samples .entry)) q (j - at))) (now (values .entry)) ⌝
+    }
+{
+    let x = q % w.width;
+    let y = q / w.width;
+    let mut k = 0;
+    while k < w.planes {
+        values[at + k] = means::mean(means::sum_f32(samples, marks, n, w, step, x, y, k));
+        k += 1;
+    }
+}
+
+// The same of u16 samples.
+fn pixel_u16(
+    samples: &[u16],
+    marks: &[u32],
+    n: usize,
+    w: Window,
+    step: usize,
+    q: usize,
+    values: &mut [f32],
+    at: usize,
+)
+    requires {
+        ⌜ Asks (now marks) n w step (q % w .width) (q / w .width)
+            × ((complete w (length (now samples)) ≡ true) × (at + w .planes ≤ length (now values))) ⌝
+    }
+    ensures {
+        λ r.
+        ⌜ now (values .exit)
+            ≡ each (between at (at + w .planes)
+            (λ j v. meanAt 0 (λ u. wholeIn binary32 u) w step (marked (now (marks .entry)) n) (now (samples .entry)) q (j - at)))
+            (now (values .entry)) ⌝
+    }
+{
+    let x = q % w.width;
+    let y = q / w.width;
+    let mut k = 0;
+    while k < w.planes {
+        values[at + k] = means::mean(means::sum_u16(samples, marks, n, w, step, x, y, k));
+        k += 1;
+    }
+}
+
+// The new values of every mark that is repaired, one behind another, from the samples as they are at the start.
+fn fill_f32(samples: &[f32], marks: &[u32], n: usize, w: Window, step: usize, values: &mut [f32])
+    requires {
+        ⌜ Marking (now marks) n w step
+            × ((complete w (length (now samples)) ≡ true) × (w .planes * mended (now marks) n w step ≤ length (now values))) ⌝
+    }
+    ensures {
+        λ r.
+        ⌜ Filled (w .planes) n (mendable w step (marked (now (marks .entry)) n))
+            (meanAt nan (λ u. u) w step (marked (now (marks .entry)) n) (now (samples .entry))) (now (marks .entry)) (now (values .exit)) ⌝
+    }
+{
+    let mut at = 0;
+    let mut i = 0;
+    while i < n {
+        if mends(marks, n, w, step, i) {
+            pixel_f32(samples, marks, n, w, step, marks[i] as usize, values, at);
+            at += w.planes;
+            i += 1;
+        } else {
+            i += 1;
+        }
+    }
+}
+
+// The same of u16 samples.
+fn fill_u16(samples: &[u16], marks: &[u32], n: usize, w: Window, step: usize, values: &mut [f32])
+    requires {
+        ⌜ Marking (now marks) n w step
+            × ((complete w (length (now samples)) ≡ true) × (w .planes * mended (now marks) n w step ≤ length (now values))) ⌝
+    }
+    ensures {
+        λ r.
+        ⌜ Filled (w .planes) n (mendable w step (marked (now (marks .entry)) n))
+            (meanAt 0 (λ u. wholeIn binary32 u) w step (marked (now (marks .entry)) n) (now (samples .entry))) (now (marks .entry)) (now (values .exit)) ⌝
+    }
+{
+    let mut at = 0;
+    let mut i = 0;
+    while i < n {
+        if mends(marks, n, w, step, i) {
+            pixel_u16(samples, marks, n, w, step, marks[i] as usize, values, at);
+            at += w.planes;
+            i += 1;
+        } else {
+            i += 1;
+        }
+    }
+}
+
+// ---- the samples
+
+// A pixel's new values into its samples.
+fn put_f32(samples: &mut [f32], from: usize, planes: usize, values: &[f32], at: usize)
+    requires { ⌜ (from + planes ≤ length (now samples)) × (at + planes ≤ length (now values)) ⌝ }
+    ensures {
+        λ r.
+        ⌜ now (samples .exit)
+            ≡ each (between from (from + planes) (λ j v. getD (now (values .entry)) (at + (j - from)) nan)) (now (samples .entry)) ⌝
+    }
+{
+    let mut k = 0;
+    while k < planes {
+        samples[from + k] = values[at + k];
+        k += 1;
+    }
+}
+
+// The same, rounded to whole and held to 0..65535.
+fn put_u16(samples: &mut [u16], from: usize, planes: usize, values: &[f32], at: usize)
+    requires { ⌜ (from + planes ≤ length (now samples)) × (at + planes ≤ length (now values)) ⌝ }
+    ensures {
+        λ r.
+        ⌜ now (samples .exit)
+            ≡ each (between from (from + planes) (λ j v. roundHeld 65535 (getD (now (values .entry)) (at + (j - from)) nan))) (now (samples .entry)) ⌝
+    }
+{
+    let mut k = 0;
+    while k < planes {
+        samples[from + k] = whole::round_u16(values[at + k]);
+        k += 1;
+    }
 }
