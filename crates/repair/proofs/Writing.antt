@@ -29,33 +29,37 @@ use Rattle.repair.proofs.Filling.{next-yes, next-no}
 
 -- ---- one pixel, plane by plane
 
-module _ {A : Type 0} (d : A) (keep : Float → A) (p : ℕ) (s₀ : List A) (from : ℕ) (values : List Float) (at : ℕ) where
-  -- the value of a place
-  abbrev pub kept : ℕ → A → A
-  kept j v = keep (getD values (at + (j - from)) nan)
+module _ {A : Type 0} where
+  -- the value that a place takes
+  abbrev pub kept : (Float → A) → (from : ℕ) → List Float → (at : ℕ) → ℕ → A → A
+  kept keep from values at j v = keep (getD values (at + (j - from)) nan)
 
-  pub record Putting (s : List A) (k : ℕ) : Type 0 where
+  pub record Putting (keep : Float → A) (p : ℕ) (s₀ : List A) (from : ℕ) (values : List Float) (at : ℕ) (s : List A) (k : ℕ) : Type 0 where
     pub within : k ≤ p
     pub same : length s ≡ length s₀
-    pub done : s ≡ each (between from (from + k) kept) s₀
+    pub done : s ≡ each (between from (from + k) (kept keep from values at)) s₀
 
-  pub put-start : Putting s₀ 0
-  put-start = record { within = omega arith; same = refl; done = sym (each-between-empty from (from + 0) kept s₀ (omega arith)) }
+  module _ (keep : Float → A) (p : ℕ) (s₀ : List A) (from : ℕ) (values : List Float) (at : ℕ) where
+    pub put-start : Putting keep p s₀ from values at s₀ 0
+    put-start =
+        record { within = omega arith; same = refl; done = sym (each-between-empty from (from + 0) (kept keep from values at) s₀ (omega arith)) }
 
-  pub put-next : (s : List A) (k : ℕ) (v : A) → Putting s k → k < p → from + p ≤ length s₀ → v ≡ keep (getD values (at + k) nan)
-      → Putting (set s (from + k) v) (k + 1)
-  put-next s k v h l r e =
-      record {
-        within = omega arith;
-        same = length-set s (from + k) v ∙ h .same;
-        done =
-            store d kept from (from + k) s₀ s v (h .done) (e ∙ ap (λ (m : ℕ). keep (getD values (at + m) nan)) (sym (add-sub-cancel-left from k)))
-            (omega arith) (omega arith)
-            ∙ ap (λ (m : ℕ). each (between from m kept) s₀) (add-assoc from k 1);
-      }
+    pub put-next : (s : List A) (k : ℕ) (v : A) → Putting keep p s₀ from values at s k → k < p → from + p ≤ length s₀ → v ≡ keep (getD values (at + k) nan)
+        → Putting keep p s₀ from values at (set s (from + k) v) (k + 1)
+    put-next s k v h l r e =
+        record {
+          within = omega arith;
+          same = length-set s (from + k) v ∙ h .same;
+          done =
+              store v (kept keep from values at) from (from + k) s₀ s v (h .done)
+              (e ∙ ap (λ (m : ℕ). keep (getD values (at + m) nan)) (sym (add-sub-cancel-left from k))) (omega arith) (omega arith)
+              ∙ ap (λ (m : ℕ). each (between from m (kept keep from values at)) s₀) (add-assoc from k 1);
+        }
 
-  pub put-end : (s : List A) (k : ℕ) → Putting s k → p ≤ k → s ≡ each (between from (from + p) kept) s₀
-  put-end s k h l = let e : k ≡ p = omega (arith, h .within) in h .done ∙ ap (λ (m : ℕ). each (between from (from + m) kept) s₀) e
+    pub put-end : (s : List A) (k : ℕ) → Putting keep p s₀ from values at s k → p ≤ k → s ≡ each (between from (from + p) (kept keep from values at)) s₀
+    put-end s k h l =
+        let e : k ≡ p = omega (arith, h .within) in
+        h .done ∙ ap (λ (m : ℕ). each (between from (from + m) (kept keep from values at)) s₀) e
 
 -- ---- the positions that are done
 
