@@ -203,6 +203,20 @@ module _ {A : Type 0} (w : Window) (n : ℕ) (test : ℕ → Bool) (value : ℕ 
         b : ℕ
         b = pixelOf w (getD marks i 0)
 
+    -- the same where the values are read from the scratch
+    pub write-put : (s′ : List A) (keep : Float → A) (mean : ℕ → ℕ → ℕ → Float) (from : ℕ) (values : List Float) → Fits w → getD marks i 0 < positions w
+        → test (getD marks i 0) ≡ true → value ≡ (λ x y k. keep (mean x y k))
+        → Filled (w .planes) n test (λ q k. mean (q % w .width) (q / w .width) k) marks values
+        → from ≡ pixelOf w (getD marks i 0) → s′ ≡ each (between from (from + w .planes) (kept keep from values at)) s
+        → Written w n test value marks s₀ s′ (at + w .planes) (i + 1)
+    write-put s′ keep mean from values fits m t v filled e d =
+        write-yes s′ (kept keep from values at) fits m t
+        (λ k u l.
+            let back : at + (pixelOf w (getD marks i 0) + k - from) ≡ w .planes * countIn test (take i marks) + k = omega (arith, f .next) in
+            ap (λ (j : ℕ). keep (getD values j nan)) back ∙ ap keep (filled i h t k l)
+            ∙ ap (λ (g : ℕ → ℕ → ℕ → A). g (getD marks i 0 % w .width) (getD marks i 0 / w .width) k) (sym v))
+        (d ∙ ap (λ (b : ℕ). each (between b (b + w .planes) (kept keep from values at)) s) e)
+
   pub write-end : (s : List A) (at i : ℕ) → Written w n test value marks s₀ s at i → n ≤ i → s ≡ each (partAt w (among test marks n) value) s₀
   write-end s at i f h =
       let e : i ≡ n = omega (arith, f .within) in
@@ -226,8 +240,8 @@ module _ {A : Type 0} (d : A) (toFloat : A → Float) (keep : Float → A) (w : 
       (ap (leb 1) (sym (tally-count (w .width) (w .height) step bad (λ xx yy. toFloat (sampleAt d w s xx yy (planeOf w j))) (columnOf w j) (rowOf w j))))
 
   either : (n : ℕ) (a b : A) → cond (leb 1 n) a b ≡ cond (eqb n 0) b a
-  either zero a b = refl
-  either (suc n) a b = refl
+  either n a b =
+      equal-or n 0 (λ e. rw (lt-leb 1 n (omega arith), eq-eqb n 0 e) refl) (λ e. rw (le-leb 1 n (omega arith), ne-eqb n 0 e) refl)
 
   mend-mean : (j : ℕ) (v : A) → inWindow w j ≡ true
       → cond (mendable w step bad (rowOf w j * w .width + columnOf w j)) (keep (meanOf (tallyOf j))) v ≡ cond (eqb (tallyOf j .n) 0) v (keep (meanOf (tallyOf j)))
@@ -241,3 +255,13 @@ module _ {A : Type 0} (d : A) (toFloat : A → Float) (keep : Float → A) (w : 
       (by-cases (inWindow w j)
       (λ e. by-cases (bad (rowOf w j * w .width + columnOf w j)) (λ b. rw (e, b) (mend-mean j v e)) (λ b. rw (e, b) refl))
       (λ e. rw e refl))
+
+  pub write-repair : (marks : List ℕ) (n : ℕ) (s′ : List A) (at i : ℕ) → bad ≡ marked marks n → 1 ≤ step
+      → Written w n (mendable w step bad) newAt marks s s′ at i → n ≤ i → s′ ≡ each (repairAt d toFloat keep w step bad s) s
+  write-repair marks n s′ at i e low f h =
+      write-end w n (mendable w step bad) newAt marks s s′ at i f h
+      ∙ each-agree (partAt w (among (mendable w step bad) marks n) newAt) (repairAt d toFloat keep w step bad s) s
+      (λ j v l.
+          part-ext w (among (mendable w step bad) marks n) (λ q. bad q && mendable w step bad q) newAt
+          (λ q m. ap (λ (g : ℕ → Bool). g q && mendable w step bad q) (sym e)) j v
+          ∙ part-repair low j v)

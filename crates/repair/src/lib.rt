@@ -7,10 +7,11 @@ ghost use lib.ListN.{length, getD, take};
 ghost use Rattle.convert.specs.Convert.{wholeIn};
 ghost use Rattle.whole.specs.Whole.{roundHeld};
 ghost use Rattle.points.specs.Points.{each, between};
-ghost use Rattle.dng.specs.Repair.{complete, stepOf, repairAt};
+ghost use Rattle.dng.specs.Repair.{complete, positions, stepOf, repairAt};
+ghost use Rattle.marks.specs.Marks.{Fits};
 ghost use Rattle.means.specs.Looks.{Asks, marked};
 ghost use Rattle.repair.specs.Works.{
-    Ranges, Marking, mendable, countIn, mended, meanIn, meanAt, Filled, Settled
+    Ranges, Marking, mendable, mended, pixelOf, meanAt, Filled, Settled
 };
 use dng::Window;
 
@@ -192,6 +193,14 @@ fn fill_u16(samples: &[u16], marks: &[u32], n: usize, w: Window, step: usize, va
 
 // ---- the samples
 
+// Where the samples of position q start.
+fn first(w: Window, q: usize) -> usize
+    requires { ⌜ Fits w × (q < positions w) ⌝ }
+    ensures { λ r. ⌜ r ≡ pixelOf w q ⌝ }
+{
+    scan::place(w, q % w.width, q / w.width, 0)
+}
+
 // A pixel's new values into its samples.
 fn put_f32(samples: &mut [f32], from: usize, planes: usize, values: &[f32], at: usize)
     requires { ⌜ (from + planes ≤ length (now samples)) × (at + planes ≤ length (now values)) ⌝ }
@@ -221,5 +230,108 @@ fn put_u16(samples: &mut [u16], from: usize, planes: usize, values: &[f32], at: 
     while k < planes {
         samples[from + k] = whole::round_u16(values[at + k]);
         k += 1;
+    }
+}
+
+// The values of every mark that is repaired into the samples.
+fn write_f32(samples: &mut [f32], marks: &[u32], n: usize, w: Window, step: usize, values: &[f32])
+    requires {
+        ⌜ Marking (now marks) n w step
+            × ((complete w (length (now samples)) ≡ true) × ((w .planes * mended (now marks) n w step ≤ length (now values))
+            × Filled (w .planes) n (mendable w step (marked (now marks) n))
+            (meanAt nan (λ u. u) w step (marked (now marks) n) (now samples)) (now marks) (now values))) ⌝
+    }
+    ensures {
+        λ r.
+        ⌜ now (samples .exit)
+            ≡ each (repairAt nan (λ u. u) (λ u. u) w step (marked (now (marks .entry)) n) (now (samples .entry))) (now (samples .entry)) ⌝
+    }
+{
+    let mut at = 0;
+    let mut i = 0;
+    while i < n {
+        if mends(marks, n, w, step, i) {
+            let from = first(w, marks[i] as usize);
+            put_f32(samples, from, w.planes, values, at);
+            at += w.planes;
+            i += 1;
+        } else {
+            i += 1;
+        }
+    }
+}
+
+// The same of u16 samples.
+fn write_u16(samples: &mut [u16], marks: &[u32], n: usize, w: Window, step: usize, values: &[f32])
+    requires {
+        ⌜ Marking (now marks) n w step
+            × ((complete w (length (now samples)) ≡ true) × ((w .planes * mended (now marks) n w step ≤ length (now values))
+            × Filled (w .planes) n (mendable w step (marked (now marks) n))
+            (meanAt 0 (λ u. wholeIn binary32 u) w step (marked (now marks) n) (now samples)) (now marks) (now values))) ⌝
+    }
+    ensures {
+        λ r.
+        ⌜ now (samples .exit)
+            ≡ each (repairAt 0 (λ u. wholeIn binary32 u) (λ u. roundHeld 65535 u) w step (marked (now (marks .entry)) n) (now (samples .entry)))
+            (now (samples .entry)) ⌝
+    }
+{
+    let mut at = 0;
+    let mut i = 0;
+    while i < n {
+        if mends(marks, n, w, step, i) {
+            let from = first(w, marks[i] as usize);
+            put_u16(samples, from, w.planes, values, at);
+            at += w.planes;
+            i += 1;
+        } else {
+            i += 1;
+        }
+    }
+}
+
+// ---- the repair, its marks at the front of the scratch
+
+// Room for the new values first; with too little of it nothing is written.
+fn settle_f32(samples: &mut [f32], marks: &[u32], n: usize, w: Window, step: usize, values: &mut [f32]) -> Fixed
+    requires { ⌜ Marking (now marks) n w step × (complete w (length (now samples)) ≡ true) ⌝ }
+    ensures {
+        λ r.
+        ⌜ Settled (now (samples .entry)) (now (samples .exit))
+            (each (repairAt nan (λ u. u) (λ u. u) w step (marked (now (marks .entry)) n) (now (samples .entry))) (now (samples .entry)))
+            (w .planes) (length (now (values .entry))) n (mended (now (marks .entry)) n w step) r ⌝
+    }
+{
+    let repaired = repairable(marks, n, w, step);
+    if values.len() < w.planes * repaired {
+        return Fixed::Values;
+    }
+    fill_f32(samples, marks, n, w, step, values);
+    write_f32(samples, marks, n, w, step, values);
+    Fixed::Done {
+        repaired,
+        left: n - repaired,
+    }
+}
+
+// The same of u16 samples.
+fn settle_u16(samples: &mut [u16], marks: &[u32], n: usize, w: Window, step: usize, values: &mut [f32]) -> Fixed
+    requires { ⌜ Marking (now marks) n w step × (complete w (length (now samples)) ≡ true) ⌝ }
+    ensures {
+        λ r.
+        ⌜ Settled (now (samples .entry)) (now (samples .exit))
+            (each (repairAt 0 (λ u. wholeIn binary32 u) (λ u. roundHeld 65535 u) w step (marked (now (marks .entry)) n) (now (samples .entry)))
+            (now (samples .entry))) (w .planes) (length (now (values .entry))) n (mended (now (marks .entry)) n w step) r ⌝
+    }
+{
+    let repaired = repairable(marks, n, w, step);
+    if values.len() < w.planes * repaired {
+        return Fixed::Values;
+    }
+    fill_u16(samples, marks, n, w, step, values);
+    write_u16(samples, marks, n, w, step, values);
+    Fixed::Done {
+        repaired,
+        left: n - repaired,
     }
 }
