@@ -1,13 +1,12 @@
 -- Tallies, over any value of a position: how many a tally counts depends on the marks only, and a tally looks at unmarked positions of
 -- the window and at nothing else. Assumes nothing.
 use Prim.Native.Nat.{ℕ, _+_, _*_, _≤_, _<_}
-use mathlib.Core.Path.{_≡_, refl, sym, ap, ap₂, subst, _∙_}
+use mathlib.Core.Path.{_≡_, refl, sym, ap, ap₂, _∙_}
 use mathlib.Core.Bool.{Bool, true, false, not, _&&_, cond}
 use mathlib.Core.List.{List, [], _∷_}
-use native.Mathlib.Nat.{mul-comm, add-zero}
+use native.Mathlib.Nat.{add-zero}
 use native.Mathlib.Omega.{arith}
 use borrow.Author.Tests.{ltb-true}
-use lib.Arith.{digits-lt}
 use lib.Dec.{ltb}
 use lib.IntN.{ℤ}
 use lib.Ieee.{Float, binary32, add}
@@ -15,6 +14,7 @@ use lib.ListN.{length}
 use Rattle.dng.specs.declared.Window.{Window}
 use Rattle.dng.specs.Repair.{Tally, positions, steps, moved, sound, tallyOn, tallyAt, soundOn}
 use Rattle.dng.specs.Value.{nought}
+use Rattle.scan.proofs.Places.{position-in}
 
 -- one neighbour more
 abbrev pub more : (ℕ → ℕ → Float) → Tally → ℕ → ℕ → Tally
@@ -75,7 +75,8 @@ sound-le : (width height period : ℕ) (bad : ℕ → Bool) (x y : ℕ) (d : ℤ
 sound-le width height period bad x y d =
     sound-any width height period bad x y d (λ (k : ℕ). k ≤ 1) (λ xx yy. 1) 0 (λ xx yy h k. omega arith) (omega arith)
 
-pub sound-few : (width height period : ℕ) (bad : ℕ → Bool) (x y : ℕ) (ds : List (ℤ × ℤ)) → soundOn width height period bad x y ds ≤ length ds
+pub sound-few : (width height period : ℕ) (bad : ℕ → Bool) (x y : ℕ) (ds : List (ℤ × ℤ))
+    → soundOn width height period bad x y ds ≤ length ds
 unfolding soundOn
 sound-few width height period bad x y [] = omega arith
 sound-few width height period bad x y (d ∷ ds) =
@@ -88,9 +89,6 @@ tally-few width height period bad value x y =
     omega (arith, tally-count width height period bad value x y, sound-few width height period bad x y steps)
 
 -- ---- marks that agree below the number of positions, and values that agree at unmarked positions of the window
-
-pub position-in : (w : Window) (x y : ℕ) → x < w .width → y < w .height → y * w .width + x < positions w
-position-in w x y h k = subst (λ (n : ℕ). y * w .width + x < n) (mul-comm (w .height) (w .width)) (digits-lt k h)
 
 module _ (w : Window) (period : ℕ) (bad bad′ : ℕ → Bool) (same : (q : ℕ) → q < positions w → bad q ≡ bad′ q) (x y : ℕ) where
   pub sound-ext : {B : Type 0} (d : ℤ × ℤ) (f g : ℕ → ℕ → B) (t : B)

@@ -2,64 +2,28 @@
 -- Assumes nothing.
 use Prim.Native.Nat.{ℕ, zero, suc, _+_, _-_, _*_, _≤_, _<_}
 use mathlib.Core.Path.{_≡_, refl, sym, ap, subst, _∙_}
-use mathlib.Core.Bool.{Bool, true, false, not, _&&_, cond, false≢true}
+use mathlib.Core.Bool.{Bool, true, false, not, _&&_, cond}
 use mathlib.Core.List.{List, [], _∷_, map}
-use native.Mathlib.Nat.{not-suc-le-zero, le-of-suc-le-suc, le-trans, lt-of-lt-of-le, mul-le-mul-left, mul-le-mul-right}
+use native.Mathlib.Nat.{not-suc-le-zero, le-of-suc-le-suc}
 use native.Mathlib.Numerals.{add-one}
 use native.Mathlib.Omega.{arith}
-use borrow.Author.Tests.{lt-ltb, le-ltb, ltb-true, leb-true}
-use lib.Arith.{digits-lt}
+use borrow.Author.Tests.{lt-ltb, le-ltb, ltb-true}
 use lib.Dec.{leb, ltb, eqb}
 use lib.IntN.{ℤ, pos, negsuc}
 use lib.Ieee.{Float, binary32, add}
 use lib.ListN.{length, getD, drop, List·getD-map}
 use lib.Seq.{drop-cons}
 use Rattle.dng.specs.declared.Window.{Window}
-use Rattle.dng.specs.Select.{active}
-use Rattle.marks.specs.Marks.{Fits}
-use Rattle.dng.specs.Repair.{Tally, complete, steps, moved, sound, tallyOn, tallyAt, soundOn}
+use Rattle.dng.specs.Repair.{Tally, steps, moved, sound, tallyOn, tallyAt, soundOn}
 use Rattle.dng.specs.Value.{nought}
 use Rattle.means.specs.declared.Step.{Step}
 use Rattle.means.specs.declared.Neighbour.{Neighbour}
 use Rattle.means.specs.declared.Neighbour.the-variants as N
 use Rattle.means.specs.Looks.{pairOf, oneStep, openAt, soundOf}
 use Rattle.means.proofs.Tallies.{sound-ap}
-
--- ---- Boolean cases
-
-pub and-first : (a b : Bool) → (a && b) ≡ true → a ≡ true
-and-first true b e = refl
-and-first false b e = e
-
-pub and-second : (a b : Bool) → (a && b) ≡ true → b ≡ true
-and-second true b e = e
-and-second false b e = absurd (false≢true e)
+use Rattle.scan.proofs.Places.{and-first, and-second}
 
 -- ---- one position
-
--- a position of a window in range is a number of 32 bits
-pub position-fits : (width height x y : ℕ) → width ≤ 65536 → height ≤ 65536 → x < width → y < height → y * width + x < 4294967296
-position-fits width height x y h k p q =
-    lt-of-lt-of-le (digits-lt {q = y} {m = height} q p) (le-trans (mul-le-mul-right width k) (mul-le-mul-left 65536 h))
-
--- and where its sample lies, one of 64
-pub place-fits : (w : Window) (x y plane : ℕ) → Fits w → x < w .width → y < w .height → plane < w .planes
-    → (y * w .stride + x < 4294967296) × ((y * w .stride + x) * w .planes + plane < 34359738368)
-place-fits w x y plane f p q r = (pixel, lt-of-lt-of-le (digits-lt {m = 4294967296} pixel r) (mul-le-mul-left 4294967296 (f .planes)))
-  where
-    pixel : y * w .stride + x < 4294967296
-    pixel = position-fits (w .stride) (w .height) x y (f .stride) (f .height) (omega (arith, f .strided)) q
-
--- a place of a complete window is among its samples
-pub place-in : (w : Window) (n x y k : ℕ) → complete w n ≡ true → x < w .width → y < w .height → k < w .planes
-    → (y * w .stride + x) * w .planes + k < n
-unfolding complete
-place-in w n x y k e h p q =
-    let row : y * w .stride ≤ (w .height - 1) * w .stride = mul-le-mul-right (w .stride) (omega arith) in
-    let pixels : ℕ = (w .height - 1) * w .stride + w .width in
-    let full : pixels * w .planes ≤ n =
-    leb-true (pixels * w .planes) n (and-second (leb 1 (w .height)) (leb (pixels * w .planes) n) (and-second (active w) _ e)) in
-    lt-of-lt-of-le (digits-lt {q = y * w .stride + x} {m = pixels} (omega arith) q) full
 
 module _ (width height : ℕ) (bad : ℕ → Bool) (x y : ℕ) where
   pub open-right : width ≤ x → N.Missing ≡ openAt width height bad x y
@@ -95,22 +59,31 @@ module _ (width height : ℕ) (bad : ℕ → Bool) (x y : ℕ) where
 
 -- ---- one step
 
+-- the sound neighbour one step away, in a window
+abbrev pub nearBy : Window → (period : ℕ) → (ℕ → Bool) → (x y : ℕ) → ℤ × ℤ → Neighbour
+nearBy w period bad x y d = soundOf (w .width) (w .height) period bad x y d
+
 -- what is open one step away is the sound neighbour
-pub step-is : (width height period : ℕ) (bad : ℕ → Bool) (x y xx yy : ℕ) (d : ℤ × ℤ) → xx ≡ moved x (d .0) period width → yy ≡ moved y (d .1) period height
-    → openAt width height bad xx yy ≡ soundOf width height period bad x y d
+pub step-is : (w : Window) (period : ℕ) (bad : ℕ → Bool) (x y xx yy : ℕ) (d : ℤ × ℤ)
+    → xx ≡ moved x (d .0) period (w .width) → yy ≡ moved y (d .1) period (w .height)
+    → openAt (w .width) (w .height) bad xx yy ≡ nearBy w period bad x y d
 unfolding openAt soundOf sound
-step-is width height period bad x y xx yy d e f = rw (e, f) refl
+step-is w period bad x y xx yy d e f = rw (e, f) refl
 
 -- and lies in the window
-pub step-in : (width height period : ℕ) (bad : ℕ → Bool) (x y xx yy : ℕ) (d : ℤ × ℤ) → N.At xx yy ≡ soundOf width height period bad x y d
-    → (xx < width) × (yy < height)
-step-in width height period bad x y xx yy d e =
-    open-in width height bad (moved x (d .0) period width) (moved y (d .1) period height) xx yy
-    (step-is width height period bad x y _ _ d refl refl ∙ sym e)
+pub step-in : (w : Window) (period : ℕ) (bad : ℕ → Bool) (x y : ℕ) (d : ℤ × ℤ) {r : Neighbour} {xx yy : ℕ} → r ≡ nearBy w period bad x y d
+    → r ≡ N.At xx yy → (xx < w .width) × (yy < w .height)
+step-in w period bad x y d {r} {xx} {yy} e f =
+    open-in (w .width) (w .height) bad (moved x (d .0) period (w .width)) (moved y (d .1) period (w .height)) xx yy
+    (step-is w period bad x y _ _ d refl refl ∙ sym e ∙ f)
 
 -- what stands past the last step, and is not looked at
 abbrev pub stay : Step
 stay = record { dx = pos 0; dy = pos 0 }
+
+-- step i of the code's array
+abbrev pub stepOn : List Step → ℕ → ℤ × ℤ
+stepOn all i = pairOf (getD all i stay)
 
 unfoldable allOf : {A : Type 0} → (A → Bool) → List A → Bool
 allOf good [] = true
@@ -119,137 +92,123 @@ allOf good (a ∷ l) = good a && allOf good l
 abbrev single : ℤ × ℤ → Bool
 single d = oneStep (d .0) && oneStep (d .1)
 
--- every step is back, none or on, in both coordinates
 each : {A : Type 0} (good : A → Bool) (l : List A) (i : ℕ) (o : A) → allOf good l ≡ true → i < length l → good (getD l i o) ≡ true
 unfolding allOf
 each good [] i o e h = absurd (not-suc-le-zero h)
 each good (a ∷ l) zero o e h = and-first (good a) (allOf good l) e
 each good (a ∷ l) (suc i) o e h = each good l i o (and-second (good a) (allOf good l) e) (le-of-suc-le-suc h)
 
-pub step-at : (all : List Step) (i : ℕ) → map pairOf all ≡ steps → pairOf (getD all i stay) ≡ getD steps i (pairOf stay)
+pub step-at : (all : List Step) (i : ℕ) → map pairOf all ≡ steps → stepOn all i ≡ getD steps i (pairOf stay)
 step-at all i e = sym (List·getD-map pairOf all i stay) ∙ ap (λ (l : List (ℤ × ℤ)). getD l i (pairOf stay)) e
 
+-- every step is back, none or on, in both coordinates
 pub step-one : (all : List Step) (i : ℕ) → map pairOf all ≡ steps → i < 8
-    → (oneStep (getD all i stay .dx) ≡ true) × (oneStep (getD all i stay .dy) ≡ true)
+    → (oneStep (stepOn all i .0) ≡ true) × (oneStep (stepOn all i .1) ≡ true)
 unfolding allOf
 step-one all i e h =
-    (and-first (oneStep (getD all i stay .dx)) (oneStep (getD all i stay .dy)) good,
-    and-second (oneStep (getD all i stay .dx)) (oneStep (getD all i stay .dy)) good)
+    let x : Bool = oneStep (stepOn all i .0) in
+    let y : Bool = oneStep (stepOn all i .1) in
+    (and-first x y good, and-second x y good)
   where
-    good : single (pairOf (getD all i stay)) ≡ true
+    good : single (stepOn all i) ≡ true
     good = ap single (step-at all i e) ∙ each single steps i (pairOf stay) (unfold oneStep in refl) h
 
--- ---- the tally
-
--- one value more
-abbrev grown : Float → ℕ → Float → Tally
-grown sum n v = record { sum = add binary32 sum v; n = n + 1 }
-
--- what is left from step i on makes the tally whole
-pub record Walked (width height period : ℕ) (bad : ℕ → Bool) (value : ℕ → ℕ → Float) (x y i : ℕ) (sum : Float) (n : ℕ) : Type 0 where
-  pub within : i ≤ 8
-  pub few : n ≤ i
-  pub left : tallyOn width height period bad value x y (drop i steps) (record { sum = sum; n = n })
-      ≡ tallyAt width height period bad value x y
-
 -- the sound neighbour, as any answer that is made of it
-abbrev pub pick : {B : Type 0} → Neighbour → (ℕ → ℕ → B) → B → B
+abbrev pick : {B : Type 0} → Neighbour → (ℕ → ℕ → B) → B → B
 pick (N.At x y) f t = f x y
 pick N.Missing f t = t
 
-pub sound-pick : {B : Type 0} (width height period : ℕ) (bad : ℕ → Bool) (x y : ℕ) (d : ℤ × ℤ) (f : ℕ → ℕ → B) (t : B)
+sound-pick : {B : Type 0} (width height period : ℕ) (bad : ℕ → Bool) (x y : ℕ) (d : ℤ × ℤ) (f : ℕ → ℕ → B) (t : B)
     → sound width height period bad x y d f t ≡ pick (soundOf width height period bad x y d) f t
 unfolding soundOf
 sound-pick width height period bad x y d f t =
     sym (sound-ap width height period bad x y d (λ (r : Neighbour). pick r f t) (λ xx yy. N.At xx yy) N.Missing)
 
-module _ (width height period : ℕ) (bad : ℕ → Bool) (value : ℕ → ℕ → Float) (x y : ℕ) where
-  pub walk-start : Walked width height period bad value x y 0 nought 0
-  walk-start = record { within = omega arith; few = omega arith; left = refl }
+-- ---- the tally
 
+-- step i and those after it, from t on
+abbrev pub onward : Window → (period : ℕ) → (ℕ → Bool) → (ℕ → ℕ → Float) → (x y i : ℕ) → Tally → Tally
+onward w period bad value x y i t = tallyOn (w .width) (w .height) period bad value x y (drop i steps) t
+
+-- one value more
+abbrev pub grown : Tally → Float → Tally
+grown t v = record { sum = add binary32 (t .sum) v; n = t .n + 1 }
+
+-- i steps are made: with those that are left the tally is whole
+pub record Walked (w : Window) (period : ℕ) (bad : ℕ → Bool) (value : ℕ → ℕ → Float) (x y i : ℕ) (t : Tally) : Type 0 where
+  pub within : i ≤ 8
+  pub few : t .n ≤ i
+  pub left : onward w period bad value x y i t ≡ tallyAt (w .width) (w .height) period bad value x y
+
+pub walk-start : (w : Window) (period : ℕ) (bad : ℕ → Bool) (value : ℕ → ℕ → Float) (x y : ℕ)
+    → Walked w period bad value x y 0 (record { sum = nought; n = 0 })
+walk-start w period bad value x y = record { within = omega arith; few = omega arith; left = refl }
+
+module _ {w : Window} {period : ℕ} {bad : ℕ → Bool} {value : ℕ → ℕ → Float} {x y i : ℕ} {t : Tally}
+    (k : Walked w period bad value x y i t) where
   -- one step of the tally
-  next : (all : List Step) (i : ℕ) (t : Tally) → map pairOf all ≡ steps → i < 8
-      → tallyOn width height period bad value x y (drop i steps) t
-      ≡ tallyOn width height period bad value x y (drop (i + 1) steps)
-      (pick (soundOf width height period bad x y (pairOf (getD all i stay))) (λ xx yy. grown (t .sum) (t .n) (value xx yy)) t)
+  next : (all : List Step) → map pairOf all ≡ steps → i < 8
+      → onward w period bad value x y i t
+      ≡ onward w period bad value x y (i + 1) (pick (nearBy w period bad x y (stepOn all i)) (λ xx yy. grown t (value xx yy)) t)
   unfolding tallyOn
-  next all i t e h = rw (add-one, drop-cons steps i (pairOf stay) h, sound-pick, step-at all i e) refl
+  next all e h = rw (add-one, drop-cons steps i (pairOf stay) h, sound-pick, step-at all i e) refl
 
-  pub walk-at : (all : List Step) (i : ℕ) (sum v : Float) (n xx yy : ℕ) → Walked width height period bad value x y i sum n → map pairOf all ≡ steps
-      → i < 8 → N.At xx yy ≡ soundOf width height period bad x y (pairOf (getD all i stay)) → v ≡ value xx yy
-      → Walked width height period bad value x y (i + 1) (add binary32 sum v) (n + 1)
-  walk-at all i sum v n xx yy w e h f g =
-      record {
-        within = omega arith;
-        few = omega (arith, w .few);
-        left =
-            ap (λ (v : Float). tallyOn width height period bad value x y (drop (i + 1) steps) (grown sum n v)) g
-            ∙ ap (λ (r : Neighbour). tallyOn width height period bad value x y (drop (i + 1) steps)
-                (pick r (λ xx yy. grown sum n (value xx yy)) (record { sum = sum; n = n })))
-              f
-            ∙ sym (next all i (record { sum = sum; n = n }) e h)
-            ∙ w .left;
-      }
+  pub walk-at : (all : List Step) {r : Neighbour} {xx yy : ℕ} {v : Float} → map pairOf all ≡ steps → i < 8
+      → r ≡ nearBy w period bad x y (stepOn all i) → r ≡ N.At xx yy → v ≡ value xx yy → Walked w period bad value x y (i + 1) (grown t v)
+  walk-at all e h f g u =
+      let n = rw (sym f ∙ g) at (next all e h) in
+      record { within = omega arith; few = omega (arith, k .few); left = rw u (sym n ∙ k .left) }
 
-  pub walk-missing : (all : List Step) (i : ℕ) (sum : Float) (n : ℕ) → Walked width height period bad value x y i sum n → map pairOf all ≡ steps
-      → i < 8 → N.Missing ≡ soundOf width height period bad x y (pairOf (getD all i stay))
-      → Walked width height period bad value x y (i + 1) sum n
-  walk-missing all i sum n w e h f =
-      record {
-        within = omega arith;
-        few = omega (arith, w .few);
-        left =
-            ap (λ (r : Neighbour). tallyOn width height period bad value x y (drop (i + 1) steps)
-                (pick r (λ xx yy. grown sum n (value xx yy)) (record { sum = sum; n = n })))
-              f
-            ∙ sym (next all i (record { sum = sum; n = n }) e h)
-            ∙ w .left;
-      }
+  pub walk-missing : (all : List Step) {r : Neighbour} → map pairOf all ≡ steps → i < 8 → r ≡ nearBy w period bad x y (stepOn all i)
+      → r ≡ N.Missing → Walked w period bad value x y (i + 1) t
+  walk-missing all e h f g =
+      let n = rw (sym f ∙ g) at (next all e h) in
+      record { within = omega arith; few = omega (arith, k .few); left = sym n ∙ k .left }
 
-  pub walk-end : (i : ℕ) (sum : Float) (n : ℕ) → Walked width height period bad value x y i sum n → 8 ≤ i
-      → _≡_ {A = Tally} (record { sum = sum; n = n }) (tallyAt width height period bad value x y)
+  pub walk-end : 8 ≤ i → t ≡ tallyAt (w .width) (w .height) period bad value x y
   unfolding tallyOn
-  walk-end i sum n w h =
-      let done : i ≡ 8 = omega (arith, w .within) in
-      subst
-      (λ (k : ℕ). tallyOn width height period bad value x y (drop k steps) (record { sum = sum; n = n }) ≡ tallyAt width height period bad value x y)
-      done (w .left)
+  walk-end h =
+      let done : i ≡ 8 = omega (arith, k .within) in
+      subst (λ (j : ℕ). onward w period bad value x y j t ≡ tallyAt (w .width) (w .height) period bad value x y) done (k .left)
 
 -- ---- the count
 
--- what is left from step i on makes the count whole
-pub record Counted (width height period : ℕ) (bad : ℕ → Bool) (x y i n : ℕ) : Type 0 where
+abbrev pub soundFrom : Window → (period : ℕ) → (ℕ → Bool) → (x y i : ℕ) → ℕ
+soundFrom w period bad x y i = soundOn (w .width) (w .height) period bad x y (drop i steps)
+
+-- i steps are made: with those that are left the count is whole
+pub record Counted (w : Window) (period : ℕ) (bad : ℕ → Bool) (x y i n : ℕ) : Type 0 where
   pub within : i ≤ 8
   pub few : n ≤ i
-  pub left : n + soundOn width height period bad x y (drop i steps) ≡ soundOn width height period bad x y steps
+  pub left : n + soundFrom w period bad x y i ≡ soundFrom w period bad x y 0
 
-module _ (width height period : ℕ) (bad : ℕ → Bool) (x y : ℕ) where
-  pub count-start : Counted width height period bad x y 0 0
-  count-start = record { within = omega arith; few = omega arith; left = omega arith }
+pub count-start : (w : Window) (period : ℕ) (bad : ℕ → Bool) (x y : ℕ) → Counted w period bad x y 0 0
+count-start w period bad x y = record { within = omega arith; few = omega arith; left = omega arith }
 
+module _ {w : Window} {period : ℕ} {bad : ℕ → Bool} {x y i n : ℕ} (k : Counted w period bad x y i n) where
   -- one step of the count
-  one : (all : List Step) (i : ℕ) → map pairOf all ≡ steps → i < 8
-      → soundOn width height period bad x y (drop i steps)
-      ≡ pick (soundOf width height period bad x y (pairOf (getD all i stay))) (λ xx yy. 1) 0 + soundOn width height period bad x y (drop (i + 1) steps)
+  one : (all : List Step) → map pairOf all ≡ steps → i < 8
+      → soundFrom w period bad x y i
+      ≡ pick (nearBy w period bad x y (stepOn all i)) (λ xx yy. 1) 0 + soundFrom w period bad x y (i + 1)
   unfolding soundOn
-  one all i e h = rw (add-one, drop-cons steps i (pairOf stay) h, sound-pick, step-at all i e) refl
+  one all e h = rw (add-one, drop-cons steps i (pairOf stay) h, sound-pick, step-at all i e) refl
 
-  pub count-at : (all : List Step) (i n xx yy : ℕ) → Counted width height period bad x y i n → map pairOf all ≡ steps → i < 8
-      → N.At xx yy ≡ soundOf width height period bad x y (pairOf (getD all i stay)) → Counted width height period bad x y (i + 1) (n + 1)
-  count-at all i n xx yy c e h f =
-      let s = rw (← f) at (one all i e h) in
-      record { within = omega arith; few = omega (arith, c .few); left = omega (arith, c .left, s) }
+  pub count-at : (all : List Step) {r : Neighbour} {xx yy : ℕ} → map pairOf all ≡ steps → i < 8
+      → r ≡ nearBy w period bad x y (stepOn all i) → r ≡ N.At xx yy → Counted w period bad x y (i + 1) (n + 1)
+  count-at all e h f g =
+      let s = rw (sym f ∙ g) at (one all e h) in
+      record { within = omega arith; few = omega (arith, k .few); left = omega (arith, k .left, s) }
 
-  pub count-missing : (all : List Step) (i n : ℕ) → Counted width height period bad x y i n → map pairOf all ≡ steps → i < 8
-      → N.Missing ≡ soundOf width height period bad x y (pairOf (getD all i stay)) → Counted width height period bad x y (i + 1) n
-  count-missing all i n c e h f =
-      let s = rw (← f) at (one all i e h) in
-      record { within = omega arith; few = omega (arith, c .few); left = omega (arith, c .left, s) }
+  pub count-missing : (all : List Step) {r : Neighbour} → map pairOf all ≡ steps → i < 8 → r ≡ nearBy w period bad x y (stepOn all i)
+      → r ≡ N.Missing → Counted w period bad x y (i + 1) n
+  count-missing all e h f g =
+      let s = rw (sym f ∙ g) at (one all e h) in
+      record { within = omega arith; few = omega (arith, k .few); left = omega (arith, k .left, s) }
 
-  pub count-end : (i n : ℕ) → Counted width height period bad x y i n → 8 ≤ i → n ≡ soundOn width height period bad x y steps
+  pub count-end : 8 ≤ i → n ≡ soundFrom w period bad x y 0
   unfolding soundOn
-  count-end i n c h =
-      let done : i ≡ 8 = omega (arith, c .within) in
-      let s : n + 0 ≡ soundOn width height period bad x y steps =
-      subst (λ (k : ℕ). n + soundOn width height period bad x y (drop k steps) ≡ soundOn width height period bad x y steps) done (c .left) in
+  count-end h =
+      let done : i ≡ 8 = omega (arith, k .within) in
+      let s : n + 0 ≡ soundFrom w period bad x y 0 =
+      subst (λ (j : ℕ). n + soundFrom w period bad x y j ≡ soundFrom w period bad x y 0) done (k .left) in
       omega arith

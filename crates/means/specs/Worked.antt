@@ -1,4 +1,5 @@
--- Worked values of the tallies that the contracts of `means` cite, which the checker computes. Position q of the window has the value q + 1.
+-- Worked values of the tallies that the contracts of `means` cite, which the checker computes.
+-- Position q of the window has the value q + 1.
 use Prim.Native.Nat.{ℕ, _+_, _*_}
 use mathlib.Core.Bool.{Bool}
 use mathlib.Core.List.{[], _∷_}
@@ -32,4 +33,13 @@ pub record Worked : Type 0 where
 pub worked : Worked
 unfolding moved sound tallyOn soundOn occ has ofInt add div round
 worked =
-    record { middle = refl; mean = refl; left-marked = refl; corner = refl; far-corner = refl; far-middle = refl; last-column = refl; hemmed = refl }
+    record {
+      middle = refl;
+      mean = refl;
+      left-marked = refl;
+      corner = refl;
+      far-corner = refl;
+      far-middle = refl;
+      last-column = refl;
+      hemmed = refl;
+    }

@@ -3,7 +3,7 @@ ghost use mathlib.Core.Path.{_≡_};
 ghost use mathlib.Core.Bool.{true};
 ghost use lib.Ieee.{nan, binary32};
 ghost use mathlib.Core.List.{map};
-ghost use Prim.Native.Nat.{_+_, _*_, _≤_, _<_};
+ghost use Prim.Native.Nat.{_≤_};
 ghost use lib.ListN.{length, take};
 ghost use Rattle.convert.specs.Convert.{wholeIn};
 ghost use Rattle.dng.specs.Repair.{sampleAt, steps, moved, soundOn, tallyAt, meanOf};
@@ -61,14 +61,13 @@ fn shifted(at: usize, d: i64, period: usize, outside: usize) -> usize
 }
 
 // Whether the position lies in the window and is not marked.
-fn sound_at(marks: &[u32], n: usize, width: usize, height: usize, x: usize, y: usize) -> Neighbour
-    requires { ⌜ (width ≤ 65536) × (height ≤ 65536) × (n ≤ length (now marks)) × Rises 0 (take n (now marks)) ⌝ }
-    ensures { λ r. ⌜ r ≡ openAt width height (marked (now (marks .entry)) n) x y ⌝ }
+fn sound_at(marks: &[u32], n: usize, w: Window, x: usize, y: usize) -> Neighbour
+    requires { ⌜ Fits w × ((n ≤ length (now marks)) × Rises 0 (take n (now marks))) ⌝ }
+    ensures { λ r. ⌜ r ≡ openAt (w .width) (w .height) (marked (now (marks .entry)) n) x y ⌝ }
 {
-    if x < width {
-        if y < height {
-            let q = y * width + x;
-            if sorts::find(marks, n, q as u32) {
+    if x < w.width {
+        if y < w.height {
+            if sorts::find(marks, n, scan::position(w, x, y)) {
                 return Neighbour::Missing;
             }
             return Neighbour::At { x, y };
@@ -78,25 +77,23 @@ fn sound_at(marks: &[u32], n: usize, width: usize, height: usize, x: usize, y: u
 }
 
 // The neighbour one step away, where it is sound.
-fn beside(marks: &[u32], n: usize, w: Window, period: usize, x: usize, y: usize, s: Step) -> Neighbour
+fn beside(
+    marks: &[u32],
+    n: usize,
+    w: Window,
+    period: usize,
+    x: usize,
+    y: usize,
+    s: Step,
+) -> Neighbour
     requires { ⌜ Asks (now marks) n w period x y × ((oneStep (s .dx) ≡ true) × (oneStep (s .dy) ≡ true)) ⌝ }
     ensures { λ r. ⌜ r ≡ soundOf (w .width) (w .height) period (marked (now (marks .entry)) n) x y (pairOf s) ⌝ }
 {
     let dx = s.dx;
     let dy = s.dy;
-    let width = w.width;
-    let height = w.height;
-    let xx = shifted(x, dx, period, width);
-    let yy = shifted(y, dy, period, height);
-    sound_at(marks, n, width, height, xx, yy)
-}
-
-// Where the sample of a plane lies.
-fn place(w: Window, x: usize, y: usize, plane: usize) -> usize
-    requires { ⌜ Fits w × ((x < w .width) × (y < w .height) × (plane < w .planes)) ⌝ }
-    ensures { λ r. ⌜ r ≡ (y * w .stride + x) * w .planes + plane ⌝ }
-{
-    (y * w.stride + x) * w.planes + plane
+    let xx = shifted(x, dx, period, w.width);
+    let yy = shifted(y, dy, period, w.height);
+    sound_at(marks, n, w, xx, yy)
 }
 
 // The sum of the sound neighbours' samples in one plane, in the order of the steps, from 0.
@@ -111,12 +108,10 @@ pub fn sum_f32(
     plane: usize,
 ) -> Sum
     requires { ⌜ Looks (length (now samples)) (now marks) n w period x y plane ⌝ }
-    ensures {
-        λ r.
+    ensures { λ r.
         ⌜ tallyOf r
-            ≡ tallyAt (w .width) (w .height) period (marked (now (marks .entry)) n)
-            (λ xx yy. sampleAt nan w (now (samples .entry)) xx yy plane) x y ⌝
-    }
+        ≡ tallyAt (w .width) (w .height) period (marked (now (marks .entry)) n)
+        (λ xx yy. sampleAt nan w (now (samples .entry)) xx yy plane) x y ⌝ }
 {
     let all = steps();
     let mut sum: f32 = 0.0;
@@ -127,7 +122,7 @@ pub fn sum_f32(
         let near = beside(marks, n, w, period, x, y, s);
         match near {
             Neighbour::At { x: xx, y: yy } => {
-                let at = place(w, xx, yy, plane);
+                let at = scan::place(w, xx, yy, plane);
                 sum = sum + samples[at];
                 count += 1;
                 i += 1;
@@ -152,12 +147,10 @@ pub fn sum_u16(
     plane: usize,
 ) -> Sum
     requires { ⌜ Looks (length (now samples)) (now marks) n w period x y plane ⌝ }
-    ensures {
-        λ r.
+    ensures { λ r.
         ⌜ tallyOf r
-            ≡ tallyAt (w .width) (w .height) period (marked (now (marks .entry)) n)
-            (λ xx yy. wholeIn binary32 (sampleAt 0 w (now (samples .entry)) xx yy plane)) x y ⌝
-    }
+        ≡ tallyAt (w .width) (w .height) period (marked (now (marks .entry)) n)
+        (λ xx yy. wholeIn binary32 (sampleAt 0 w (now (samples .entry)) xx yy plane)) x y ⌝ }
 {
     let all = steps();
     let mut sum: f32 = 0.0;
@@ -168,7 +161,7 @@ pub fn sum_u16(
         let near = beside(marks, n, w, period, x, y, s);
         match near {
             Neighbour::At { x: xx, y: yy } => {
-                let at = place(w, xx, yy, plane);
+                let at = scan::place(w, xx, yy, plane);
                 sum = sum + convert::f32_of_u16(samples[at]);
                 count += 1;
                 i += 1;

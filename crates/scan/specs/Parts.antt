@@ -4,6 +4,7 @@ use mathlib.Core.Bool.{Bool, true, false}
 use mathlib.Core.List.{List}
 use mathlib.Core.Path.{_≡_}
 use lib.Dec.{eqb}
+use lib.ListN.{length, set}
 use lib.Ieee.{Float, nan, eq}
 use Rattle.dng.specs.declared.Window.{Window}
 use Rattle.dng.specs.Repair.{complete, badValue}
@@ -30,6 +31,11 @@ pub record Part (samples : ℕ) (w : Window) (y from end : ℕ) : Type 0 where
 -- the positions before column x of row y are gathered, n of them, at the front of the scratch
 abbrev pub Before : Window → (ℕ → Bool) → List ℕ → (n y x : ℕ) → Type 0
 Before w m s n y x = Holds (y * w .width + x) m s s n
+
+-- q is stored behind the first n; or there is no room for it
+abbrev pub Keeps : (s s′ : List ℕ) → (n q : ℕ) → Bool → Type 0
+Keeps s s′ n q true = (n < length s) × (s′ ≡ set s n q)
+Keeps s s′ n q false = length s ≤ n
 
 -- no position of the part is marked
 abbrev pub Clear : Window → (ℕ → Bool) → (y from end : ℕ) → Type 0

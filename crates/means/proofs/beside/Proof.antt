@@ -1,39 +1,32 @@
 -- `means::beside` meets its contract: what is open one step away. Assumes nothing.
+use mathlib.Core.Path.{ap, _∙_}
 use borrow.Author.Needs.{needs}
 use lib.IntN.{ℤ}
-use mathlib.Core.Path.{ap, _∙_}
 use Rattle.dng.specs.Repair.{moved}
-use Rattle.means.proofs.Moving.{bits-step}
 use Rattle.means.specs.Looks.{marked, pairOf}
+use Rattle.means.proofs.Moving.{bits-step}
 use Rattle.means.proofs.Walking.{step-is}
 use Rattle.means.proofs.beside.Statement.{statement}
 use Rattle.means.proofs.beside.Tie as tie
-use Rattle.means.proofs.beside.Reads as reads
-use Rattle.means.proofs.beside.Lts as lts
-use Rattle.means.proofs.sound_at.Reads as sound-at-reads
-use Rattle.means.proofs.shifted.Reads as shifted-reads
 
--- src/lib.rt:87:9
 shifted-requires : tie.Need-shifted-requires
 shifted-requires c κs = search needs
 
--- src/lib.rt:88:9
 shifted-requires-2 : tie.Need-shifted-requires-2
 shifted-requires-2 c κs = search needs
 
--- src/lib.rt:89:5
 sound-at-requires : tie.Need-sound-at-requires
 sound-at-requires c κs = search needs
 
--- src/lib.rt:79:1
 returns : tie.Need-returns
 returns c =
-    let a = c .before .before .before .before .before .before .args in
-    let p = c .before .before .before .before .before .before .pre .1 in
+    let s = c .before .before .before .before .before .before in
+    let a = s .args in
     c .sound-at .ensures
-    ∙ step-is (a .w .width) (a .w .height) (a .period) (marked (a .marks .now) (a .n)) (a .x) (a .y) (c .before .before .shifted .result) (c .before .shifted2 .result) (pairOf (a .s))
-    (c .before .before .shifted .ensures ∙ ap (λ (d : ℤ). moved (a .x) d (a .period) (a .w .width)) (bits-step (a .s .dx) (p .0)))
-    (c .before .shifted2 .ensures ∙ ap (λ (d : ℤ). moved (a .y) d (a .period) (a .w .height)) (bits-step (a .s .dy) (p .1)))
+    ∙ step-is (a .w) (a .period) (marked (a .marks .now) (a .n)) (a .x) (a .y) (c .before .before .shifted .result)
+    (c .before .shifted2 .result) (pairOf (a .s))
+    (c .before .before .shifted .ensures ∙ ap (λ (d : ℤ). moved (a .x) d (a .period) (a .w .width)) (bits-step (a .s .dx) (s .pre .1 .0)))
+    (c .before .shifted2 .ensures ∙ ap (λ (d : ℤ). moved (a .y) d (a .period) (a .w .height)) (bits-step (a .s .dy) (s .pre .1 .1)))
 
 pub beside-spec : {M : Type 1} → statement M
 beside-spec = tie.close (tie.spec shifted-requires shifted-requires-2 sound-at-requires returns)

@@ -5,31 +5,32 @@ use lib.IntN.{negsuc}
 use Rattle.means.proofs.Moving.{moved-none, moved-on, moved-out, moved-back, is-none, is-on, is-back}
 use Rattle.means.proofs.shifted.Statement.{statement}
 use Rattle.means.proofs.shifted.Tie as tie
-use Rattle.means.proofs.shifted.Reads as reads
-use Rattle.means.proofs.shifted.Lts as lts
 
--- src/lib.rt:50:9
 returns : tie.Need-returns
-returns c = let a = c .before .args in moved-none (a .at) (a .period) (a .outside) (a .d) (is-none (a .d) (c .before .pre .0) (c .if1 .taken))
+returns c =
+    let a = c .before .args in
+    moved-none (a .at) (a .period) (a .outside) (a .d) (is-none (a .d) (c .before .pre .0) (c .if1 .taken))
 
--- src/lib.rt:53:16
 add-result : tie.Need-add-result
 add-result c = search needs
 
--- src/lib.rt:53:9
 returns-2 : tie.Need-returns-2
-returns-2 c = let a = c .before .before .args in moved-on (a .at) (a .period) (a .outside) (a .d) (is-on (a .d) (c .before .before .pre .0) (c .if2 .taken))
+returns-2 c =
+    let a = c .before .before .args in
+    moved-on (a .at) (a .period) (a .outside) (a .d) (is-on (a .d) (c .before .before .pre .0) (c .if2 .taken))
 
 back : (c : tie.Else2) → c .before .before .args .d ≡ negsuc 0
 back c = is-back (c .before .before .args .d) (c .before .before .pre .0) (c .before .if1 .left) (c .if2 .left)
 
--- src/lib.rt:45:1
 returns-3 : tie.Need-returns-3
-returns-3 c = let a = c .before .before .before .args in moved-out (a .at) (a .period) (a .outside) (a .d) (back (c .before)) (c .if3 .taken)
+returns-3 c =
+    let a = c .before .before .before .args in
+    moved-out (a .at) (a .period) (a .outside) (a .d) (back (c .before)) (c .if3 .taken)
 
--- src/lib.rt:45:1
 returns-4 : tie.Need-returns-4
-returns-4 c = let a = c .before .before .before .args in moved-back (a .at) (a .period) (a .outside) (a .d) (back (c .before)) (c .if3 .left)
+returns-4 c =
+    let a = c .before .before .before .args in
+    moved-back (a .at) (a .period) (a .outside) (a .d) (back (c .before)) (c .if3 .left)
 
 pub shifted-spec : {M : Type 1} → statement M
 shifted-spec = tie.close (tie.spec returns add-result returns-2 returns-3 returns-4)

@@ -1,17 +1,31 @@
 -- `means::sound_count` meets its contract: the walk over the steps that only counts. Assumes nothing.
 use Prim.Native.Nat.{_-_}
-use mathlib.Core.Path.{sym, _∙_}
+use mathlib.Core.Path.{_≡_}
+use mathlib.Core.List.{List, map}
 use borrow.Author.Needs.{needs}
-use Rattle.means.specs.Looks.{marked}
+use Rattle.dng.specs.Repair.{steps}
+use Rattle.means.specs.declared.Step.{Step}
+use Rattle.means.specs.Looks.{marked, pairOf}
 use Rattle.means.proofs.Walking.{Counted, count-start, count-at, count-missing, count-end, step-one}
 use Rattle.means.proofs.sound_count.Statement.{statement}
 use Rattle.means.proofs.sound_count.Tie as tie
 
 abbrev Inv-loop : tie.InvT-loop
-Inv-loop marks n w period x y all count₀ i₀ count i = Counted (w .width) (w .height) period (marked marks n) x y i count
+Inv-loop marks n w period x y all count₀ i₀ count i = Counted w period (marked marks n) x y i count
 
 abbrev μ-loop : tie.MeasureT-loop
 μ-loop marks n w period x y all count₀ i₀ count i = 8 - i
+
+-- the turn of the loop that a neighbour belongs to
+abbrev turn : tie.After-beside Inv-loop μ-loop → tie.In-loop Inv-loop μ-loop
+turn c = c .before .before
+
+-- the steps, as they were made
+abbrev array : tie.In-loop Inv-loop μ-loop → List Step
+array c = c .before .before .steps .result
+
+made : (c : tie.In-loop Inv-loop μ-loop) → map pairOf (array c) ≡ steps
+made c = c .before .before .steps .ensures
 
 steps-requires : tie.Need-steps-requires Inv-loop μ-loop
 steps-requires c κs = search needs
@@ -19,7 +33,7 @@ steps-requires c κs = search needs
 loop-holds : tie.Need-loop-holds Inv-loop μ-loop
 loop-holds c =
     let a = c .before .before .args in
-    count-start (a .w .width) (a .w .height) (a .period) (marked (a .marks .now) (a .n)) (a .x) (a .y)
+    count-start (a .w) (a .period) (marked (a .marks .now) (a .n)) (a .x) (a .y)
 
 mul-s : tie.Need-mul-s Inv-loop μ-loop
 mul-s c = search needs
@@ -29,8 +43,8 @@ array-copy-out-s c = search needs
 
 beside-requires : tie.Need-beside-requires Inv-loop μ-loop
 beside-requires c κs =
-    (c .before .before .before .before .before .pre,
-    step-one (c .before .before .before .steps .result) (c .before .before .loop .i) (c .before .before .before .steps .ensures) (c .before .loop-test .taken))
+    let t = c .before in
+    (t .before .before .before .before .pre, step-one (array t) (t .before .loop .i) (made t) (t .loop-test .taken))
 
 enum-told : tie.Need-enum-told Inv-loop μ-loop
 enum-told c = search needs
@@ -46,12 +60,9 @@ loop-less c = search needs
 
 loop-again : tie.Need-loop-again Inv-loop μ-loop
 loop-again c =
-    let t = c .before .before in
-    let a = t .before .before .before .before .before .before .args in
-    count-at (a .w .width) (a .w .height) (a .period) (marked (a .marks .now) (a .n)) (a .x) (a .y) (t .before .before .before .before .steps .result)
-    (t .before .before .before .loop .i) (t .before .before .before .loop .count) (c .enum-told .given .0 .0) (c .enum-told .given .0 .1 .0)
-    (t .before .before .before .loop .inv) (t .before .before .before .before .steps .ensures) (t .before .before .loop-test .taken)
-    (sym (c .enum-told .given .1) ∙ t .beside .ensures)
+    let b = c .before .before in
+    count-at (turn b .before .loop .inv) (array (turn b)) (made (turn b)) (turn b .loop-test .taken) (b .beside .ensures)
+    (c .enum-told .given .1)
 
 enum-told-2 : tie.Need-enum-told-2 Inv-loop μ-loop
 enum-told-2 c = search needs
@@ -64,17 +75,12 @@ loop-less-2 c = search needs
 
 loop-again-2 : tie.Need-loop-again-2 Inv-loop μ-loop
 loop-again-2 c =
-    let t = c .before .before in
-    let a = t .before .before .before .before .before .before .args in
-    count-missing (a .w .width) (a .w .height) (a .period) (marked (a .marks .now) (a .n)) (a .x) (a .y) (t .before .before .before .before .steps .result)
-    (t .before .before .before .loop .i) (t .before .before .before .loop .count) (t .before .before .before .loop .inv)
-    (t .before .before .before .before .steps .ensures) (t .before .before .loop-test .taken) (sym (c .enum-told2 .given .1) ∙ t .beside .ensures)
+    let b = c .before .before in
+    count-missing (turn b .before .loop .inv) (array (turn b)) (made (turn b)) (turn b .loop-test .taken) (b .beside .ensures)
+    (c .enum-told2 .given .1)
 
 returns : tie.Need-returns Inv-loop μ-loop
-returns c =
-    let a = c .before .before .before .before .args in
-    count-end (a .w .width) (a .w .height) (a .period) (marked (a .marks .now) (a .n)) (a .x) (a .y) (c .before .loop .i) (c .before .loop .count)
-    (c .before .loop .inv) (c .loop-test .left)
+returns c = count-end (c .before .loop .inv) (c .loop-test .left)
 
 pub sound-count-spec : {M : Type 1} → statement M
 sound-count-spec =

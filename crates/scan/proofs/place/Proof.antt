@@ -10,7 +10,8 @@ pixel : (c : tie.Start) → c .args .y * c .args .w .stride + c .args .x < 42949
 pixel c = pixel-fits (c .args .w) (c .args .x) (c .args .y) (c .pre .0 .column) (c .pre .0 .row) (c .pre .0 .fits)
 
 small : (c : tie.Start) → (c .args .y * c .args .w .stride + c .args .x) * c .args .w .planes + c .args .plane < 34359738368
-small c = place-fits (c .args .w) (c .args .x) (c .args .y) (c .pre .0 .column) (c .pre .0 .row) (c .args .plane) (c .pre .1) (c .pre .0 .fits)
+small c =
+    place-fits (c .args .w) (c .args .x) (c .args .y) (c .pre .0 .column) (c .pre .0 .row) (c .args .plane) (c .pre .1) (c .pre .0 .fits)
 
 mul-result : tie.Need-mul-result
 mul-result c = omega (arith, pixel (c .before))
