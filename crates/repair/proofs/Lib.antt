@@ -3,3 +3,4 @@ pub mod Placing
 pub mod Filling
 pub mod Writing
 pub mod Totals
+pub mod Gathering

@@ -16,7 +16,7 @@ use Rattle.dng.specs.Select.{active, inWindow, rowOf, columnOf, planeOf}
 use Rattle.dng.specs.Repair.{complete, positions}
 use Rattle.marks.specs.Marks.{Fits}
 use Rattle.means.specs.Looks.{Asks}
-use Rattle.means.proofs.Walking.{and-first, and-second, place-in}
+use Rattle.scan.proofs.Places.{and-first, and-second, place-in}
 use Rattle.sorts.specs.Sorts.{occ, has}
 use Rattle.sorts.proofs.Occ.{occ-at, some-has}
 use Rattle.repair.specs.Works.{Ranges, Marking, pixelOf}
@@ -85,7 +85,7 @@ module _ (w : Window) (f : Fits w) (q : ℕ) (h : q < positions w) where
   -- its samples are there
   pub pixel-in : (n : ℕ) → complete w n ≡ true → pixelOf w q + w .planes ≤ n
   pixel-in n e =
-      omega (arith, f .some, place-in w n (q % w .width) (q / w .width) (w .planes - 1) e column-in row-in (omega (arith, f .some)))
+      omega (arith, f .some, place-in w (q % w .width) (q / w .width) column-in row-in n (w .planes - 1) (omega (arith, f .some)) e)
 
 pub position-is : (w : Window) (q : ℕ) → q / w .width * w .width + q % w .width ≡ q
 position-is w q = div-add-mod' q (w .width)

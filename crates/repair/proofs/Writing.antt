@@ -20,7 +20,8 @@ use Rattle.dng.specs.Select.{inWindow, rowOf, columnOf, planeOf}
 use Rattle.dng.specs.Repair.{Tally, positions, sampleAt, stepOf, steps, soundOn, tallyAt, meanOf, repairAt}
 use Rattle.marks.specs.Marks.{Fits}
 use Rattle.means.specs.Looks.{marked}
-use Rattle.means.proofs.Tallies.{tally-count, position-in}
+use Rattle.means.proofs.Tallies.{tally-count}
+use Rattle.scan.proofs.Places.{position-in}
 use Rattle.sorts.specs.Sorts.{occ, has}
 use Rattle.sorts.proofs.Occ.{by-cases, equal-or, has-append, has-one}
 use Rattle.repair.specs.Works.{Marking, mendable, countIn, meanIn, meanAt, pixelOf, Filled}

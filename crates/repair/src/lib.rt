@@ -7,13 +7,18 @@ ghost use lib.ListN.{length, getD, take};
 ghost use Rattle.convert.specs.Convert.{wholeIn};
 ghost use Rattle.whole.specs.Whole.{roundHeld};
 ghost use Rattle.points.specs.Points.{each, between};
-ghost use Rattle.dng.specs.Repair.{complete, positions, stepOf, repairAt};
-ghost use Rattle.marks.specs.Marks.{Fits};
+ghost use Rattle.dng.specs.Repair.{complete, positions, stepOf, marksOn, marksOf, repairAt};
+ghost use Rattle.marks.specs.Marks.{Fits, Gathered};
 ghost use Rattle.means.specs.Looks.{Asks, marked};
 ghost use Rattle.repair.specs.Works.{
     Ranges, Marking, mendable, mended, pixelOf, meanAt, Filled, Settled
 };
+ghost use Rattle.scan.specs.Parts.{Whole};
+ghost use Rattle.dng.specs.Run.{f32Kind, u16Kind};
+ghost use Rattle.dng.specs.Answer.{frameOf, inRange};
+use dng::Opcode;
 use dng::Window;
+use marks::Marked;
 
 // Done, with the positions repaired and left; or too little room for the marks (5) or for the new values (6), the samples unchanged.
 pub enum Fixed {
@@ -333,5 +338,26 @@ fn settle_u16(samples: &mut [u16], marks: &[u32], n: usize, w: Window, step: usi
     Fixed::Done {
         repaired,
         left: n - repaired,
+    }
+}
+
+// ---- the marks of an opcode, and the repair
+
+// The positions that an opcode marks. One that is no repair marks none.
+fn gather_f32(samples: &[f32], w: Window, scale: f32, op: Opcode, body: &[u8], marks: &mut [u32]) -> Marked
+    requires { ⌜ Whole (length (now samples)) w ⌝ }
+    ensures {
+        λ r.
+        ⌜ Gathered (positions w) (marksOn nan w (f32Kind (frameOf w scale) .isBad) op (now (body .entry)) (now (samples .entry)))
+            (now (marks .entry)) (now (marks .exit)) r ⌝
+    }
+{
+    match op {
+        Opcode::FixBadPixelsConstant { constant, bayer_phase: _ } => {
+            let c = convert::f32_of_u32(constant) / scale;
+            scan::constant_marks_f32(samples, w, c, marks)
+        }
+        Opcode::FixBadPixelsList { bayer_phase: _, points, rects } => marks::list_marks(body, points, rects, w, marks),
+        _ => Marked::All { n: 0 },
     }
 }
