@@ -10,6 +10,7 @@ ghost use Rattle.points.specs.Points.{each, between};
 ghost use Rattle.dng.specs.Repair.{complete, positions, stepOf, marksOn, marksOf, repairAt};
 ghost use Rattle.marks.specs.Marks.{Fits, Gathered};
 ghost use Rattle.means.specs.Looks.{Asks, marked};
+ghost use Rattle.repair.specs.Fixes.{Fixes};
 ghost use Rattle.repair.specs.Works.{
     Ranges, Marking, mendable, mended, pixelOf, meanAt, Filled, Settled
 };
@@ -359,5 +360,88 @@ fn gather_f32(samples: &[f32], w: Window, scale: f32, op: Opcode, body: &[u8], m
         }
         Opcode::FixBadPixelsList { bayer_phase: _, points, rects } => marks::list_marks(body, points, rects, w, marks),
         _ => Marked::All { n: 0 },
+    }
+}
+
+// The same of u16 samples: whole numbers are compared.
+fn gather_u16(samples: &[u16], w: Window, op: Opcode, body: &[u8], marks: &mut [u32]) -> Marked
+    requires { ⌜ Whole (length (now samples)) w ⌝ }
+    ensures {
+        λ r.
+        ⌜ Gathered (positions w) (marksOn 0 w (u16Kind .isBad) op (now (body .entry)) (now (samples .entry)))
+            (now (marks .entry)) (now (marks .exit)) r ⌝
+    }
+{
+    match op {
+        Opcode::FixBadPixelsConstant { constant, bayer_phase: _ } => scan::constant_marks_u16(samples, w, constant, marks),
+        Opcode::FixBadPixelsList { bayer_phase: _, points, rects } => marks::list_marks(body, points, rects, w, marks),
+        _ => Marked::All { n: 0 },
+    }
+}
+
+// A repair over the window. With too few samples, or none in a row or column, nothing is marked and no scratch is too small.
+pub fn fix_f32(
+    samples: &mut [f32],
+    w: Window,
+    period: usize,
+    scale: f32,
+    op: Opcode,
+    body: &[u8],
+    marks: &mut [u32],
+    values: &mut [f32],
+) -> Fixed
+    requires { ⌜ inRange w period ≡ true ⌝ }
+    ensures {
+        λ r.
+        ⌜ Fixes (f32Kind (frameOf w scale)) w period
+            (record { marks = length (now (marks .entry)); values = length (now (values .entry)) })
+            (marksOf nan w (f32Kind (frameOf w scale) .isBad) op (now (body .entry)) (now (samples .entry)))
+            (now (samples .entry)) (now (samples .exit)) r ⌝
+    }
+{
+    if full(samples.len(), w) {
+        let got = gather_f32(samples, w, scale, op, body, marks);
+        match got {
+            Marked::All { n } => settle_f32(samples, marks, n, w, step_of(period), values),
+            Marked::TooMany => Fixed::Marks,
+        }
+    } else {
+        Fixed::Done {
+            repaired: 0,
+            left: 0,
+        }
+    }
+}
+
+// The same of u16 samples, which have no scale.
+pub fn fix_u16(
+    samples: &mut [u16],
+    w: Window,
+    period: usize,
+    op: Opcode,
+    body: &[u8],
+    marks: &mut [u32],
+    values: &mut [f32],
+) -> Fixed
+    requires { ⌜ inRange w period ≡ true ⌝ }
+    ensures {
+        λ r.
+        ⌜ Fixes u16Kind w period
+            (record { marks = length (now (marks .entry)); values = length (now (values .entry)) })
+            (marksOf 0 w (u16Kind .isBad) op (now (body .entry)) (now (samples .entry)))
+            (now (samples .entry)) (now (samples .exit)) r ⌝
+    }
+{
+    if full(samples.len(), w) {
+        let got = gather_u16(samples, w, op, body, marks);
+        match got {
+            Marked::All { n } => settle_u16(samples, marks, n, w, step_of(period), values),
+            Marked::TooMany => Fixed::Marks,
+        }
+    } else {
+        Fixed::Done {
+            repaired: 0,
+            left: 0,
+        }
     }
 }
