@@ -1,0 +1,143 @@
+-- The new values of the marks that are repaired stand one behind another in the scratch: turn by turn, over any means. Assumes nothing.
+use Prim.Native.Nat.{ℕ, zero, suc, _+_, _-_, _*_, _≤_, _<_}
+use mathlib.Core.Path.{_≡_, refl, sym, ap, subst, _∙_}
+use mathlib.Core.Bool.{Bool, true, false}
+use mathlib.Core.List.{List}
+use native.Mathlib.Nat.{not-suc-le-zero, mul-add, mul-one, mul-zero, add-sub-cancel-left, add-assoc}
+use native.Mathlib.Omega.{arith}
+use lib.Ieee.{Float, nan}
+use lib.ListN.{length, getD, take, set, length-set}
+use Rattle.points.specs.Points.{each, between}
+use Rattle.points.proofs.Each.{length-each, getD-each}
+use Rattle.points.proofs.Parts.{between-in, between-low, each-between-empty, store}
+use Rattle.dng.specs.declared.Window.{Window}
+use Rattle.dng.specs.Repair.{Tally, sampleAt, tallyAt, meanOf}
+use Rattle.means.specs.declared.Sum.{Sum}
+use Rattle.means.specs.Looks.{tallyOf}
+use Rattle.means.proofs.Tallies.{tally-few}
+use Rattle.sorts.proofs.Occ.{equal-or}
+use Rattle.repair.specs.Works.{countIn, meanIn, Filled}
+use Rattle.repair.proofs.Counting.{count-yes, count-no, place-next, count-more}
+
+-- ---- one mark, plane by plane
+
+pub record Planes (p : ℕ) (mean : ℕ → Float) (values₀ values : List Float) (at k : ℕ) : Type 0 where
+  pub within : k ≤ p
+  pub same : length values ≡ length values₀
+  pub done : values ≡ each (between at (at + k) (λ j v. mean (j - at))) values₀
+
+module _ (p : ℕ) (mean : ℕ → Float) (values₀ : List Float) (at : ℕ) where
+  pub planes-start : Planes p mean values₀ values₀ at 0
+  planes-start =
+      record { within = omega arith; same = refl; done = sym (each-between-empty at (at + 0) (λ j v. mean (j - at)) values₀ (omega arith)) }
+
+  pub planes-next : (values : List Float) (k : ℕ) (v : Float) → Planes p mean values₀ values at k → k < p → at + p ≤ length values₀ → v ≡ mean k
+      → Planes p mean values₀ (set values (at + k) v) at (k + 1)
+  planes-next values k v s h r e =
+      record {
+        within = omega arith;
+        same = length-set values (at + k) v ∙ s .same;
+        done =
+            store nan (λ j v. mean (j - at)) at (at + k) values₀ values v (s .done) (e ∙ ap mean (sym (add-sub-cancel-left at k))) (omega arith) (omega arith)
+            ∙ ap (λ (m : ℕ). each (between at m (λ j v. mean (j - at))) values₀) (add-assoc at k 1);
+      }
+
+  pub planes-end : (values : List Float) (k : ℕ) → Planes p mean values₀ values at k → p ≤ k
+      → values ≡ each (between at (at + p) (λ j v. mean (j - at))) values₀
+  planes-end values k s h = s .done ∙ ap (λ (m : ℕ). each (between at (at + m) (λ j v. mean (j - at))) values₀) (omega (arith, s .within))
+
+module _ {A : Type 0} (d : A) (toFloat : A → Float) (w : Window) (step : ℕ) (bad : ℕ → Bool) (s : List A) (x y k : ℕ) (r : Sum)
+  (e : tallyOf r ≡ tallyAt (w .width) (w .height) step bad (λ xx yy. toFloat (sampleAt d w s xx yy k)) x y) where
+  -- a sum over sound neighbours counts at most 8, and its mean is the new value
+  pub tally-small : r .n ≤ 8
+  tally-small =
+      subst (λ (n : ℕ). n ≤ 8) (sym (ap (λ (t : Tally). t .n) e)) (tally-few (w .width) (w .height) step bad (λ xx yy. toFloat (sampleAt d w s xx yy k)) x y)
+
+  pub mean-is : (v : Float) → v ≡ meanOf (tallyOf r) → v ≡ meanIn d toFloat w step bad s x y k
+  unfolding meanIn
+  mean-is v f = f ∙ ap (λ (t : Tally). meanOf t) e
+
+-- ---- mark by mark
+
+-- after i of the n marks; the next value goes to `at`
+pub record Filling (p n : ℕ) (test : ℕ → Bool) (mean : ℕ → ℕ → Float) (marks : List ℕ) (values₀ values : List Float) (at i : ℕ) : Type 0 where
+  pub within : i ≤ n
+  pub next : at ≡ p * countIn test (take i marks)
+  pub same : length values ≡ length values₀
+  pub filled : Filled p i test mean marks values
+
+module _ (p n : ℕ) (test : ℕ → Bool) (marks : List ℕ) (i : ℕ) (held : n ≤ length marks) where
+  -- the places of the next mark, and of the one after it
+  pub next-yes : (at : ℕ) → at ≡ p * countIn test (take i marks) → i < n → test (getD marks i 0) ≡ true
+      → at + p ≡ p * countIn test (take (i + 1) marks)
+  next-yes at e h t =
+      let s : p * countIn test (take (i + 1) marks) ≡ p * (countIn test (take i marks) + 1) = ap (λ (c : ℕ). p * c) (count-yes test marks i (omega arith) t) in
+      omega (arith, mul-add p (countIn test (take i marks)) 1, mul-one p)
+
+  pub next-no : (at : ℕ) → at ≡ p * countIn test (take i marks) → i < n → test (getD marks i 0) ≡ false
+      → at ≡ p * countIn test (take (i + 1) marks)
+  next-no at e h t = e ∙ ap (λ (c : ℕ). p * c) (sym (count-no test marks i (omega arith) t))
+
+  -- they are there
+  pub next-room : (at room : ℕ) → at ≡ p * countIn test (take i marks) → i < n → test (getD marks i 0) ≡ true
+      → p * countIn test (take n marks) ≤ room → at + p ≤ room
+  next-room at room e h t r = omega (arith, place-next test p marks i n h (omega arith) t)
+
+module _ (p n : ℕ) (test : ℕ → Bool) (mean : ℕ → ℕ → Float) (marks : List ℕ) (values₀ : List Float) where
+  pub fill-start : Filling p n test mean marks values₀ values₀ 0 0
+  unfolding countIn
+  fill-start = record { within = omega arith; next = sym (mul-zero p); same = refl; filled = λ i h. absurd (not-suc-le-zero h) }
+
+  module _ (values : List Float) (at i : ℕ) (f : Filling p n test mean marks values₀ values at i) (held : n ≤ length marks) (h : i < n) where
+    pub fill-no : test (getD marks i 0) ≡ false → Filling p n test mean marks values₀ values at (i + 1)
+    fill-no t =
+        record {
+          within = omega arith;
+          next = next-no p n test marks i held at (f .next) h t;
+          same = f .same;
+          filled = λ j l u k m.
+              equal-or j i (λ d. absurd (apart (sym (subst (λ (y : ℕ). test (getD marks y 0) ≡ true) d u) ∙ t)))
+              (λ d. f .filled j (omega arith) u k m);
+        }
+      where
+        apart : true ≡ false → ⊥
+        apart e = let z : _≡_ {A = ℕ} 0 1 = cc in omega arith
+
+    pub fill-yes : (values′ : List Float) → test (getD marks i 0) ≡ true → at + p ≤ length values
+        → values′ ≡ each (between at (at + p) (λ j v. mean (getD marks i 0) (j - at))) values
+        → Filling p n test mean marks values₀ values′ (at + p) (i + 1)
+    fill-yes values′ t r e =
+        record {
+          within = omega arith;
+          next = next-yes p n test marks i held at (f .next) h t;
+          same = ap length e ∙ length-each G values ∙ f .same;
+          filled = λ j l u k m. equal-or j i (λ d. here j d k m) (λ d. before j (omega arith) u k m);
+        }
+      where
+        G : ℕ → Float → Float
+        G = between at (at + p) (λ j v. mean (getD marks i 0) (j - at))
+
+        read : (j : ℕ) → j < length values → getD values′ j nan ≡ G j (getD values j nan)
+        read j l = ap (λ (v : List Float). getD v j nan) e ∙ getD-each G values j nan l
+
+        before : (j : ℕ) → j < i → test (getD marks j 0) ≡ true → (k : ℕ) → k < p
+            → getD values′ (p * countIn test (take j marks) + k) nan ≡ mean (getD marks j 0) k
+        before j l u k m =
+            let s : p * countIn test (take j marks) + p ≤ at = rw (f .next) (place-next test p marks j i l (omega arith) u) in
+            read (p * countIn test (take j marks) + k) (omega arith)
+            ∙ between-low at (at + p) (λ j v. mean (getD marks i 0) (j - at)) (p * countIn test (take j marks) + k) _ (omega arith)
+            ∙ f .filled j l u k m
+
+        there : (k : ℕ) → k < p → getD values′ (at + k) nan ≡ mean (getD marks i 0) k
+        there k m =
+            read (at + k) (omega arith)
+            ∙ between-in at (at + p) (λ j v. mean (getD marks i 0) (j - at)) (at + k) _ (omega arith) (omega arith)
+            ∙ ap (mean (getD marks i 0)) (add-sub-cancel-left at k)
+
+        here : (j : ℕ) → j ≡ i → (k : ℕ) → k < p → getD values′ (p * countIn test (take j marks) + k) nan ≡ mean (getD marks j 0) k
+        here j d k m =
+            subst (λ (y : ℕ). getD values′ (p * countIn test (take y marks) + k) nan ≡ mean (getD marks y 0) k) (sym d)
+            (subst (λ (a : ℕ). getD values′ (a + k) nan ≡ mean (getD marks i 0) k) (f .next) (there k m))
+
+  pub fill-end : (values : List Float) (at i : ℕ) → Filling p n test mean marks values₀ values at i → n ≤ i → Filled p n test mean marks values
+  fill-end values at i f h j l u k m = f .filled j (omega (arith, f .within)) u k m

@@ -1,0 +1,6 @@
+pub mod Counting
+pub mod Placing
+pub mod Filling
+pub mod Writing
+pub mod Totals
+pub mod Gathering

@@ -1,0 +1,87 @@
+-- `repair::repairable` meets its contract: the count over the first i marks. Assumes nothing.
+use Prim.Native.Nat.{ℕ, _+_, _-_, _≤_}
+use mathlib.Core.Path.{_≡_, refl, sym, ap, _∙_}
+use native.Mathlib.Omega.{arith}
+use borrow.Author.Needs.{needs}
+use lib.ListN.{take}
+use Rattle.means.specs.Looks.{marked}
+use Rattle.repair.specs.Works.{mendable, countIn}
+use Rattle.repair.proofs.Counting.{count-yes, count-no, count-end}
+use Rattle.repair.proofs.repairable.Statement.{statement}
+use Rattle.repair.proofs.repairable.Tie as tie
+use Rattle.repair.proofs.repairable.Reads as reads
+use Rattle.repair.proofs.repairable.Lts as lts
+use Rattle.repair.proofs.mends.Reads as mends-reads
+
+abbrev Inv-loop : tie.InvT-loop
+Inv-loop marks n w step count₀ i₀ count i = (i ≤ n) × ((count ≤ i) × (count ≡ countIn (mendable w step (marked marks n)) (take i marks)))
+
+abbrev μ-loop : tie.MeasureT-loop
+μ-loop marks n w step count₀ i₀ count i = n - i
+
+loop-holds : tie.Need-loop-holds Inv-loop μ-loop
+unfolding countIn
+loop-holds c = (omega arith, (omega arith, refl))
+
+mends-requires : tie.Need-mends-requires Inv-loop μ-loop
+mends-requires c κs = (c .before .before .before .pre, c .loop-test .taken)
+
+add-count : tie.Need-add-count Inv-loop μ-loop
+add-count c = omega arith
+
+add-i : tie.Need-add-i Inv-loop μ-loop
+add-i c = omega arith
+
+loop-less : tie.Need-loop-less Inv-loop μ-loop
+loop-less c = omega arith
+
+loop-again : tie.Need-loop-again Inv-loop μ-loop
+loop-again c =
+    let s = c .before .before .before .before .before in
+    let at = c .before .before .before .loop in
+    (omega (arith, c .before .before .loop-test .taken),
+    (omega (arith, at .inv .1 .0),
+    (ap (λ (k : ℕ). k + 1) (at .inv .1 .1)
+    ∙ sym (count-yes (mendable (s .args .w) (s .args .step) (marked (s .args .marks .now) (s .args .n))) (s .args .marks .now) (at .i)
+    (omega (arith, c .before .before .loop-test .taken, s .pre .held)) (sym (c .before .mends .ensures) ∙ c .if1 .taken)))))
+
+add-i-2 : tie.Need-add-i-2 Inv-loop μ-loop
+add-i-2 c = omega arith
+
+loop-less-2 : tie.Need-loop-less-2 Inv-loop μ-loop
+loop-less-2 c = omega arith
+
+loop-again-2 : tie.Need-loop-again-2 Inv-loop μ-loop
+loop-again-2 c =
+    let s = c .before .before .before .before .before in
+    let at = c .before .before .before .loop in
+    (omega (arith, c .before .before .loop-test .taken),
+    (omega (arith, at .inv .1 .0),
+    (at .inv .1 .1
+    ∙ sym (count-no (mendable (s .args .w) (s .args .step) (marked (s .args .marks .now) (s .args .n))) (s .args .marks .now) (at .i)
+    (omega (arith, c .before .before .loop-test .taken, s .pre .held)) (sym (c .before .mends .ensures) ∙ c .if1 .left)))))
+
+returns : tie.Need-returns Inv-loop μ-loop
+returns c =
+    let s = c .before .before .before in
+    let at = c .before .loop in
+    at .inv .1 .1
+    ∙ count-end (mendable (s .args .w) (s .args .step) (marked (s .args .marks .now) (s .args .n))) (s .args .marks .now) (at .i) (s .args .n)
+    (at .inv .0) (c .loop-test .left)
+
+pub repairable-spec : {M : Type 1} → statement M
+repairable-spec =
+    tie.close
+    (tie.spec
+    Inv-loop
+    μ-loop
+    loop-holds
+    mends-requires
+    add-count
+    add-i
+    loop-less
+    loop-again
+    add-i-2
+    loop-less-2
+    loop-again-2
+    returns)
