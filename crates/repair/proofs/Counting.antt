@@ -44,7 +44,7 @@ module _ (f : ℕ → Bool) where
   count-more l i j h =
       let e : i + (j - i) ≡ j = omega arith in
       let s : countIn f (take j l) ≡ countIn f (take i l) + countIn f (take (j - i) (drop i l)) =
-          ap (λ (k : ℕ). countIn f (take k l)) (sym e) ∙ ap (countIn f) (take-add i (j - i) l) ∙ count-append (take i l) (take (j - i) (drop i l)) in
+      ap (λ (k : ℕ). countIn f (take k l)) (sym e) ∙ ap (countIn f) (take-add i (j - i) l) ∙ count-append (take i l) (take (j - i) (drop i l)) in
       omega arith
 
   pub count-end : (l : List ℕ) (i n : ℕ) → i ≤ n → n ≤ i → countIn f (take i l) ≡ countIn f (take n l)
@@ -71,7 +71,7 @@ count-from f m a zero = unfold countBelow in refl
 count-from f m a (suc n) =
     let rest : countBelow n (λ i. m (suc a + i) && f (suc a + i)) ≡ countBelow n (λ i. m (a + suc i) && f (a + suc i)) = simp (suc-add, add-suc) in
     let s : countBelow (suc n) (λ i. m (a + i) && f (a + i)) ≡ cond (m a && f a) 1 0 + countBelow n (λ i. m (a + suc i) && f (a + suc i)) =
-        count-front n (λ i. m (a + i) && f (a + i)) ∙ simp add-zero in
+    count-front n (λ i. m (a + i) && f (a + i)) ∙ simp add-zero in
     by-cases (m a)
     (λ e. rw e (omega (arith, count-from f m (suc a) n, rest, rw e at s)))
     (λ e. rw e (omega (arith, count-from f m (suc a) n, rest, rw e at s)))

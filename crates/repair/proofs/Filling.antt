@@ -47,7 +47,7 @@ module _ (p : ℕ) (mean : ℕ → Float) (values₀ : List Float) (at : ℕ) wh
   planes-end values k s h = s .done ∙ ap (λ (m : ℕ). each (between at (at + m) (λ j v. mean (j - at))) values₀) (omega (arith, s .within))
 
 module _ {A : Type 0} (d : A) (toFloat : A → Float) (w : Window) (step : ℕ) (bad : ℕ → Bool) (s : List A) (x y k : ℕ) (r : Sum)
-  (e : tallyOf r ≡ tallyAt (w .width) (w .height) step bad (λ xx yy. toFloat (sampleAt d w s xx yy k)) x y) where
+    (e : tallyOf r ≡ tallyAt (w .width) (w .height) step bad (λ xx yy. toFloat (sampleAt d w s xx yy k)) x y) where
   -- a sum over sound neighbours counts at most 8, and its mean is the new value
   pub tally-small : r .n ≤ 8
   tally-small =

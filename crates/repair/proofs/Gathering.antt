@@ -47,16 +47,18 @@ ranges-of w period e =
     let e6 = and-second (leb (w .x0) 16777216) _ e5 in
     let e7 = and-second (leb (w .y0) 16777216) _ e6 in
     let e8 = and-second (leb (w .«full_width») 16777216) _ e7 in
-    let e9 = and-second (leb (w .«full_height») 16777216) _ e8 in
-    (record {
-      width = leb-true (w .width) 65536 (and-first (leb (w .width) 65536) _ e);
-      height = leb-true (w .height) 65536 (and-first (leb (w .height) 65536) _ e1);
-      stride = leb-true (w .stride) 65536 (and-first (leb (w .stride) 65536) _ e2);
-      some = leb-true 1 (w .planes) (and-first (leb 1 (w .planes)) _ e3);
-      planes = leb-true (w .planes) 8 (and-first (leb (w .planes) 8) _ e4);
-      x0 = leb-true (w .x0) 16777216 (and-first (leb (w .x0) 16777216) _ e5);
-      y0 = leb-true (w .y0) 16777216 (and-first (leb (w .y0) 16777216) _ e6);
-    }, leb-true period 65536 e9)
+    let e9 = and-second (leb (w .«full_height») 16777216) _ e8 in (
+      record {
+        width = leb-true (w .width) 65536 (and-first (leb (w .width) 65536) _ e);
+        height = leb-true (w .height) 65536 (and-first (leb (w .height) 65536) _ e1);
+        stride = leb-true (w .stride) 65536 (and-first (leb (w .stride) 65536) _ e2);
+        some = leb-true 1 (w .planes) (and-first (leb 1 (w .planes)) _ e3);
+        planes = leb-true (w .planes) 8 (and-first (leb (w .planes) 8) _ e4);
+        x0 = leb-true (w .x0) 16777216 (and-first (leb (w .x0) 16777216) _ e5);
+        y0 = leb-true (w .y0) 16777216 (and-first (leb (w .y0) 16777216) _ e6);
+      },
+      leb-true period 65536 e9,
+    )
 
 -- ---- the marks of an opcode
 
@@ -126,7 +128,7 @@ pub mended-few : (marks : List ℕ) (n : ℕ) (w : Window) (step : ℕ) → Mark
     → (mended marks n w step ≤ n) × (w .planes * mended marks n w step ≤ 8 * n)
 mended-few marks n w step m =
     let few : mended marks n w step ≤ n =
-        subst (λ (k : ℕ). mended marks n w step ≤ k) (length-take-le n marks (m .held)) (count-few (mendable w step (marked marks n)) (take n marks)) in
+    subst (λ (k : ℕ). mended marks n w step ≤ k) (length-take-le n marks (m .held)) (count-few (mendable w step (marked marks n)) (take n marks)) in
     (few, omega (arith, few, mul-le-mul-right (mended marks n w step) (m .fits .planes)))
 
 module _ {A : Type 0} (kind : Kind A) (w : Window) (period : ℕ) (op : Opcode) (b : List ℕ) (s : List A) (m : List ℕ) (room : ℕ) where
@@ -151,7 +153,7 @@ module _ {A : Type 0} (kind : Kind A) (w : Window) (period : ℕ) (op : Opcode) 
 
   -- all n marks were gathered
   module _ (e : complete w (length s) ≡ true) (r : Marked) (m′ : List ℕ) (n : ℕ) (d : r ≡ M.All n)
-    (g : Gathered (positions w) (marksOn (kind .none) w (kind .isBad) op b s) m m′ r) where
+      (g : Gathered (positions w) (marksOn (kind .none) w (kind .isBad) op b s) m m′ r) where
     held : Holds (positions w) (marksOf (kind .none) w (kind .isBad) op b s) m m′ n
     held =
         subst (λ (f : ℕ → Bool). Holds (positions w) f m m′ n) (marks-as e)

@@ -160,6 +160,6 @@ module _ (w : Window) (j : ℕ) (e : inWindow w j ≡ true) where
   pub pixel-of : (q : ℕ) → 1 ≤ w .planes → rowOf w j * w .width + columnOf w j ≡ q → (pixelOf w q ≤ j) × (j < pixelOf w q + w .planes)
   pixel-of q p d =
       let s : pixelOf w q + planeOf w j ≡ j =
-          ap₂ (λ (y x : ℕ). (y * w .stride + x) * w .planes + planeOf w j) (row-from q d) (column-from q d) ∙ place-of in
+      ap₂ (λ (y x : ℕ). (y * w .stride + x) * w .planes + planeOf w j) (row-from q d) (column-from q d) ∙ place-of in
       let k : planeOf w j < w .planes = mod-lt j p in
       omega arith

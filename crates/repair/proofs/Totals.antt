@@ -65,7 +65,7 @@ module _ (w : Window) (period step : ℕ) (bad : ℕ → Bool) (l : List ℕ) (e
 -- ---- the new samples depend on the marks below the number of positions only, and on the step
 
 module _ {A : Type 0} (none : A) (toFloat : A → Float) (ofMean : Float → A) (w : Window) (bad bad′ : ℕ → Bool)
-  (same : (q : ℕ) → q < positions w → bad q ≡ bad′ q) where
+    (same : (q : ℕ) → q < positions w → bad q ≡ bad′ q) where
   repair-same : (step : ℕ) (s : List A) (j : ℕ) (v : A) → repairAt none toFloat ofMean w step bad s j v ≡ repairAt none toFloat ofMean w step bad′ s j v
   unfolding repairAt
   repair-same step s j v =
@@ -73,8 +73,11 @@ module _ {A : Type 0} (none : A) (toFloat : A → Float) (ofMean : Float → A) 
       let y : ℕ = rowOf w j in
       let f : ℕ → ℕ → Float = λ xx yy. toFloat (sampleAt none w s xx yy (planeOf w j)) in
       by-cases (inWindow w j)
-      (λ e. rw (e, same (y * w .width + x) (position-in w x y (column-of w j e) (row-of w j e)),
-          tally-ext w (stepOf step) bad bad′ same x y f f (λ xx yy p q r. refl)) refl)
+      (λ e. rw (
+        e,
+        same (y * w .width + x) (position-in w x y (column-of w j e) (row-of w j e)),
+        tally-ext w (stepOf step) bad bad′ same x y f f (λ xx yy p q r. refl),
+      ) refl)
       (λ e. rw e refl)
 
   pub repair-ext : (period step : ℕ) (s : List A) → step ≡ stepOf period
@@ -98,10 +101,15 @@ module _ {A : Type 0} (kind : Kind A) (w : Window) (period : ℕ) (room : Room) 
   pub fixes-none : ((q : ℕ) → bad q ≡ false) → Fixes kind w period room bad s s (F.Done 0 0)
   unfolding repairOn markedIn repairedIn leftIn
   fixes-none h k a b =
-      rw (count-none (positions w) bad h, le-leb 0 (room .marks) (omega arith),
-      count-none (positions w) (λ q. bad q && leb 1 (soundAt w period bad q)) (λ q. rw (h q) refl), mul-zero (w .planes), le-leb 0 (room .values) (omega arith),
-      count-none (positions w) (λ q. bad q && eqb (soundAt w period bad q) 0) (λ q. rw (h q) refl),
-      repair-none (kind .none) (kind .toFloat) (kind .ofMean) w bad h period s) refl
+      rw (
+        count-none (positions w) bad h,
+        le-leb 0 (room .marks) (omega arith),
+        count-none (positions w) (λ q. bad q && leb 1 (soundAt w period bad q)) (λ q. rw (h q) refl),
+        mul-zero (w .planes),
+        le-leb 0 (room .values) (omega arith),
+        count-none (positions w) (λ q. bad q && eqb (soundAt w period bad q) 0) (λ q. rw (h q) refl),
+        repair-none (kind .none) (kind .toFloat) (kind .ofMean) w bad h period s,
+      ) refl
 
   pub fixes-marks : room .marks < markedIn w bad → Fixes kind w period room bad s s F.Marks
   unfolding repairOn
@@ -109,7 +117,7 @@ module _ {A : Type 0} (kind : Kind A) (w : Window) (period : ℕ) (room : Room) 
 
   -- n marks at the front of the scratch
   module _ (s′ : List A) (marks : List ℕ) (n step : ℕ) (d : step ≡ stepOf period) (e : take n marks ≡ chosen bad 0 (positions w)) (c : n ≡ markedIn w bad)
-    (fit : n ≤ room .marks) where
+      (fit : n ≤ room .marks) where
     new : List A
     new = each (repairAt (kind .none) (kind .toFloat) (kind .ofMean) w step (marked marks n) s) s
 
@@ -126,7 +134,7 @@ module _ {A : Type 0} (kind : Kind A) (w : Window) (period : ℕ) (room : Room) 
         let first : a ≡ repairedIn w period bad = m .repaired ∙ many in
         let rest : b ≡ leftIn w period bad = omega (arith, m .left, many, totals w period bad) in
         let all : s′ ≡ each (repairAt (kind .none) (kind .toFloat) (kind .ofMean) w period bad s) s =
-            m .samples ∙ repair-ext (kind .none) (kind .toFloat) (kind .ofMean) w (marked marks n) bad (held-same w period step bad (take n marks) e d) period step s d in
+        m .samples ∙ repair-ext (kind .none) (kind .toFloat) (kind .ofMean) w (marked marks n) bad (held-same w period step bad (take n marks) e d) period step s d in
         rw (room-marks, le-leb (w .planes * repairedIn w period bad) (room .values) (subst (λ (x : ℕ). w .planes * x ≤ room .values) many (m .fits)), first, rest, all) refl
     fixes-settled F.Marks m k u v = absurd m
     fixes-settled F.Values m k u v =

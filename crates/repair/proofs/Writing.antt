@@ -83,7 +83,7 @@ module _ {A : Type 0} (w : Window) where
   part-none done value h j v = rw (h (rowOf w j * w .width + columnOf w j), and-false) refl
 
   module _ (f : Fits w) (done : ℕ → Bool) (value : ℕ → ℕ → ℕ → A) (q : ℕ) (h : q < positions w) (g : ℕ → A → A)
-    (new : (k : ℕ) (v : A) → k < w .planes → g (pixelOf w q + k) v ≡ value (q % w .width) (q / w .width) k) where
+      (new : (k : ℕ) (v : A) → k < w .planes → g (pixelOf w q + k) v ≡ value (q % w .width) (q / w .width) k) where
     -- a sample of the pixel
     inside : (k : ℕ) (v : A) → k < w .planes → g (pixelOf w q + k) v ≡ partAt (λ p. done p || eqb p q) value (pixelOf w q + k) v
     unfolding partAt
@@ -91,9 +91,15 @@ module _ {A : Type 0} (w : Window) where
         let hx : q % w .width < w .width = column-in w f q h in
         let hy : q / w .width < w .height = row-in w f q h in
         new k v l
-        ∙ rw (window-at w f (q % w .width) (q / w .width) k hx hy l, row-at w f (q % w .width) (q / w .width) k hx hy l,
-        column-at w f (q % w .width) (q / w .width) k hx hy l, plane-at w f (q % w .width) (q / w .width) k hx hy l, position-is w q,
-        eq-eqb q q refl, or-true) refl
+        ∙ rw (
+          window-at w f (q % w .width) (q / w .width) k hx hy l,
+          row-at w f (q % w .width) (q / w .width) k hx hy l,
+          column-at w f (q % w .width) (q / w .width) k hx hy l,
+          plane-at w f (q % w .width) (q / w .width) k hx hy l,
+          position-is w q,
+          eq-eqb q q refl,
+          or-true,
+        ) refl
 
     -- one of another position, or of none
     outside : (j : ℕ) (v : A) → ((pixelOf w q ≤ j) → (j < pixelOf w q + w .planes) → ⊥) → partAt done value j v ≡ partAt (λ p. done p || eqb p q) value j v
@@ -101,9 +107,9 @@ module _ {A : Type 0} (w : Window) where
     outside j v out =
         by-cases (inWindow w j)
         (λ e.
-            let n : eqb (rowOf w j * w .width + columnOf w j) q ≡ false =
-                ne-eqb (rowOf w j * w .width + columnOf w j) q (λ d. let i = pixel-of w j e q (f .some) d in out (i .0) (i .1)) in
-            rw (n, or-false) refl)
+        let n : eqb (rowOf w j * w .width + columnOf w j) q ≡ false =
+        ne-eqb (rowOf w j * w .width + columnOf w j) q (λ d. let i = pixel-of w j e q (f .some) d in out (i .0) (i .1)) in
+        rw (n, or-false) refl)
         (λ e. rw e refl)
 
     -- the pixel written: its position is done too
@@ -112,11 +118,11 @@ module _ {A : Type 0} (w : Window) where
         each-each (partAt done value) (between b (b + w .planes) g) s
         ∙ each-agree (λ j v. between b (b + w .planes) g j (partAt done value j v)) (partAt (λ p. done p || eqb p q) value) s
         (λ j v l.
-            below-or j b
-            (λ m. between-low b (b + w .planes) g j _ m ∙ outside j v (λ x y. omega arith))
-            (λ m. below-or j (b + w .planes)
-                (λ n. between-in b (b + w .planes) g j _ m n ∙ at j v m n)
-                (λ n. between-high b (b + w .planes) g j _ n ∙ outside j v (λ x y. omega arith))))
+        below-or j b
+        (λ m. between-low b (b + w .planes) g j _ m ∙ outside j v (λ x y. omega arith))
+        (λ m. below-or j (b + w .planes)
+        (λ n. between-in b (b + w .planes) g j _ m n ∙ at j v m n)
+        (λ n. between-high b (b + w .planes) g j _ n ∙ outside j v (λ x y. omega arith))))
       where
         b : ℕ
         b = pixelOf w q
@@ -197,8 +203,8 @@ module _ {A : Type 0} (w : Window) (n : ℕ) (test : ℕ → Bool) (value : ℕ 
               ∙ part-next w fits (among test marks i) value (getD marks i 0) m g new s₀
               ∙ each-agree (partAt w (λ p. among test marks i p || eqb p (getD marks i 0)) value) (partAt w (among test marks (i + 1)) value) s₀
               (λ j v l.
-                  part-ext w (λ p. among test marks i p || eqb p (getD marks i 0)) (among test marks (i + 1)) value
-                  (λ q k. among-yes test marks i (omega arith) t q) j v);
+              part-ext w (λ p. among test marks i p || eqb p (getD marks i 0)) (among test marks (i + 1)) value
+              (λ q k. among-yes test marks i (omega arith) t q) j v);
         }
       where
         b : ℕ
@@ -213,9 +219,9 @@ module _ {A : Type 0} (w : Window) (n : ℕ) (test : ℕ → Bool) (value : ℕ 
     write-put s′ keep mean from values fits m t v filled e d =
         write-yes s′ (kept keep from values at) fits m t
         (λ k u l.
-            let back : at + (pixelOf w (getD marks i 0) + k - from) ≡ w .planes * countIn test (take i marks) + k = omega (arith, f .next) in
-            ap (λ (j : ℕ). keep (getD values j nan)) back ∙ ap keep (filled i h t k l)
-            ∙ ap (λ (g : ℕ → ℕ → ℕ → A). g (getD marks i 0 % w .width) (getD marks i 0 / w .width) k) (sym v))
+        let back : at + (pixelOf w (getD marks i 0) + k - from) ≡ w .planes * countIn test (take i marks) + k = omega (arith, f .next) in
+        ap (λ (j : ℕ). keep (getD values j nan)) back ∙ ap keep (filled i h t k l)
+        ∙ ap (λ (g : ℕ → ℕ → ℕ → A). g (getD marks i 0 % w .width) (getD marks i 0 / w .width) k) (sym v))
         (d ∙ ap (λ (b : ℕ). each (between b (b + w .planes) (kept keep from values at)) s) e)
 
   pub write-end : (s : List A) (at i : ℕ) → Written w n test value marks s₀ s at i → n ≤ i → s ≡ each (partAt w (among test marks n) value) s₀
@@ -263,6 +269,6 @@ module _ {A : Type 0} (d : A) (toFloat : A → Float) (keep : Float → A) (w : 
       write-end w n (mendable w step bad) newAt marks s s′ at i f h
       ∙ each-agree (partAt w (among (mendable w step bad) marks n) newAt) (repairAt d toFloat keep w step bad s) s
       (λ j v l.
-          part-ext w (among (mendable w step bad) marks n) (λ q. bad q && mendable w step bad q) newAt
-          (λ q m. ap (λ (g : ℕ → Bool). g q && mendable w step bad q) (sym e)) j v
-          ∙ part-repair low j v)
+      part-ext w (among (mendable w step bad) marks n) (λ q. bad q && mendable w step bad q) newAt
+      (λ q m. ap (λ (g : ℕ → Bool). g q && mendable w step bad q) (sym e)) j v
+      ∙ part-repair low j v)

@@ -12,7 +12,14 @@ ghost use Rattle.marks.specs.Marks.{Fits, Gathered};
 ghost use Rattle.means.specs.Looks.{Asks, marked};
 ghost use Rattle.repair.specs.Fixes.{Fixes};
 ghost use Rattle.repair.specs.Works.{
-    Ranges, Marking, mendable, mended, pixelOf, meanAt, Filled, Settled
+  Ranges,
+  Marking,
+  mendable,
+  mended,
+  pixelOf,
+  meanAt,
+  Filled,
+  Settled,
 };
 ghost use Rattle.scan.specs.Parts.{Whole};
 ghost use Rattle.dng.specs.Run.{f32Kind, u16Kind};
@@ -95,16 +102,12 @@ fn pixel_f32(
     values: &mut [f32],
     at: usize,
 )
-    requires {
-        ⌜ Asks (now marks) n w step (q % w .width) (q / w .width)
-            × ((complete w (length (now samples)) ≡ true) × (at + w .planes ≤ length (now values))) ⌝
-    }
-    ensures {
-        λ r.
+    requires { ⌜ Asks (now marks) n w step (q % w .width) (q / w .width)
+        × ((complete w (length (now samples)) ≡ true) × (at + w .planes ≤ length (now values))) ⌝ }
+    ensures { λ r.
         ⌜ now (values .exit)
-            ≡ each (between at (at + w .planes)
-            (λ j v. meanAt nan (λ u. u) w step (marked (now (marks .entry)) n) (now (samples .entry)) q (j - at))) (now (values .entry)) ⌝
-    }
+        ≡ each (between at (at + w .planes)
+        (λ j v. meanAt nan (λ u. u) w step (marked (now (marks .entry)) n) (now (samples .entry)) q (j - at))) (now (values .entry)) ⌝ }
 {
     let x = q % w.width;
     let y = q / w.width;
@@ -126,17 +129,13 @@ fn pixel_u16(
     values: &mut [f32],
     at: usize,
 )
-    requires {
-        ⌜ Asks (now marks) n w step (q % w .width) (q / w .width)
-            × ((complete w (length (now samples)) ≡ true) × (at + w .planes ≤ length (now values))) ⌝
-    }
-    ensures {
-        λ r.
+    requires { ⌜ Asks (now marks) n w step (q % w .width) (q / w .width)
+        × ((complete w (length (now samples)) ≡ true) × (at + w .planes ≤ length (now values))) ⌝ }
+    ensures { λ r.
         ⌜ now (values .exit)
-            ≡ each (between at (at + w .planes)
-            (λ j v. meanAt 0 (λ u. wholeIn binary32 u) w step (marked (now (marks .entry)) n) (now (samples .entry)) q (j - at)))
-            (now (values .entry)) ⌝
-    }
+        ≡ each (between at (at + w .planes)
+        (λ j v. meanAt 0 (λ u. wholeIn binary32 u) w step (marked (now (marks .entry)) n) (now (samples .entry)) q (j - at)))
+        (now (values .entry)) ⌝ }
 {
     let x = q % w.width;
     let y = q / w.width;
@@ -149,15 +148,11 @@ fn pixel_u16(
 
 // The new values of every mark that is repaired, one behind another, from the samples as they are at the start.
 fn fill_f32(samples: &[f32], marks: &[u32], n: usize, w: Window, step: usize, values: &mut [f32])
-    requires {
-        ⌜ Marking (now marks) n w step
-            × ((complete w (length (now samples)) ≡ true) × (w .planes * mended (now marks) n w step ≤ length (now values))) ⌝
-    }
-    ensures {
-        λ r.
+    requires { ⌜ Marking (now marks) n w step
+        × ((complete w (length (now samples)) ≡ true) × (w .planes * mended (now marks) n w step ≤ length (now values))) ⌝ }
+    ensures { λ r.
         ⌜ Filled (w .planes) n (mendable w step (marked (now (marks .entry)) n))
-            (meanAt nan (λ u. u) w step (marked (now (marks .entry)) n) (now (samples .entry))) (now (marks .entry)) (now (values .exit)) ⌝
-    }
+        (meanAt nan (λ u. u) w step (marked (now (marks .entry)) n) (now (samples .entry))) (now (marks .entry)) (now (values .exit)) ⌝ }
 {
     let mut at = 0;
     let mut i = 0;
@@ -174,15 +169,11 @@ fn fill_f32(samples: &[f32], marks: &[u32], n: usize, w: Window, step: usize, va
 
 // The same of u16 samples.
 fn fill_u16(samples: &[u16], marks: &[u32], n: usize, w: Window, step: usize, values: &mut [f32])
-    requires {
-        ⌜ Marking (now marks) n w step
-            × ((complete w (length (now samples)) ≡ true) × (w .planes * mended (now marks) n w step ≤ length (now values))) ⌝
-    }
-    ensures {
-        λ r.
+    requires { ⌜ Marking (now marks) n w step
+        × ((complete w (length (now samples)) ≡ true) × (w .planes * mended (now marks) n w step ≤ length (now values))) ⌝ }
+    ensures { λ r.
         ⌜ Filled (w .planes) n (mendable w step (marked (now (marks .entry)) n))
-            (meanAt 0 (λ u. wholeIn binary32 u) w step (marked (now (marks .entry)) n) (now (samples .entry))) (now (marks .entry)) (now (values .exit)) ⌝
-    }
+        (meanAt 0 (λ u. wholeIn binary32 u) w step (marked (now (marks .entry)) n) (now (samples .entry))) (now (marks .entry)) (now (values .exit)) ⌝ }
 {
     let mut at = 0;
     let mut i = 0;
@@ -210,11 +201,9 @@ fn first(w: Window, q: usize) -> usize
 // A pixel's new values into its samples.
 fn put_f32(samples: &mut [f32], from: usize, planes: usize, values: &[f32], at: usize)
     requires { ⌜ (from + planes ≤ length (now samples)) × (at + planes ≤ length (now values)) ⌝ }
-    ensures {
-        λ r.
+    ensures { λ r.
         ⌜ now (samples .exit)
-            ≡ each (between from (from + planes) (λ j v. getD (now (values .entry)) (at + (j - from)) nan)) (now (samples .entry)) ⌝
-    }
+        ≡ each (between from (from + planes) (λ j v. getD (now (values .entry)) (at + (j - from)) nan)) (now (samples .entry)) ⌝ }
 {
     let mut k = 0;
     while k < planes {
@@ -226,11 +215,9 @@ fn put_f32(samples: &mut [f32], from: usize, planes: usize, values: &[f32], at: 
 // The same, rounded to whole and held to 0..65535.
 fn put_u16(samples: &mut [u16], from: usize, planes: usize, values: &[f32], at: usize)
     requires { ⌜ (from + planes ≤ length (now samples)) × (at + planes ≤ length (now values)) ⌝ }
-    ensures {
-        λ r.
+    ensures { λ r.
         ⌜ now (samples .exit)
-            ≡ each (between from (from + planes) (λ j v. roundHeld 65535 (getD (now (values .entry)) (at + (j - from)) nan))) (now (samples .entry)) ⌝
-    }
+        ≡ each (between from (from + planes) (λ j v. roundHeld 65535 (getD (now (values .entry)) (at + (j - from)) nan))) (now (samples .entry)) ⌝ }
 {
     let mut k = 0;
     while k < planes {
@@ -241,17 +228,13 @@ fn put_u16(samples: &mut [u16], from: usize, planes: usize, values: &[f32], at: 
 
 // The values of every mark that is repaired into the samples.
 fn write_f32(samples: &mut [f32], marks: &[u32], n: usize, w: Window, step: usize, values: &[f32])
-    requires {
-        ⌜ Marking (now marks) n w step
-            × ((complete w (length (now samples)) ≡ true) × ((w .planes * mended (now marks) n w step ≤ length (now values))
-            × Filled (w .planes) n (mendable w step (marked (now marks) n))
-            (meanAt nan (λ u. u) w step (marked (now marks) n) (now samples)) (now marks) (now values))) ⌝
-    }
-    ensures {
-        λ r.
+    requires { ⌜ Marking (now marks) n w step
+        × ((complete w (length (now samples)) ≡ true) × ((w .planes * mended (now marks) n w step ≤ length (now values))
+        × Filled (w .planes) n (mendable w step (marked (now marks) n))
+        (meanAt nan (λ u. u) w step (marked (now marks) n) (now samples)) (now marks) (now values))) ⌝ }
+    ensures { λ r.
         ⌜ now (samples .exit)
-            ≡ each (repairAt nan (λ u. u) (λ u. u) w step (marked (now (marks .entry)) n) (now (samples .entry))) (now (samples .entry)) ⌝
-    }
+        ≡ each (repairAt nan (λ u. u) (λ u. u) w step (marked (now (marks .entry)) n) (now (samples .entry))) (now (samples .entry)) ⌝ }
 {
     let mut at = 0;
     let mut i = 0;
@@ -269,18 +252,14 @@ fn write_f32(samples: &mut [f32], marks: &[u32], n: usize, w: Window, step: usiz
 
 // The same of u16 samples.
 fn write_u16(samples: &mut [u16], marks: &[u32], n: usize, w: Window, step: usize, values: &[f32])
-    requires {
-        ⌜ Marking (now marks) n w step
-            × ((complete w (length (now samples)) ≡ true) × ((w .planes * mended (now marks) n w step ≤ length (now values))
-            × Filled (w .planes) n (mendable w step (marked (now marks) n))
-            (meanAt 0 (λ u. wholeIn binary32 u) w step (marked (now marks) n) (now samples)) (now marks) (now values))) ⌝
-    }
-    ensures {
-        λ r.
+    requires { ⌜ Marking (now marks) n w step
+        × ((complete w (length (now samples)) ≡ true) × ((w .planes * mended (now marks) n w step ≤ length (now values))
+        × Filled (w .planes) n (mendable w step (marked (now marks) n))
+        (meanAt 0 (λ u. wholeIn binary32 u) w step (marked (now marks) n) (now samples)) (now marks) (now values))) ⌝ }
+    ensures { λ r.
         ⌜ now (samples .exit)
-            ≡ each (repairAt 0 (λ u. wholeIn binary32 u) (λ u. roundHeld 65535 u) w step (marked (now (marks .entry)) n) (now (samples .entry)))
-            (now (samples .entry)) ⌝
-    }
+        ≡ each (repairAt 0 (λ u. wholeIn binary32 u) (λ u. roundHeld 65535 u) w step (marked (now (marks .entry)) n) (now (samples .entry)))
+        (now (samples .entry)) ⌝ }
 {
     let mut at = 0;
     let mut i = 0;
@@ -299,14 +278,19 @@ fn write_u16(samples: &mut [u16], marks: &[u32], n: usize, w: Window, step: usiz
 // ---- the repair, its marks at the front of the scratch
 
 // Room for the new values first; with too little of it nothing is written.
-fn settle_f32(samples: &mut [f32], marks: &[u32], n: usize, w: Window, step: usize, values: &mut [f32]) -> Fixed
+fn settle_f32(
+    samples: &mut [f32],
+    marks: &[u32],
+    n: usize,
+    w: Window,
+    step: usize,
+    values: &mut [f32],
+) -> Fixed
     requires { ⌜ Marking (now marks) n w step × (complete w (length (now samples)) ≡ true) ⌝ }
-    ensures {
-        λ r.
+    ensures { λ r.
         ⌜ Settled (now (samples .entry)) (now (samples .exit))
-            (each (repairAt nan (λ u. u) (λ u. u) w step (marked (now (marks .entry)) n) (now (samples .entry))) (now (samples .entry)))
-            (w .planes) (length (now (values .entry))) n (mended (now (marks .entry)) n w step) r ⌝
-    }
+        (each (repairAt nan (λ u. u) (λ u. u) w step (marked (now (marks .entry)) n) (now (samples .entry))) (now (samples .entry)))
+        (w .planes) (length (now (values .entry))) n (mended (now (marks .entry)) n w step) r ⌝ }
 {
     let repaired = repairable(marks, n, w, step);
     if values.len() < w.planes * repaired {
@@ -321,14 +305,19 @@ fn settle_f32(samples: &mut [f32], marks: &[u32], n: usize, w: Window, step: usi
 }
 
 // The same of u16 samples.
-fn settle_u16(samples: &mut [u16], marks: &[u32], n: usize, w: Window, step: usize, values: &mut [f32]) -> Fixed
+fn settle_u16(
+    samples: &mut [u16],
+    marks: &[u32],
+    n: usize,
+    w: Window,
+    step: usize,
+    values: &mut [f32],
+) -> Fixed
     requires { ⌜ Marking (now marks) n w step × (complete w (length (now samples)) ≡ true) ⌝ }
-    ensures {
-        λ r.
+    ensures { λ r.
         ⌜ Settled (now (samples .entry)) (now (samples .exit))
-            (each (repairAt 0 (λ u. wholeIn binary32 u) (λ u. roundHeld 65535 u) w step (marked (now (marks .entry)) n) (now (samples .entry)))
-            (now (samples .entry))) (w .planes) (length (now (values .entry))) n (mended (now (marks .entry)) n w step) r ⌝
-    }
+        (each (repairAt 0 (λ u. wholeIn binary32 u) (λ u. roundHeld 65535 u) w step (marked (now (marks .entry)) n) (now (samples .entry)))
+        (now (samples .entry))) (w .planes) (length (now (values .entry))) n (mended (now (marks .entry)) n w step) r ⌝ }
 {
     let repaired = repairable(marks, n, w, step);
     if values.len() < w.planes * repaired {
@@ -345,20 +334,32 @@ fn settle_u16(samples: &mut [u16], marks: &[u32], n: usize, w: Window, step: usi
 // ---- the marks of an opcode, and the repair
 
 // The positions that an opcode marks. One that is no repair marks none.
-fn gather_f32(samples: &[f32], w: Window, scale: f32, op: Opcode, body: &[u8], marks: &mut [u32]) -> Marked
+fn gather_f32(
+    samples: &[f32],
+    w: Window,
+    scale: f32,
+    op: Opcode,
+    body: &[u8],
+    marks: &mut [u32],
+) -> Marked
     requires { ⌜ Whole (length (now samples)) w ⌝ }
-    ensures {
-        λ r.
+    ensures { λ r.
         ⌜ Gathered (positions w) (marksOn nan w (f32Kind (frameOf w scale) .isBad) op (now (body .entry)) (now (samples .entry)))
-            (now (marks .entry)) (now (marks .exit)) r ⌝
-    }
+        (now (marks .entry)) (now (marks .exit)) r ⌝ }
 {
     match op {
-        Opcode::FixBadPixelsConstant { constant, bayer_phase: _ } => {
+        Opcode::FixBadPixelsConstant {
+            constant,
+            bayer_phase: _,
+        } => {
             let c = convert::f32_of_u32(constant) / scale;
             scan::constant_marks_f32(samples, w, c, marks)
         }
-        Opcode::FixBadPixelsList { bayer_phase: _, points, rects } => marks::list_marks(body, points, rects, w, marks),
+        Opcode::FixBadPixelsList {
+            bayer_phase: _,
+            points,
+            rects,
+        } => marks::list_marks(body, points, rects, w, marks),
         _ => Marked::All { n: 0 },
     }
 }
@@ -366,15 +367,20 @@ fn gather_f32(samples: &[f32], w: Window, scale: f32, op: Opcode, body: &[u8], m
 // The same of u16 samples: whole numbers are compared.
 fn gather_u16(samples: &[u16], w: Window, op: Opcode, body: &[u8], marks: &mut [u32]) -> Marked
     requires { ⌜ Whole (length (now samples)) w ⌝ }
-    ensures {
-        λ r.
+    ensures { λ r.
         ⌜ Gathered (positions w) (marksOn 0 w (u16Kind .isBad) op (now (body .entry)) (now (samples .entry)))
-            (now (marks .entry)) (now (marks .exit)) r ⌝
-    }
+        (now (marks .entry)) (now (marks .exit)) r ⌝ }
 {
     match op {
-        Opcode::FixBadPixelsConstant { constant, bayer_phase: _ } => scan::constant_marks_u16(samples, w, constant, marks),
-        Opcode::FixBadPixelsList { bayer_phase: _, points, rects } => marks::list_marks(body, points, rects, w, marks),
+        Opcode::FixBadPixelsConstant {
+            constant,
+            bayer_phase: _,
+        } => scan::constant_marks_u16(samples, w, constant, marks),
+        Opcode::FixBadPixelsList {
+            bayer_phase: _,
+            points,
+            rects,
+        } => marks::list_marks(body, points, rects, w, marks),
         _ => Marked::All { n: 0 },
     }
 }
@@ -391,13 +397,11 @@ pub fn fix_f32(
     values: &mut [f32],
 ) -> Fixed
     requires { ⌜ inRange w period ≡ true ⌝ }
-    ensures {
-        λ r.
+    ensures { λ r.
         ⌜ Fixes (f32Kind (frameOf w scale)) w period
-            (record { marks = length (now (marks .entry)); values = length (now (values .entry)) })
-            (marksOf nan w (f32Kind (frameOf w scale) .isBad) op (now (body .entry)) (now (samples .entry)))
-            (now (samples .entry)) (now (samples .exit)) r ⌝
-    }
+        (record { marks = length (now (marks .entry)); values = length (now (values .entry)) })
+        (marksOf nan w (f32Kind (frameOf w scale) .isBad) op (now (body .entry)) (now (samples .entry)))
+        (now (samples .entry)) (now (samples .exit)) r ⌝ }
 {
     if full(samples.len(), w) {
         let got = gather_f32(samples, w, scale, op, body, marks);
@@ -424,13 +428,11 @@ pub fn fix_u16(
     values: &mut [f32],
 ) -> Fixed
     requires { ⌜ inRange w period ≡ true ⌝ }
-    ensures {
-        λ r.
+    ensures { λ r.
         ⌜ Fixes u16Kind w period
-            (record { marks = length (now (marks .entry)); values = length (now (values .entry)) })
-            (marksOf 0 w (u16Kind .isBad) op (now (body .entry)) (now (samples .entry)))
-            (now (samples .entry)) (now (samples .exit)) r ⌝
-    }
+        (record { marks = length (now (marks .entry)); values = length (now (values .entry)) })
+        (marksOf 0 w (u16Kind .isBad) op (now (body .entry)) (now (samples .entry)))
+        (now (samples .entry)) (now (samples .exit)) r ⌝ }
 {
     if full(samples.len(), w) {
         let got = gather_u16(samples, w, op, body, marks);

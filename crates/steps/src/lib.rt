@@ -93,16 +93,45 @@ fn plan_of(op: Opcode) -> Plan
         Opcode::FixBadPixelsConstant { .. } => Plan::Nothing,
         Opcode::FixBadPixelsList { .. } => Plan::Nothing,
         Opcode::TrimBounds { .. } => Plan::Nothing,
-        Opcode::MapTable { region, n } => Plan::Area { region, task: Task::Table { n } },
-        Opcode::MapPolynomial { region, degree } => Plan::Area { region, task: Task::Polynomial { degree } },
-        Opcode::GainMap { region, points_v, points_h, grid, map_planes } => Plan::Area {
+        Opcode::MapTable { region, n } => Plan::Area {
             region,
-            task: Task::Gain { points_v, points_h, grid, map_planes },
+            task: Task::Table { n },
         },
-        Opcode::DeltaPerRow { region, n } => Plan::Area { region, task: Task::DeltaRows { n } },
-        Opcode::DeltaPerColumn { region, n } => Plan::Area { region, task: Task::DeltaColumns { n } },
-        Opcode::ScalePerRow { region, n } => Plan::Area { region, task: Task::ScaleRows { n } },
-        Opcode::ScalePerColumn { region, n } => Plan::Area { region, task: Task::ScaleColumns { n } },
+        Opcode::MapPolynomial { region, degree } => Plan::Area {
+            region,
+            task: Task::Polynomial { degree },
+        },
+        Opcode::GainMap {
+            region,
+            points_v,
+            points_h,
+            grid,
+            map_planes,
+        } => Plan::Area {
+            region,
+            task: Task::Gain {
+                points_v,
+                points_h,
+                grid,
+                map_planes,
+            },
+        },
+        Opcode::DeltaPerRow { region, n } => Plan::Area {
+            region,
+            task: Task::DeltaRows { n },
+        },
+        Opcode::DeltaPerColumn { region, n } => Plan::Area {
+            region,
+            task: Task::DeltaColumns { n },
+        },
+        Opcode::ScalePerRow { region, n } => Plan::Area {
+            region,
+            task: Task::ScaleRows { n },
+        },
+        Opcode::ScalePerColumn { region, n } => Plan::Area {
+            region,
+            task: Task::ScaleColumns { n },
+        },
         Opcode::Other { .. } => Plan::Nothing,
     }
 }
@@ -232,9 +261,12 @@ fn one_plane(row: &mut [f32], k: Walk, r: Region, t: Task, g: Place, body: &[u8]
     match t {
         Task::Table { n } => table_plane(row, k, body, n, scale),
         Task::Polynomial { degree } => maps::polynomial_row(row, k, body, degree, scale),
-        Task::Gain { points_v, points_h, grid, map_planes } => {
-            gain_plane(row, k, r, g, body, points_v, points_h, grid, map_planes)
-        }
+        Task::Gain {
+            points_v,
+            points_h,
+            grid,
+            map_planes,
+        } => { gain_plane(row, k, r, g, body, points_v, points_h, grid, map_planes) }
         Task::DeltaRows { n } => delta_rows(row, k, r, g.y, body, n, scale),
         Task::DeltaColumns { n } => delta_columns(row, k, r, body, n, scale),
         Task::ScaleRows { n } => scale_rows(row, k, r, g.y, body, n),
@@ -273,7 +305,15 @@ fn selected(g: Place, r: Region) -> bool
 }
 
 // The planes of a region, one after another.
-fn region_planes(row: &mut [f32], g: Place, r: Region, t: Task, start: Start, body: &[u8], scale: f32)
+fn region_planes(
+    row: &mut [f32],
+    g: Place,
+    r: Region,
+    t: Task,
+    start: Start,
+    body: &[u8],
+    scale: f32,
+)
     requires { ⌜
         RowFits (g .x0) (g .planes) (g .y) (length (now row)) × First (r .left) (r .«col_pitch») (g .x0) (start .col) (start .nth)
         × (taskFits t ≡ true)
@@ -325,9 +365,22 @@ pub fn row_step(row: &mut [f32], g: Place, op: Opcode, ready: Prepared, body: &[
     match ready {
         Prepared::Nothing => {}
         Prepared::Vignette { radial, m2 } => {
-            vignette::vignette_row(row, radial, m2, g.x0, g.planes, g.y, g.full_width, g.full_height)
+            vignette::vignette_row(
+                row,
+                radial,
+                m2,
+                g.x0,
+                g.planes,
+                g.y,
+                g.full_width,
+                g.full_height,
+            )
         }
-        Prepared::Area { region, task, start } => region_row(row, g, region, task, start, body, scale),
+        Prepared::Area {
+            region,
+            task,
+            start,
+        } => region_row(row, g, region, task, start, body, scale),
     }
 }
 
@@ -402,6 +455,10 @@ pub fn row_step16(row: &mut [u16], g: Place, op: Opcode, ready: Prepared, body: 
     match ready {
         Prepared::Nothing => {}
         Prepared::Vignette { .. } => {}
-        Prepared::Area { region, task, start } => region_row16(row, g, region, table_size(task), start, body),
+        Prepared::Area {
+            region,
+            task,
+            start,
+        } => region_row16(row, g, region, table_size(task), start, body),
     }
 }

@@ -102,13 +102,7 @@ fn rows16(samples: &mut [u16], w: Window, op: Opcode, ready: Prepared, body: &[u
             return;
         }
         let end = smaller(at + width, n);
-        steps::row_step16(
-            &mut samples[at..end],
-            place_at(w, y),
-            op,
-            ready,
-            body,
-        );
+        steps::row_step16(&mut samples[at..end], place_at(w, y), op, ready, body);
         at += step;
         y += 1;
     }

@@ -46,7 +46,7 @@ there c =
     let a = s .args in
     let at = c .before .before .before .before .loop in
     let room = next-room (a .w .planes) (a .n) (mendable (a .w) (a .step) (marked (a .marks .now) (a .n))) (a .marks .now) (at .i) (s .pre .0 .held)
-        (at .at) (length (a .values .now)) (at .inv .next) (c .before .before .before .loop-test .taken) (sym (c .before .before .mends .ensures) ∙ c .before .if1 .taken) (s .pre .1 .1) in
+    (at .at) (length (a .values .now)) (at .inv .next) (c .before .before .before .loop-test .taken) (sym (c .before .before .mends .ensures) ∙ c .before .if1 .taken) (s .pre .1 .1) in
     omega (arith, room, at .inv .same)
 
 pixel-u16-requires : tie.Need-pixel-u16-requires Inv-loop μ-loop
@@ -55,9 +55,10 @@ pixel-u16-requires c κs =
     let a = s .args in
     let at = c .before .before .before .before .before .loop in
     let test = mendable (a .w) (a .step) (marked (a .marks .now) (a .n)) in
-    let mean = meanAt 0 (λ u. wholeIn binary32 u) (a .w) (a .step) (marked (a .marks .now) (a .n)) (a .samples .now) in
-    (mark-asks (a .marks .now) (a .n) (a .w) (a .step) (s .pre .0) (at .i) (c .before .before .before .before .loop-test .taken),
-    (s .pre .1 .0, there (c .before)))
+    let mean = meanAt 0 (λ u. wholeIn binary32 u) (a .w) (a .step) (marked (a .marks .now) (a .n)) (a .samples .now) in (
+      mark-asks (a .marks .now) (a .n) (a .w) (a .step) (s .pre .0) (at .i) (c .before .before .before .before .loop-test .taken),
+      (s .pre .1 .0, there (c .before)),
+    )
 
 add-at : tie.Need-add-at Inv-loop μ-loop
 add-at c = omega (arith, there (c .before .before .before .before .before), c .before .before .before .before .before .before .before .before .before .before .before .before .before .good .1 .1 .1 .1 .1 .0 .1)

@@ -15,12 +15,14 @@ div-place c = search needs
 
 place-requires : tie.Need-place-requires
 place-requires c κs =
-    let s = c .before .before in
-    (record {
-      fits = s .pre .0;
-      column = column-in (s .args .w) (s .pre .0) (s .args .q) (s .pre .1);
-      row = row-in (s .args .w) (s .pre .0) (s .args .q) (s .pre .1);
-    }, s .pre .0 .some)
+    let s = c .before .before in (
+      record {
+        fits = s .pre .0;
+        column = column-in (s .args .w) (s .pre .0) (s .args .q) (s .pre .1);
+        row = row-in (s .args .w) (s .pre .0) (s .args .q) (s .pre .1);
+      },
+      s .pre .0 .some,
+    )
 
 returns : tie.Need-returns
 returns c = search needs

@@ -43,10 +43,12 @@ settle-f32-requires c κs =
     let s = c .before .before .before .before .before .before .before .before .before .before .before .before .before .before .before .before .before .before in
     let a = s .args in
     let got = c .before .before .before .before .before .got .given in
-    let all = c .before .before .before .before .before .before .before .before .before .gather-f32 in
-    (fix-asks (f32Kind (frameOf (a .w) (a .scale))) (a .w) (a .period) (a .op) (a .body .now) (a .samples .now) (a .marks .now) (length (a .values .now)) (whole (c .before .before .before .before .before .before .before .before .before .before .before .before))
-    (all .result) (all .last .1 .1 .1 .1 .1 .0) (got .0 .0) (got .1) (all .ensures) (c .before .step-of .result) (window (c .before .before .before .before .before .before .before .before .before .before .before .before))
-    (ranges-of (a .w) (a .period) (s .pre) .1) (c .before .step-of .ensures) (all .kept .1 .1 .1 .1 .1 .0), whole (c .before .before .before .before .before .before .before .before .before .before .before .before))
+    let all = c .before .before .before .before .before .before .before .before .before .gather-f32 in (
+      fix-asks (f32Kind (frameOf (a .w) (a .scale))) (a .w) (a .period) (a .op) (a .body .now) (a .samples .now) (a .marks .now) (length (a .values .now)) (whole (c .before .before .before .before .before .before .before .before .before .before .before .before))
+          (all .result) (all .last .1 .1 .1 .1 .1 .0) (got .0 .0) (got .1) (all .ensures) (c .before .step-of .result) (window (c .before .before .before .before .before .before .before .before .before .before .before .before))
+          (ranges-of (a .w) (a .period) (s .pre) .1) (c .before .step-of .ensures) (all .kept .1 .1 .1 .1 .1 .0),
+      whole (c .before .before .before .before .before .before .before .before .before .before .before .before),
+    )
 
 enum-told : tie.Need-enum-told
 enum-told c = search needs

@@ -38,12 +38,15 @@ loop-less c = omega arith
 loop-again : tie.Need-loop-again Inv-loop μ-loop
 loop-again c =
     let s = c .before .before .before .before .before in
-    let at = c .before .before .before .loop in
-    (omega (arith, c .before .before .loop-test .taken),
-    (omega (arith, at .inv .1 .0),
-    (ap (λ (k : ℕ). k + 1) (at .inv .1 .1)
-    ∙ sym (count-yes (mendable (s .args .w) (s .args .step) (marked (s .args .marks .now) (s .args .n))) (s .args .marks .now) (at .i)
-    (omega (arith, c .before .before .loop-test .taken, s .pre .held)) (sym (c .before .mends .ensures) ∙ c .if1 .taken)))))
+    let at = c .before .before .before .loop in (
+      omega (arith, c .before .before .loop-test .taken),
+      (
+        omega (arith, at .inv .1 .0),
+        (ap (λ (k : ℕ). k + 1) (at .inv .1 .1)
+            ∙ sym (count-yes (mendable (s .args .w) (s .args .step) (marked (s .args .marks .now) (s .args .n))) (s .args .marks .now) (at .i)
+            (omega (arith, c .before .before .loop-test .taken, s .pre .held)) (sym (c .before .mends .ensures) ∙ c .if1 .taken))),
+      ),
+    )
 
 add-i-2 : tie.Need-add-i-2 Inv-loop μ-loop
 add-i-2 c = omega arith
@@ -54,12 +57,15 @@ loop-less-2 c = omega arith
 loop-again-2 : tie.Need-loop-again-2 Inv-loop μ-loop
 loop-again-2 c =
     let s = c .before .before .before .before .before in
-    let at = c .before .before .before .loop in
-    (omega (arith, c .before .before .loop-test .taken),
-    (omega (arith, at .inv .1 .0),
-    (at .inv .1 .1
-    ∙ sym (count-no (mendable (s .args .w) (s .args .step) (marked (s .args .marks .now) (s .args .n))) (s .args .marks .now) (at .i)
-    (omega (arith, c .before .before .loop-test .taken, s .pre .held)) (sym (c .before .mends .ensures) ∙ c .if1 .left)))))
+    let at = c .before .before .before .loop in (
+      omega (arith, c .before .before .loop-test .taken),
+      (
+        omega (arith, at .inv .1 .0),
+        (at .inv .1 .1
+            ∙ sym (count-no (mendable (s .args .w) (s .args .step) (marked (s .args .marks .now) (s .args .n))) (s .args .marks .now) (at .i)
+            (omega (arith, c .before .before .loop-test .taken, s .pre .held)) (sym (c .before .mends .ensures) ∙ c .if1 .left))),
+      ),
+    )
 
 returns : tie.Need-returns Inv-loop μ-loop
 returns c =

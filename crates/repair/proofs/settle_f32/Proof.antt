@@ -37,10 +37,16 @@ fill-f32-requires c κs =
 write-f32-requires : tie.Need-write-f32-requires
 write-f32-requires c κs =
     let s = c .before .before .before .before .before .before .before .before .before .before .before .before .before in
-    let a = s .args in
-    (s .pre .0, (s .pre .1,
-    (subst (λ (m : ℕ). a .w .planes * m ≤ length (c .before .before .before .before .fill-f32 .last .1 .1 .1 .1 .1 .0)) (c .before .before .before .before .before .before .before .before .before .repairable .ensures) (omega (arith, c .before .before .before .before .before .before .before .if1 .left, c .before .before .before .before .fill-f32 .kept .1 .1 .1 .1 .1 .0)),
-    c .before .before .before .before .fill-f32 .ensures)))
+    let a = s .args in (
+      s .pre .0,
+      (
+        s .pre .1,
+        (
+          subst (λ (m : ℕ). a .w .planes * m ≤ length (c .before .before .before .before .fill-f32 .last .1 .1 .1 .1 .1 .0)) (c .before .before .before .before .before .before .before .before .before .repairable .ensures) (omega (arith, c .before .before .before .before .before .before .before .if1 .left, c .before .before .before .before .fill-f32 .kept .1 .1 .1 .1 .1 .0)),
+          c .before .before .before .before .fill-f32 .ensures,
+        ),
+      ),
+    )
 
 sub-t8 : tie.Need-sub-t8
 sub-t8 c =

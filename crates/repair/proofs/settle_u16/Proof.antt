@@ -37,10 +37,16 @@ fill-u16-requires c κs =
 write-u16-requires : tie.Need-write-u16-requires
 write-u16-requires c κs =
     let s = c .before .before .before .before .before .before .before .before .before .before .before .before .before in
-    let a = s .args in
-    (s .pre .0, (s .pre .1,
-    (subst (λ (m : ℕ). a .w .planes * m ≤ length (c .before .before .before .before .fill-u16 .last .1 .1 .1 .1 .1 .0)) (c .before .before .before .before .before .before .before .before .before .repairable .ensures) (omega (arith, c .before .before .before .before .before .before .before .if1 .left, c .before .before .before .before .fill-u16 .kept .1 .1 .1 .1 .1 .0)),
-    c .before .before .before .before .fill-u16 .ensures)))
+    let a = s .args in (
+      s .pre .0,
+      (
+        s .pre .1,
+        (
+          subst (λ (m : ℕ). a .w .planes * m ≤ length (c .before .before .before .before .fill-u16 .last .1 .1 .1 .1 .1 .0)) (c .before .before .before .before .before .before .before .before .before .repairable .ensures) (omega (arith, c .before .before .before .before .before .before .before .if1 .left, c .before .before .before .before .fill-u16 .kept .1 .1 .1 .1 .1 .0)),
+          c .before .before .before .before .fill-u16 .ensures,
+        ),
+      ),
+    )
 
 sub-t8 : tie.Need-sub-t8
 sub-t8 c =

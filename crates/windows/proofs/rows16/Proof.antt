@@ -76,9 +76,10 @@ row-step16-requires c κs =
     let e = c .before .before in
     let i = e .before .before in
     let h = i .before .before in
-    let s = Args h in
-    (part-fits _ _ _ (s .pre .0) (h .loop .inv) (i .if1 .taken) (e .smaller .ensures) (c .place-at .ensures),
-    subst (λ (g : Place). Ready (s .args .op) (g .x0) (g .«full_width») (g .«full_height») (s .args .ready)) (sym (c .place-at .ensures)) (s .pre .2))
+    let s = Args h in (
+      part-fits _ _ _ (s .pre .0) (h .loop .inv) (i .if1 .taken) (e .smaller .ensures) (c .place-at .ensures),
+      subst (λ (g : Place). Ready (s .args .op) (g .x0) (g .«full_width») (g .«full_height») (s .args .ready)) (sym (c .place-at .ensures)) (s .pre .2),
+    )
 
 add-at : tie.Need-add-at Inv-loop μ-loop
 add-at c =
