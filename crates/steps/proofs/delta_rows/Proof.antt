@@ -23,7 +23,7 @@ same-length c = search needs
 
 returns : tie.Need-returns
 unfolding delta
-returns c = 
+returns c =
     let q = c .before .before .before .before in
     let a = q .before .before .before .before .args in
     c .before .before .add-row .ensures

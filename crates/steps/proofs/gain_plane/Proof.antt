@@ -11,7 +11,7 @@ map-plane-requires : tie.Need-map-plane-requires
 map-plane-requires c κs = search needs
 
 gain-row-requires : tie.Need-gain-row-requires
-gain-row-requires c κs = 
+gain-row-requires c κs =
     let m = c .before in
     let s = m .before .before .before in
     let a = s .args in
@@ -21,7 +21,7 @@ same-length : tie.Need-same-length
 same-length c = search needs
 
 returns : tie.Need-returns
-returns c = 
+returns c =
     let m = c .before .before .before .before in
     let a = m .before .before .before .args in
     λ scale.

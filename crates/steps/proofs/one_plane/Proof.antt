@@ -32,7 +32,7 @@ enum-known-t-2 : tie.Need-enum-known-t-2
 enum-known-t-2 c = search needs
 
 polynomial-row-requires : tie.Need-polynomial-row-requires
-polynomial-row-requires c κs = 
+polynomial-row-requires c κs =
     let u = c .before .before in
     let s = u .before .before .before .before in
     (s .pre .0, degree-fits _ (ap taskFits (sym (u .t2 .given .1)) ∙ s .pre .2))
@@ -41,7 +41,7 @@ enum-known-t-3 : tie.Need-enum-known-t-3
 enum-known-t-3 c = search needs
 
 gain-plane-requires : tie.Need-gain-plane-requires
-gain-plane-requires c κs = 
+gain-plane-requires c κs =
     let u = c .before .before in
     let s = u .before .before .before .before in
     (s .pre .0, ap taskFits (sym (u .t3 .given .1)) ∙ s .pre .2)
@@ -74,7 +74,7 @@ same-length : tie.Need-same-length
 same-length c = search needs
 
 returns : tie.Need-returns
-returns c = 
+returns c =
     let u = c .before .before .before .before .before in
     let a = u .before .before .before .before .args in
     c .before .before .table-plane .ensures ∙ taken (a .k) (a .g) (a .scale) (a .r) (a .body .now) (a .row .now) (u .t .given .1)
@@ -83,7 +83,7 @@ same-length-2 : tie.Need-same-length-2
 same-length-2 c = search needs
 
 returns-2 : tie.Need-returns-2
-returns-2 c = 
+returns-2 c =
     let u = c .before .before .before .before .before in
     let a = u .before .before .before .before .args in
     c .before .before .polynomial-row .ensures ∙ taken (a .k) (a .g) (a .scale) (a .r) (a .body .now) (a .row .now) (u .t2 .given .1)
@@ -92,7 +92,7 @@ same-length-3 : tie.Need-same-length-3
 same-length-3 c = search needs
 
 returns-3 : tie.Need-returns-3
-returns-3 c = 
+returns-3 c =
     let u = c .before .before .before .before .before in
     let a = u .before .before .before .before .args in
     c .before .before .gain-plane .ensures (a .scale) ∙ taken (a .k) (a .g) (a .scale) (a .r) (a .body .now) (a .row .now) (u .t3 .given .1)
@@ -101,7 +101,7 @@ same-length-4 : tie.Need-same-length-4
 same-length-4 c = search needs
 
 returns-4 : tie.Need-returns-4
-returns-4 c = 
+returns-4 c =
     let u = c .before .before .before .before .before in
     let a = u .before .before .before .before .args in
     c .before .before .delta-rows .ensures ∙ taken (a .k) (a .g) (a .scale) (a .r) (a .body .now) (a .row .now) (u .t4 .given .1)
@@ -110,7 +110,7 @@ same-length-5 : tie.Need-same-length-5
 same-length-5 c = search needs
 
 returns-5 : tie.Need-returns-5
-returns-5 c = 
+returns-5 c =
     let u = c .before .before .before .before .before in
     let a = u .before .before .before .before .args in
     c .before .before .delta-columns .ensures ∙ taken (a .k) (a .g) (a .scale) (a .r) (a .body .now) (a .row .now) (u .t5 .given .1)
@@ -119,7 +119,7 @@ same-length-6 : tie.Need-same-length-6
 same-length-6 c = search needs
 
 returns-6 : tie.Need-returns-6
-returns-6 c = 
+returns-6 c =
     let u = c .before .before .before .before .before in
     let a = u .before .before .before .before .args in
     c .before .before .scale-rows .ensures ∙ taken (a .k) (a .g) (a .scale) (a .r) (a .body .now) (a .row .now) (u .t6 .given .1)
@@ -128,7 +128,7 @@ same-length-7 : tie.Need-same-length-7
 same-length-7 c = search needs
 
 returns-7 : tie.Need-returns-7
-returns-7 c = 
+returns-7 c =
     let u = c .before .before .before .before .before in
     let a = u .before .before .before .before .args in
     c .before .before .scale-columns .ensures ∙ taken (a .k) (a .g) (a .scale) (a .r) (a .body .now) (a .row .now) (u .t7 .given .1)

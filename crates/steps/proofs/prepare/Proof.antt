@@ -31,13 +31,13 @@ first-column-requires : tie.Need-first-column-requires
 first-column-requires c κs = search needs
 
 returns : tie.Need-returns
-returns c = 
+returns c =
     let p = c .before .before in
     let a = p .before .args in
     idle-nothing (a .op) (a .full-width) (a .full-height) (sym (p .plan-of .ensures) ∙ c .enum-told .given .1)
 
 returns-2 : tie.Need-returns-2
-returns-2 c = 
+returns-2 c =
     let m = c .before .before .before in
     let q = m .before .before in
     let p = q .before .before in
@@ -48,7 +48,7 @@ returns-2 c =
     }
 
 returns-3 : tie.Need-returns-3
-returns-3 c = 
+returns-3 c =
     let m = c .before .before in
     let q = m .before .before in
     let p = q .before .before in
@@ -57,7 +57,7 @@ returns-3 c =
     (unusable _ (a .full-width) (a .full-height) (m .m2 .ensures) (c .enum-told2 .given .1))
 
 returns-4 : tie.Need-returns-4
-returns-4 c = 
+returns-4 c =
     let r = c .before .before in
     let p = r .before .before in
     record { plan = sym (p .plan-of .ensures) ∙ r .region .given .1; first = c .first-column .ensures }

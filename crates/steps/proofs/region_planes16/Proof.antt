@@ -1,5 +1,5 @@
 -- `region_planes16` meets its contract: the planes from the region's first up to p are done. Assumes nothing.
-use Prim.Native.Nat.{ℕ, _-_, _≤_, max}
+use Prim.Native.Nat.{_-_, _≤_, max}
 use mathlib.Core.Bool.{cond}
 use mathlib.Core.Path.{_≡_, refl, sym, ap, subst, _∙_}
 use native.Mathlib.Omega.{arith}
@@ -14,7 +14,7 @@ use Rattle.steps.proofs.region_planes16.Statement.{statement}
 use Rattle.steps.proofs.region_planes16.Tie as tie
 
 abbrev Inv-loop : tie.InvT-loop
-Inv-loop row₀ g r n start body end p₀ row p = 
+Inv-loop row₀ g r n start body end p₀ row p =
     (row ≡ regionPlanes g r (p - r .plane) (λ x k v. cond (eqb n 0) v (mapTable16 n body v)) row₀)
     × (r .plane ≤ p) × (p ≤ max (r .plane) end) × (length row ≡ length row₀)
 
@@ -28,7 +28,7 @@ cast-p : tie.Need-cast-p Inv-loop μ-loop
 cast-p c = search needs
 
 loop-holds : tie.Need-loop-holds Inv-loop μ-loop
-loop-holds c = 
+loop-holds c =
     let a = c .before .before .before .before .args in
     (planes-begin (a .g) (a .r) _ (a .row .now), omega arith, omega arith, refl)
 
@@ -36,7 +36,7 @@ walk-at-requires : tie.Need-walk-at-requires Inv-loop μ-loop
 walk-at-requires c κs = search needs
 
 table-plane16-requires : tie.Need-table-plane16-requires Inv-loop μ-loop
-table-plane16-requires c κs = 
+table-plane16-requires c κs =
     let h = c .before .before .before in
     let e = h .before .before in
     let s = e .before .before .before in
@@ -45,27 +45,30 @@ table-plane16-requires c κs =
     (omega (arith, c .before .before .loop-test .taken, e .planes-end .ensures))
 
 add-p : tie.Need-add-p Inv-loop μ-loop
-add-p c = 
+add-p c =
     omega (arith, c .before .before .before .before .before .loop-test .taken)
 
 loop-less : tie.Need-loop-less Inv-loop μ-loop
-loop-less c = 
+loop-less c =
     omega (arith, c .before .before .before .before .before .loop-test .taken)
 
 loop-again : tie.Need-loop-again Inv-loop μ-loop
-loop-again c = 
+loop-again c =
     let w = c .before .before .before in
     let h = w .before .before .before in
     let a = h .before .before .before .before .before .args in
-    let done = planes-turn (w .walk-at .ensures) _ (a .row .now) (h .loop .row) _ (h .loop .inv .1) (h .loop .inv .0) (c .before .before .table-plane16 .ensures) in
-    (done, omega (arith, h .loop .inv .1), omega (arith, w .before .before .loop-test .taken),
-    ap length done ∙ length-planes (a .g) (a .r) _ _ (a .row .now))
+    let done = planes-turn (w .walk-at .ensures) _ (a .row .now) (h .loop .row) _ (h .loop .inv .1) (h .loop .inv .0) (c .before .before .table-plane16 .ensures) in (
+      done,
+      omega (arith, h .loop .inv .1),
+      omega (arith, w .before .before .loop-test .taken),
+      ap length done ∙ length-planes (a .g) (a .r) _ _ (a .row .now),
+    )
 
 same-length : tie.Need-same-length Inv-loop μ-loop
 same-length c = c .before .loop .inv .3
 
 returns : tie.Need-returns Inv-loop μ-loop
-returns c = 
+returns c =
     let h = c .before in
     let e = h .before .before in
     let s = e .before .before .before in

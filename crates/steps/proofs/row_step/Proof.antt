@@ -15,7 +15,7 @@ enum-known-ready : tie.Need-enum-known-ready
 enum-known-ready c = search needs
 
 vignette-row-requires : tie.Need-vignette-row-requires
-vignette-row-requires c κs = 
+vignette-row-requires c κs =
     let u = c .before .before in
     let s = u .before .before .before .before in
     let a = s .args in
@@ -26,7 +26,7 @@ enum-known-ready-2 : tie.Need-enum-known-ready-2
 enum-known-ready-2 c = search needs
 
 region-row-requires : tie.Need-region-row-requires
-region-row-requires c κs = 
+region-row-requires c κs =
     let u = c .before .before in
     let s = u .before .before .before .before in
     let a = s .args in
@@ -34,7 +34,7 @@ region-row-requires c κs =
     (s .pre .0, w .first, task-fits (a .op) _ _ (w .plan) (s .pre .1))
 
 returns : tie.Need-returns
-returns c = 
+returns c =
     let s = c .before .before .before .before in
     let a = s .args in
     row-left (a .g .x0) (a .g .planes) (a .g .y) (a .row .now) (ruleOf (frameAt (a .scale) (a .g .«full_width») (a .g .«full_height»)) (a .op) (a .body .now))
@@ -44,7 +44,7 @@ same-length : tie.Need-same-length
 same-length c = search needs
 
 returns-2 : tie.Need-returns-2
-returns-2 c = 
+returns-2 c =
     let u = c .before .before .before .before .before in
     let s = u .before .before .before .before in
     let a = s .args in
@@ -57,7 +57,7 @@ same-length-2 : tie.Need-same-length-2
 same-length-2 c = search needs
 
 returns-3 : tie.Need-returns-3
-returns-3 c = 
+returns-3 c =
     let u = c .before .before .before .before .before in
     let s = u .before .before .before .before in
     let a = s .args in

@@ -20,7 +20,7 @@ table-size-requires : tie.Need-table-size-requires
 table-size-requires c κs = search needs
 
 region-row16-requires : tie.Need-region-row16-requires
-region-row16-requires c κs = 
+region-row16-requires c κs =
     let u = c .before .before .before in
     let s = u .before .before .before .before in
     let a = s .args in
@@ -28,7 +28,7 @@ region-row16-requires c κs =
     (s .pre .0, w .first)
 
 returns : tie.Need-returns
-returns c = 
+returns c =
     let s = c .before .before .before .before in
     let a = s .args in
     let w = idle (a .op) (a .g .x0) (a .g .«full_width») (a .g .«full_height») (s .pre .1) (c .enum-told .given .1) in
@@ -36,7 +36,7 @@ returns c =
     (w .rule16 (a .body .now))
 
 returns-2 : tie.Need-returns-2
-returns-2 c = 
+returns-2 c =
     let s = c .before .before .before .before in
     let a = s .args in
     let w = reached (a .op) (a .g .x0) (a .g .«full_width») (a .g .«full_height») (s .pre .1) (c .enum-told2 .given .1) in
@@ -47,7 +47,7 @@ same-length : tie.Need-same-length
 same-length c = search needs
 
 returns-3 : tie.Need-returns-3
-returns-3 c = 
+returns-3 c =
     let u = c .before .before .before .before .before .before in
     let s = u .before .before .before .before in
     let a = s .args in

@@ -24,7 +24,7 @@ larger-requires : tie.Need-larger-requires
 larger-requires c κs = search needs
 
 returns : tie.Need-returns
-returns c = 
+returns c =
     let a = c .before .before .before .before .before .before .args in
     record {
       is = ap (walkBy (a .g) (a .r) (a .start) (a .plane)) (c .larger .ensures);
