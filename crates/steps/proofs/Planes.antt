@@ -1,7 +1,7 @@
 -- A plane after another is a region's row; a walk that is made from a region may be walked, and selects the region's columns. Over any sample
 -- kind A. Assumes nothing.
 use Prim.Native.Nat.{ℕ, _+_, _-_, _/_, _%_, _≤_, _<_, min, max}
-use mathlib.Core.Path.{_≡_, refl, sym, ap, ap₂, subst, _∙_}
+use mathlib.Core.Path.{_≡_, sym, ap, ap₂, subst, _∙_}
 use mathlib.Core.Bool.{Bool, true, false, cond}
 use mathlib.Core.List.{List}
 use native.Mathlib.Omega.{arith}
@@ -21,6 +21,7 @@ use Rattle.dng.specs.Bounds.{RowFits}
 use Rattle.steps.specs.declared.Place.{Place}
 use Rattle.steps.specs.Ready.{Leaves}
 use Rattle.steps.specs.Planes.{WalkIs, Along, regionPlanes}
+use Rattle.steps.proofs.Plans.{either}
 
 -- a pitch of 0 counts as 1, once and again
 pitch-twice : (pitch : ℕ) → max (max pitch 1) 1 ≡ max pitch 1
@@ -77,10 +78,6 @@ module _ {g : Place} {r : Region} {s : Start} {plane : ℕ} {k : Walk} (w : Walk
           cond (leb plane (i % g .planes)) (cond (ltb (i % g .planes) (plane + 1)) (f (g .x0 + i / g .planes) (i % g .planes) v) v) v
 
 module _ {A : Type 0} where
-  either : (b : Bool) (v : A) → cond b v v ≡ v
-  either true v = refl
-  either false v = refl
-
   -- a walk that changes nothing
   walked-none : (k : Walk) (l : List A) → walked k (λ x p v. v) l ≡ l
   unfolding walked inRow onColumns

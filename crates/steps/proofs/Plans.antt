@@ -28,61 +28,34 @@ use Rattle.steps.specs.declared.Prepared.{Prepared}
 use Rattle.steps.specs.declared.Prepared.the-variants as Made
 use Rattle.steps.specs.Ready.{Leaves, Idle, Reached, Begun, Ready}
 
-pub plan-rule : (fr : Frame) (op : Opcode) (b : List ℕ) → ruleOf fr op b ≡ planRule fr (planOf op) b
-plan-rule fr (Op.WarpRectilinear n cx cy) b = refl
-plan-rule fr Op.WarpFisheye b = refl
-plan-rule fr (Op.FixVignetteRadial q) b = refl
-plan-rule fr (Op.FixBadPixelsConstant c p) b = refl
-plan-rule fr (Op.FixBadPixelsList p np nr) b = refl
-plan-rule fr (Op.TrimBounds t l bm r) b = refl
-plan-rule fr (Op.MapTable r n) b = refl
-plan-rule fr (Op.MapPolynomial r d) b = refl
-plan-rule fr (Op.GainMap r pv ph g mp) b = refl
-plan-rule fr (Op.DeltaPerRow r n) b = refl
-plan-rule fr (Op.DeltaPerColumn r n) b = refl
-plan-rule fr (Op.ScalePerRow r n) b = refl
-plan-rule fr (Op.ScalePerColumn r n) b = refl
-plan-rule fr (Op.Other i) b = refl
+pub record Same (op : Opcode) (p : Plan) : Type 0 where
+  pub rule : (fr : Frame) (b : List ℕ) → ruleOf fr op b ≡ planRule fr p b
+  pub rule16 : (b : List ℕ) → rule16Of op b ≡ planRule16 p b
+  pub fits : bounded op ≡ planFits p
 
-pub plan-rule16 : (op : Opcode) (b : List ℕ) → rule16Of op b ≡ planRule16 (planOf op) b
-plan-rule16 (Op.WarpRectilinear n cx cy) b = refl
-plan-rule16 Op.WarpFisheye b = refl
-plan-rule16 (Op.FixVignetteRadial q) b = refl
-plan-rule16 (Op.FixBadPixelsConstant c p) b = refl
-plan-rule16 (Op.FixBadPixelsList p np nr) b = refl
-plan-rule16 (Op.TrimBounds t l bm r) b = refl
-plan-rule16 (Op.MapTable r n) b = refl
-plan-rule16 (Op.MapPolynomial r d) b = refl
-plan-rule16 (Op.GainMap r pv ph g mp) b = refl
-plan-rule16 (Op.DeltaPerRow r n) b = refl
-plan-rule16 (Op.DeltaPerColumn r n) b = refl
-plan-rule16 (Op.ScalePerRow r n) b = refl
-plan-rule16 (Op.ScalePerColumn r n) b = refl
-plan-rule16 (Op.Other i) b = refl
-
-pub plan-fits : (op : Opcode) → bounded op ≡ planFits (planOf op)
-plan-fits (Op.WarpRectilinear n cx cy) = refl
-plan-fits Op.WarpFisheye = refl
-plan-fits (Op.FixVignetteRadial q) = refl
-plan-fits (Op.FixBadPixelsConstant c p) = refl
-plan-fits (Op.FixBadPixelsList p np nr) = refl
-plan-fits (Op.TrimBounds t l bm r) = refl
-plan-fits (Op.MapTable r n) = refl
-plan-fits (Op.MapPolynomial r d) = refl
-plan-fits (Op.GainMap r pv ph g mp) = refl
-plan-fits (Op.DeltaPerRow r n) = refl
-plan-fits (Op.DeltaPerColumn r n) = refl
-plan-fits (Op.ScalePerRow r n) = refl
-plan-fits (Op.ScalePerColumn r n) = refl
-plan-fits (Op.Other i) = refl
+pub same : (op : Opcode) → Same op (planOf op)
+same (Op.WarpRectilinear n cx cy) = record { rule = λ fr b. refl; rule16 = λ b. refl; fits = refl }
+same Op.WarpFisheye = record { rule = λ fr b. refl; rule16 = λ b. refl; fits = refl }
+same (Op.FixVignetteRadial q) = record { rule = λ fr b. refl; rule16 = λ b. refl; fits = refl }
+same (Op.FixBadPixelsConstant c p) = record { rule = λ fr b. refl; rule16 = λ b. refl; fits = refl }
+same (Op.FixBadPixelsList p np nr) = record { rule = λ fr b. refl; rule16 = λ b. refl; fits = refl }
+same (Op.TrimBounds t l bm r) = record { rule = λ fr b. refl; rule16 = λ b. refl; fits = refl }
+same (Op.MapTable r n) = record { rule = λ fr b. refl; rule16 = λ b. refl; fits = refl }
+same (Op.MapPolynomial r d) = record { rule = λ fr b. refl; rule16 = λ b. refl; fits = refl }
+same (Op.GainMap r pv ph g mp) = record { rule = λ fr b. refl; rule16 = λ b. refl; fits = refl }
+same (Op.DeltaPerRow r n) = record { rule = λ fr b. refl; rule16 = λ b. refl; fits = refl }
+same (Op.DeltaPerColumn r n) = record { rule = λ fr b. refl; rule16 = λ b. refl; fits = refl }
+same (Op.ScalePerRow r n) = record { rule = λ fr b. refl; rule16 = λ b. refl; fits = refl }
+same (Op.ScalePerColumn r n) = record { rule = λ fr b. refl; rule16 = λ b. refl; fits = refl }
+same (Op.Other i) = record { rule = λ fr b. refl; rule16 = λ b. refl; fits = refl }
 
 -- so of an opcode whose plan is known
 module _ (op : Opcode) {p : Plan} (e : planOf op ≡ p) where
   pub rule-of : (fr : Frame) (b : List ℕ) → ruleOf fr op b ≡ planRule fr p b
-  rule-of fr b = plan-rule fr op b ∙ ap (λ (q : Plan). planRule fr q b) e
+  rule-of fr b = same op .rule fr b ∙ ap (λ (q : Plan). planRule fr q b) e
 
   pub rule16-of : (b : List ℕ) → rule16Of op b ≡ planRule16 p b
-  rule16-of b = plan-rule16 op b ∙ ap (λ (q : Plan). planRule16 q b) e
+  rule16-of b = same op .rule16 b ∙ ap (λ (q : Plan). planRule16 q b) e
 
 -- an opcode that is nothing to a row, and a vignette whose m2 cannot be used
 pub idle-nothing : (op : Opcode) (fw fh : ℕ) → planOf op ≡ Nothing → Idle op fw fh
@@ -107,7 +80,7 @@ idle-vignette op q fw fh e u =
 
 -- ---- tables of whole numbers: what is no table counts as an empty one, which changes nothing
 
-either : {A : Type 0} (b : Bool) (v : A) → cond b v v ≡ v
+pub either : {A : Type 0} (b : Bool) (v : A) → cond b v v ≡ v
 either true v = refl
 either false v = refl
 
@@ -140,7 +113,7 @@ row16-is op {r} {t} plan x0 p y l b e =
     ∙ ap (λ (f : Rule ℕ). f (wholePixel p (length l) i) y (x0 + i / p) (i % p) v) (sym (rule16-of op plan b)))
 
 pub task-fits : (op : Opcode) (r : Region) (t : Task) → planOf op ≡ Area r t → bounded op ≡ true → taskFits t ≡ true
-task-fits op r t e h = sym (ap planFits e) ∙ sym (plan-fits op) ∙ h
+task-fits op r t e h = sym (ap planFits e) ∙ sym (same op .fits) ∙ h
 
 -- a prepared opcode taken apart
 module _ (op : Opcode) (x0 fw fh : ℕ) {p : Prepared} (ready : Ready op x0 fw fh p) where

@@ -56,8 +56,8 @@ pub enum Task {
 // A row knows three kinds of opcodes: those that leave it, the vignette, and those of a region.
 pub enum Plan {
     Nothing,
-    Vignette { radial: Radial },
-    Area { region: Region, task: Task },
+    Vignette(Radial),
+    Area(Region, Task),
 }
 
 // The same with what is worked out once for all rows: m2 where it is usable, and a region's first column.
@@ -89,49 +89,33 @@ fn plan_of(op: Opcode) -> Plan
     match op {
         Opcode::WarpRectilinear { .. } => Plan::Nothing,
         Opcode::WarpFisheye => Plan::Nothing,
-        Opcode::FixVignetteRadial { radial } => Plan::Vignette { radial },
+        Opcode::FixVignetteRadial { radial } => Plan::Vignette(radial),
         Opcode::FixBadPixelsConstant { .. } => Plan::Nothing,
         Opcode::FixBadPixelsList { .. } => Plan::Nothing,
         Opcode::TrimBounds { .. } => Plan::Nothing,
-        Opcode::MapTable { region, n } => Plan::Area {
-            region,
-            task: Task::Table { n },
-        },
-        Opcode::MapPolynomial { region, degree } => Plan::Area {
-            region,
-            task: Task::Polynomial { degree },
-        },
+        Opcode::MapTable { region, n } => Plan::Area(region, Task::Table { n }),
+        Opcode::MapPolynomial { region, degree } => Plan::Area(region, Task::Polynomial { degree }),
         Opcode::GainMap {
             region,
             points_v,
             points_h,
             grid,
             map_planes,
-        } => Plan::Area {
-            region,
-            task: Task::Gain {
-                points_v,
-                points_h,
-                grid,
-                map_planes,
-            },
-        },
-        Opcode::DeltaPerRow { region, n } => Plan::Area {
-            region,
-            task: Task::DeltaRows { n },
-        },
-        Opcode::DeltaPerColumn { region, n } => Plan::Area {
-            region,
-            task: Task::DeltaColumns { n },
-        },
-        Opcode::ScalePerRow { region, n } => Plan::Area {
-            region,
-            task: Task::ScaleRows { n },
-        },
-        Opcode::ScalePerColumn { region, n } => Plan::Area {
-            region,
-            task: Task::ScaleColumns { n },
-        },
+        } => {
+            Plan::Area(
+                region,
+                Task::Gain {
+                    points_v,
+                    points_h,
+                    grid,
+                    map_planes,
+                },
+            )
+        }
+        Opcode::DeltaPerRow { region, n } => Plan::Area(region, Task::DeltaRows { n }),
+        Opcode::DeltaPerColumn { region, n } => Plan::Area(region, Task::DeltaColumns { n }),
+        Opcode::ScalePerRow { region, n } => Plan::Area(region, Task::ScaleRows { n }),
+        Opcode::ScalePerColumn { region, n } => Plan::Area(region, Task::ScaleColumns { n }),
         Opcode::Other { .. } => Plan::Nothing,
     }
 }
@@ -141,11 +125,11 @@ pub fn prepare(op: Opcode, x0: u32, full_width: u32, full_height: u32) -> Prepar
 {
     match plan_of(op) {
         Plan::Nothing => Prepared::Nothing,
-        Plan::Vignette { radial } => match vignette::m2(radial, full_width, full_height) {
+        Plan::Vignette(radial) => match vignette::m2(radial, full_width, full_height) {
             Reach::Usable { m2 } => Prepared::Vignette { radial, m2 },
             Reach::Unusable => Prepared::Nothing,
         },
-        Plan::Area { region, task } => Prepared::Area {
+        Plan::Area(region, task) => Prepared::Area {
             region,
             task,
             start: select::first_column(region.left, region.col_pitch, x0),
@@ -266,7 +250,7 @@ fn one_plane(row: &mut [f32], k: Walk, r: Region, t: Task, g: Place, body: &[u8]
             points_h,
             grid,
             map_planes,
-        } => { gain_plane(row, k, r, g, body, points_v, points_h, grid, map_planes) }
+        } => gain_plane(row, k, r, g, body, points_v, points_h, grid, map_planes),
         Task::DeltaRows { n } => delta_rows(row, k, r, g.y, body, n, scale),
         Task::DeltaColumns { n } => delta_columns(row, k, r, body, n, scale),
         Task::ScaleRows { n } => scale_rows(row, k, r, g.y, body, n),

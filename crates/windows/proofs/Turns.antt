@@ -47,9 +47,15 @@ wide-fits w f = omega (arith, mul-le-mul-right (w .planes) (f .widest), mul-le-m
 pub step-fits : (w : Window) → WindowFits w → w .stride * w .planes ≤ 524288
 step-fits w f = omega (arith, mul-le-mul-right (w .planes) (f .farthest), mul-le-mul-left 65536 (f .most))
 
-pub start-fits : (w : Window) (y at step : ℕ) → WindowFits w → step ≡ w .stride * w .planes → at ≡ y * step → y ≤ w .height → at ≤ 34359738368
-start-fits w y at step f e p h =
-    omega (arith, mul-le-mul-right step (f .highest), mul-le-mul-right step h, mul-le-mul-left 65536 (step-fits w f))
+pub start-fits : (w : Window) (y at : ℕ) → WindowFits w → at ≡ rowStart w y → y ≤ w .height → at ≤ 34359738368
+start-fits w y at f p h =
+    omega (
+      arith,
+      p,
+      mul-le-mul-right (w .stride * w .planes) (f .highest),
+      mul-le-mul-right (w .stride * w .planes) h,
+      mul-le-mul-left 65536 (step-fits w f),
+    )
 
 inactive-width : (w : Window) → w .width ≡ 0 → active w ≡ false
 unfolding active
@@ -75,10 +81,10 @@ module _ {A : Type 0} (w : Window) (f : Rule A) (s : List A) where
   rows-start = record { done = sym (rows-begin w (length s) f s); here = omega (arith, zero-mul (w .stride * w .planes)); near = omega arith; same = refl }
 
   -- the part that is lent of row y may be stepped
-  pub part-fits : {t : List A} {y at end : ℕ} {g : Place} → WindowFits w → Rows t y at → y < w .height
-      → end ≡ min (at + w .width * w .planes) (length s) → g ≡ placeOf w y
+  pub part-fits : {t : List A} {y at width end : ℕ} {g : Place} → WindowFits w → Rows t y at → y < w .height
+      → width ≡ w .width * w .planes → end ≡ min (at + width) (length s) → g ≡ placeOf w y
       → RowFits (g .x0) (g .planes) (g .y) (length (take (end - at) (drop at t)))
-  part-fits {t} {y} {at} {end} {g} fits r high e is =
+  part-fits {t} {y} {at} {width} {end} {g} fits r high ew e is =
       subst (λ (h : Place). RowFits (h .x0) (h .planes) (h .y) (length (take (end - at) (drop at t)))) (sym is)
       (record {
         some = fits .some;
@@ -89,11 +95,12 @@ module _ {A : Type 0} (w : Window) (f : Rule A) (s : List A) where
       })
 
   -- a turn: row y is stepped where it was lent, by the rule at its place. `F` is the rule as it goes by the place.
-  pub rows-turn : {t row : List A} {y at end : ℕ} {g : Place} → WindowFits w → Ordered w → Rows t y at → y < w .height
-      → end ≡ min (at + w .width * w .planes) (length s) → at ≤ length s → (F : Place → Rule A) → F (placeOf w y) ≡ f → g ≡ placeOf w y
+  pub rows-turn : {t row : List A} {y at width step end : ℕ} {g : Place} → WindowFits w → Ordered w → Rows t y at → y < w .height
+      → width ≡ w .width * w .planes → step ≡ w .stride * w .planes → end ≡ min (at + width) (length s) → at ≤ length s
+      → (F : Place → Rule A) → F (placeOf w y) ≡ f → g ≡ placeOf w y
       → row ≡ each (onRow (g .x0) (g .planes) (g .y) (length (take (end - at) (drop at t))) (F g)) (take (end - at) (drop at t))
-      → Rows (take at t ++ (row ++ drop (end - at) (drop at t))) (y + 1) (at + w .stride * w .planes)
-  rows-turn {t} {row} {y} {at} {end} {g} fits ordered r high e inside F rule is step =
+      → Rows (take at t ++ (row ++ drop (end - at) (drop at t))) (y + 1) (at + step)
+  rows-turn {t} {row} {y} {at} {width} {step} {end} {g} fits ordered r high ew es e inside F rule is ran =
       record {
         done = next;
         here = omega (arith, r .here, add-mul y 1 (w .stride * w .planes), one-mul (w .stride * w .planes));
@@ -109,7 +116,7 @@ module _ {A : Type 0} (w : Window) (f : Rule A) (s : List A) where
 
       stepped : row ≡ each (onRow (w .x0) (w .planes) (w .y0 + y) (length part) f) part
       stepped =
-          step
+          ran
           ∙ ap (λ (h : Place). each (onRow (h .x0) (h .planes) (h .y) (length part) (F h)) part) is
           ∙ ap (λ (h : Rule A). each (onRow (w .x0) (w .planes) (w .y0 + y) (length part) h) part) rule
 

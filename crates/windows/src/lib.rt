@@ -1,7 +1,7 @@
 // One opcode over a whole window. Each row is lent from its own start, as a part of the samples.
 ghost use mathlib.Core.Path.{_≡_};
 ghost use mathlib.Core.Bool.{true};
-ghost use Prim.Native.Nat.{_<_, min};
+ghost use Prim.Native.Nat.{_*_, _<_, min};
 ghost use lib.ListN.{length};
 ghost use Rattle.points.specs.Points.{each};
 ghost use Rattle.dng.specs.Select.{onWindow};
@@ -19,6 +19,21 @@ fn smaller(a: usize, b: usize) -> usize
     ensures { λ r. ⌜ r ≡ min a b ⌝ }
 {
     if a < b { a } else { b }
+}
+
+// How many samples a row has, and how many lie from one row's start to the next.
+fn row_width(w: Window) -> usize
+    requires { ⌜ WindowFits w ⌝ }
+    ensures { λ r. ⌜ r ≡ w .width * w .planes ⌝ }
+{
+    w.width * w.planes
+}
+
+fn row_stride(w: Window) -> usize
+    requires { ⌜ WindowFits w ⌝ }
+    ensures { λ r. ⌜ r ≡ w .stride * w .planes ⌝ }
+{
+    w.stride * w.planes
 }
 
 // Where row y of the window lies in the image.
@@ -45,8 +60,8 @@ fn rows(samples: &mut [f32], w: Window, op: Opcode, ready: Prepared, body: &[u8]
         ≡ each (onWindow w (length (now (samples .entry))) (ruleOf (frameOf w scale) op (now (body .entry)))) (now (samples .entry)) ⌝ }
 {
     let n = samples.len();
-    let width = w.width * w.planes;
-    let step = w.stride * w.planes;
+    let width = row_width(w);
+    let step = row_stride(w);
     let mut y = 0;
     let mut at = 0;
     while y < w.height {
@@ -93,8 +108,8 @@ fn rows16(samples: &mut [u16], w: Window, op: Opcode, ready: Prepared, body: &[u
         ≡ each (onWindow w (length (now (samples .entry))) (rule16Of op (now (body .entry)))) (now (samples .entry)) ⌝ }
 {
     let n = samples.len();
-    let width = w.width * w.planes;
-    let step = w.stride * w.planes;
+    let width = row_width(w);
+    let step = row_stride(w);
     let mut y = 0;
     let mut at = 0;
     while y < w.height {
