@@ -1,6 +1,6 @@
 -- The walk over the steps, over any value of a position: one neighbour, a tally step by step, and the count of sound neighbours.
 -- Assumes nothing.
-use Prim.Native.Nat.{ℕ, zero, suc, _+_, _-_, _*_, _≤_, _<_}
+use Prim.Native.Nat.{ℕ, zero, suc, _+_, _*_, _≤_, _<_}
 use mathlib.Core.Path.{_≡_, refl, sym, ap, subst, _∙_}
 use mathlib.Core.Bool.{Bool, true, false, not, _&&_, cond}
 use mathlib.Core.List.{List, [], _∷_, map}
@@ -8,8 +8,8 @@ use native.Mathlib.Nat.{not-suc-le-zero, le-of-suc-le-suc}
 use native.Mathlib.Numerals.{add-one}
 use native.Mathlib.Omega.{arith}
 use borrow.Author.Tests.{lt-ltb, le-ltb, ltb-true}
-use lib.Dec.{leb, ltb, eqb}
-use lib.IntN.{ℤ, pos, negsuc}
+use lib.Dec.{ltb}
+use lib.IntN.{ℤ, pos}
 use lib.Ieee.{Float, binary32, add}
 use lib.ListN.{length, getD, drop, List·getD-map}
 use lib.Seq.{drop-cons}

@@ -95,3 +95,8 @@ pub count-none : (n : ℕ) (m : ℕ → Bool) → ((q : ℕ) → m q ≡ false) 
 unfolding countBelow
 count-none zero m h = refl
 count-none (suc n) m h = rw (h n) (omega (arith, count-none n m h))
+
+pub count-below : (n : ℕ) (m : ℕ → Bool) → countBelow n m ≤ n
+unfolding countBelow
+count-below zero m = omega arith
+count-below (suc n) m = by-cases (m n) (λ e. rw e (omega (arith, count-below n m))) (λ e. rw e (omega (arith, count-below n m)))

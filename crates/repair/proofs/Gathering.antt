@@ -5,7 +5,7 @@ use mathlib.Core.Bool.{Bool, true, false, _&&_, cond}
 use mathlib.Core.List.{List, [], _∷_}
 use native.Mathlib.Nat.{mul-le-mul-right}
 use native.Mathlib.Omega.{arith}
-use borrow.Author.Tests.{leb-true}
+use borrow.Author.Tests.{leb-true, leb-false}
 use lib.Dec.{leb}
 use lib.ListN.{length, take}
 use lib.Seq.{length-take-le}
@@ -130,6 +130,19 @@ mended-few marks n w step m =
     let few : mended marks n w step ≤ n =
     subst (λ (k : ℕ). mended marks n w step ≤ k) (length-take-le n marks (m .held)) (count-few (mendable w step (marked marks n)) (take n marks)) in
     (few, omega (arith, few, mul-le-mul-right (mended marks n w step) (m .fits .planes)))
+
+-- the room for the new values, tested with the number m that was counted
+module _ (p m m′ room : ℕ) (r : Bool) (e : r ≡ leb (p * m) room) (c : m ≡ m′) where
+  pub room-enough : r ≡ true → p * m′ ≤ room
+  room-enough t = subst (λ (k : ℕ). p * k ≤ room) c (leb-true (p * m) room (sym e ∙ t))
+
+  pub settled-done : {A : Type 0} (s s′ new : List A) (n : ℕ) (o : Fixed) → r ≡ true → o ≡ F.Done m (n - m) → s′ ≡ new → Settled s s′ new p room n m′ o
+  settled-done s s′ new n o t d f =
+      subst (λ (o : Fixed). Settled s s′ new p room n m′ o) (sym d)
+      (record { repaired = c; left = ap (λ (k : ℕ). n - k) c; fits = room-enough t; samples = f })
+
+  pub settled-short : {A : Type 0} (s new : List A) (n : ℕ) → r ≡ false → Settled s s new p room n m′ F.Values
+  settled-short s new n t = (subst (λ (k : ℕ). room < p * k) c (leb-false (p * m) room (sym e ∙ t)), refl)
 
 module _ {A : Type 0} (kind : Kind A) (w : Window) (period : ℕ) (op : Opcode) (b : List ℕ) (s : List A) (m : List ℕ) (room : ℕ) where
   -- the window is not whole: no marks

@@ -32,7 +32,7 @@ use Rattle.repair.specs.declared.Fixed.the-variants as F
 use Rattle.repair.specs.Fixes.{progressOf, Fixes}
 use Rattle.repair.specs.Works.{Ranges, Marking, mendable, countIn, mended, Mended, Settled}
 use Rattle.repair.proofs.Placing.{row-of, column-of}
-use Rattle.repair.proofs.Counting.{count-chosen, count-parts, count-none}
+use Rattle.repair.proofs.Counting.{count-chosen, count-parts, count-none, count-below}
 
 -- ---- the totals
 
@@ -110,6 +110,30 @@ module _ {A : Type 0} (kind : Kind A) (w : Window) (period : ℕ) (room : Room) 
         count-none (positions w) (λ q. bad q && eqb (soundAt w period bad q) 0) (λ q. rw (h q) refl),
         repair-none (kind .none) (kind .toFloat) (kind .ofMean) w bad h period s,
       ) refl
+
+  -- what is answered are the totals: so their sum is the number of marks, and at most that of the positions
+  pub fixes-totals : (s′ : List A) (a b : ℕ) → Fixes kind w period room bad s s′ (F.Done a b) → (a ≡ repairedIn w period bad) × (b ≡ leftIn w period bad)
+  unfolding repairOn
+  fixes-totals s′ a b f = go (leb (markedIn w bad) (room .marks)) (leb (w .planes * repairedIn w period bad) (room .values)) (f 0 0 0)
+    where
+      go : (x y : Bool)
+          → going s′ (0 + a) (0 + b)
+          ≡ cond x (cond y (going (each (repairAt (kind .none) (kind .toFloat) (kind .ofMean) w period bad s) s) (0 + repairedIn w period bad) (0 + leftIn w period bad))
+          (valuesFull s 0)) (marksFull s 0)
+          → (a ≡ repairedIn w period bad) × (b ≡ leftIn w period bad)
+      go true true e =
+          let p : 0 + a ≡ 0 + repairedIn w period bad = cc in
+          let q : 0 + b ≡ 0 + leftIn w period bad = cc in
+          (omega arith, omega arith)
+      go true false e = absurd (let z : _≡_ {A = ℕ} 0 1 = cc in omega arith)
+      go false y e = absurd (let z : _≡_ {A = ℕ} 0 1 = cc in omega arith)
+
+  pub fixes-few : (s′ : List A) (a b : ℕ) → Fixes kind w period room bad s s′ (F.Done a b) → (a + b ≡ markedIn w bad) × (a + b ≤ positions w)
+  unfolding markedIn
+  fixes-few s′ a b f =
+      let t = fixes-totals s′ a b f in
+      let few : markedIn w bad ≤ positions w = count-below (positions w) bad in
+      (omega (arith, t .0, t .1, totals w period bad), omega (arith, few, t .0, t .1, totals w period bad))
 
   pub fixes-marks : room .marks < markedIn w bad → Fixes kind w period room bad s s F.Marks
   unfolding repairOn

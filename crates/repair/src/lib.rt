@@ -1,7 +1,8 @@
 // The repairs over a window, f32 and u16: marks into the u32 scratch, new values into the f32 scratch, then the samples.
 ghost use mathlib.Core.Path.{_≡_};
 ghost use mathlib.Core.Bool.{true};
-ghost use Prim.Native.Nat.{_+_, _-_, _*_, _/_, _%_, _≤_, _<_};
+ghost use Prim.Native.Nat.{_+_, _-_, _*_, _/_, _%_, _^_, _≤_, _<_};
+ghost use lib.Dec.{leb};
 ghost use lib.Ieee.{nan, binary32};
 ghost use lib.ListN.{length, getD, take};
 ghost use Rattle.convert.specs.Convert.{wholeIn};
@@ -277,6 +278,23 @@ fn write_u16(samples: &mut [u16], marks: &[u32], n: usize, w: Window, step: usiz
 
 // ---- the repair, its marks at the front of the scratch
 
+// Whether so many entries hold the new values.
+fn roomy(entries: usize, w: Window, repaired: usize) -> bool
+    requires { ⌜ w .planes * repaired < 2 ^ 64 ⌝ }
+    ensures { λ r. ⌜ r ≡ leb (w .planes * repaired) entries ⌝ }
+{
+    w.planes * repaired <= entries
+}
+
+// So many of n marks repaired, the others left.
+fn done(n: usize, repaired: usize) -> Fixed
+    requires { ⌜ repaired ≤ n ⌝ }
+    ensures { λ r. ⌜ r ≡ Fixed.Done repaired (n - repaired) ⌝ }
+{
+    let left = n - repaired;
+    Fixed::Done { repaired, left }
+}
+
 // Room for the new values first; with too little of it nothing is written.
 fn settle_f32(
     samples: &mut [f32],
@@ -293,14 +311,12 @@ fn settle_f32(
         (w .planes) (length (now (values .entry))) n (mended (now (marks .entry)) n w step) r ⌝ }
 {
     let repaired = repairable(marks, n, w, step);
-    if values.len() < w.planes * repaired {
-        return Fixed::Values;
-    }
-    fill_f32(samples, marks, n, w, step, values);
-    write_f32(samples, marks, n, w, step, values);
-    Fixed::Done {
-        repaired,
-        left: n - repaired,
+    if roomy(values.len(), w, repaired) {
+        fill_f32(samples, marks, n, w, step, values);
+        write_f32(samples, marks, n, w, step, values);
+        done(n, repaired)
+    } else {
+        Fixed::Values
     }
 }
 
@@ -320,14 +336,12 @@ fn settle_u16(
         (now (samples .entry))) (w .planes) (length (now (values .entry))) n (mended (now (marks .entry)) n w step) r ⌝ }
 {
     let repaired = repairable(marks, n, w, step);
-    if values.len() < w.planes * repaired {
-        return Fixed::Values;
-    }
-    fill_u16(samples, marks, n, w, step, values);
-    write_u16(samples, marks, n, w, step, values);
-    Fixed::Done {
-        repaired,
-        left: n - repaired,
+    if roomy(values.len(), w, repaired) {
+        fill_u16(samples, marks, n, w, step, values);
+        write_u16(samples, marks, n, w, step, values);
+        done(n, repaired)
+    } else {
+        Fixed::Values
     }
 }
 
