@@ -174,6 +174,7 @@ pub enum Reading {
 
 // The window of a frame that a run changes: `width` by `height` pixels of `planes` samples, rows `stride` pixels apart, its corner at
 // (x0, y0) of an image of full_width by full_height.
+#[repr(C)]
 pub struct Window {
     pub width: usize,
     pub height: usize,
@@ -194,6 +195,7 @@ impl Window {
 }
 
 // The row form's window: a row has no height, no stride and no y0 of its own.
+#[repr(C)]
 pub struct RowWindow {
     pub width: usize,
     pub planes: usize,
@@ -207,6 +209,7 @@ impl RowWindow {
 }
 
 // What a run is told besides the list and the window. The whole-number form counts the scale as 1.
+#[repr(C)]
 pub struct Settings {
     pub period: usize,
     pub scale: f32,
@@ -246,6 +249,7 @@ pub enum RowAnswer {
 }
 
 // Document 01's table, 'What comes back', as numbers.
+#[repr(C)]
 pub struct Numbers {
     pub number: u32,
     pub entry: usize,
