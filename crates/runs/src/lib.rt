@@ -118,3 +118,61 @@ pub fn run_f32(
     clear(marks, values);
     r
 }
+
+// ---- u16: the whole-number form, which has no scale
+
+// The names of this form, once all is performed.
+fn name_u16(list: &[u8], names: &mut [u8], done: bool)
+    ensures { λ _.
+        ⌜ now (names .exit)
+        ≡ cond done (writtenIn (namesOf skipped16 (itemsOf (now (list .entry)))) (now (names .entry))) (now (names .entry)) ⌝ }
+{
+    if done {
+        names::write_names16(list, names);
+    }
+}
+
+fn attempt_u16(
+    list: &[u8],
+    samples: &mut [u16],
+    w: Window,
+    period: usize,
+    marks: &mut [u32],
+    values: &mut [f32],
+    names: &mut [u8],
+) -> Answer
+    ensures { λ r.
+        ⌜ Is (u16Out w period (record { marks = length (now (marks .entry)); values = length (now (values .entry)) })
+        (now (list .entry)) (now (samples .entry)) (now (names .entry)))
+        r (now (samples .exit)) (now (names .exit)) ⌝ }
+{
+    match settles::settle_u16(list, w, period, names.len()) {
+        Plan::Refuse { answer } => answer,
+        Plan::Go { names: n } => {
+            let p = performs::perform_u16(list, samples, w, period, marks, values);
+            name_u16(list, names, is_done(p));
+            answer_of(p, n)
+        }
+    }
+}
+
+// Runs a list on u16 samples, by this form's rules. The scratch as in the f32 run.
+pub fn run_u16(
+    list: &[u8],
+    samples: &mut [u16],
+    w: Window,
+    period: usize,
+    marks: &mut [u32],
+    values: &mut [f32],
+    names: &mut [u8],
+) -> Answer
+    ensures { λ r.
+        ⌜ Ran (u16Out w period (record { marks = length (now (marks .entry)); values = length (now (values .entry)) })
+        (now (list .entry)) (now (samples .entry)) (now (names .entry)))
+        (record { marks = length (now (marks .entry)); values = length (now (values .entry)) })
+        r (now (samples .exit)) (now (names .exit)) (now (marks .exit)) (now (values .exit)) ⌝ }
+{
+    let r = attempt_u16(list, samples, w, period, &mut *marks, &mut *values, names);
+    clear(marks, values);
+    r
+}
