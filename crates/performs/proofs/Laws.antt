@@ -3,7 +3,7 @@ use mathlib.Core.Path.{_≡_, refl, sym, ap, ap₂, _∙_, subst}
 use mathlib.Core.Bool.{true}
 use mathlib.Core.List.{List, [], _∷_}
 use Prim.Native.Nat.{ℕ, suc, _+_, _-_, _*_, _≤_, _<_}
-use native.Mathlib.Nat.{mul-le-mul, le-trans, add-zero}
+use native.Mathlib.Nat.{mul-le-mul, add-zero}
 use native.Mathlib.Numerals.{add-one}
 use native.Mathlib.Omega.{arith}
 use lib.Ieee.{Float}
@@ -28,7 +28,6 @@ use Rattle.repair.specs.declared.Fixed.{Fixed}
 use Rattle.repair.specs.declared.Fixed.the-variants as F
 use Rattle.repair.specs.Fixes as Fixes
 use Rattle.repair.proofs.Totals.{fixes-few}
-use Rattle.performs.specs.declared.Performed.{Performed}
 use Rattle.performs.specs.declared.Performed.the-variants as P
 use Rattle.performs.specs.Performs.{progressOf, doneOf, Steps, Stepped}
 
