@@ -1,0 +1,5 @@
+pub mod Answers
+pub mod Stops
+pub mod Sums
+pub mod Calls
+pub mod Theorems
