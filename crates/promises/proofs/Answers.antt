@@ -18,8 +18,8 @@ use Rattle.dng.specs.declared.Reading.{Reading}
 use Rattle.dng.specs.declared.Reading.the-variants as R
 use Rattle.dng.specs.List.{readingOf, itemsOf}
 use Rattle.dng.specs.Run.{Progress, going, marksFull, valuesFull, skipped, takesRows, namesOf, rowOn}
-use Rattle.dng.specs.Answer.{inRange, rowInRange, numbersOf, Out, unchanged, finished, ranOn, readOut, runOut, RowOut, rowFrameOf, rowRead, rowOut}
-use Rattle.promises.specs.Promises.{Call, End, outOf, Meets, Whole, skips, performed, Goes, When, RowWhen, Kept}
+use Rattle.dng.specs.Answer.{inRange, rowInRange, numbersOf, rowNumbersOf, readingNumbersOf, Out, unchanged, finished, ranOn, readOut, runOut, RowOut, rowFrameOf, rowRead, rowOut}
+use Rattle.promises.specs.Promises.{Call, End, outOf, Meets, Whole, skips, performed, Goes, When, RowWhen, Kept, Numbered}
 
 module _ {A : Type 0} (c : Call A) where
   abbrev pub named : List ℕ
@@ -142,41 +142,79 @@ module _ {A : Type 0} (c : Call A) where
       record {
         samples = λ p q. m .left ∙ holds .first (subst (λ (a : Answer). 1 ≤ numbersOf a .number) (m .answered) p) (subst (λ (a : Answer). numbersOf a .number ≤ 4) (m .answered) q);
         names = λ p. m .named ∙ holds .any (subst (λ (a : Answer). 1 ≤ numbersOf a .number) (m .answered) p);
-        totals = no-totals (e .answer);
         written = λ n r l p. ap (take n) (m .named) ∙ holds .front n r l (sym (m .answered) ∙ p);
         after = λ n r l p. ap (drop n) (m .named) ∙ holds .back n r l (sym (m .answered) ∙ p);
-        entry = no-entry (e .answer);
-        opcode = no-opcode (e .answer);
         marks = m .marksClear;
         values = m .valuesClear;
       }
-    where
-      no-totals : (a : Answer) → 1 ≤ numbersOf a .number → (numbersOf a .repaired ≡ 0) × (numbersOf a .left ≡ 0)
-      no-totals (Ans.Done n r l) h = absurd (omega arith)
-      no-totals Ans.Range h = (refl, refl)
-      no-totals (Ans.Malformed k) h = (refl, refl)
-      no-totals Ans.NotTaken h = (refl, refl)
-      no-totals Ans.Names h = (refl, refl)
-      no-totals (Ans.Marks k) h = (refl, refl)
-      no-totals (Ans.Values k) h = (refl, refl)
 
-      no-entry : (a : Answer) → (numbersOf a .number ≡ 2 → ⊥) → numbersOf a .entry ≡ 0
-      no-entry (Ans.Done n r l) h = refl
-      no-entry Ans.Range h = refl
-      no-entry (Ans.Malformed k) h = absurd (h refl)
-      no-entry Ans.NotTaken h = refl
-      no-entry Ans.Names h = refl
-      no-entry (Ans.Marks k) h = refl
-      no-entry (Ans.Values k) h = refl
+-- ---- numbers
 
-      no-opcode : (a : Answer) → numbersOf a .number < 5 → numbersOf a .opcode ≡ 0
-      no-opcode (Ans.Done n r l) h = refl
-      no-opcode Ans.Range h = refl
-      no-opcode (Ans.Malformed k) h = refl
-      no-opcode Ans.NotTaken h = refl
-      no-opcode Ans.Names h = refl
-      no-opcode (Ans.Marks k) h = absurd (omega arith)
-      no-opcode (Ans.Values k) h = absurd (omega arith)
+no-totals : (a : Answer) → 1 ≤ numbersOf a .number → (numbersOf a .repaired ≡ 0) × (numbersOf a .left ≡ 0)
+no-totals (Ans.Done n r l) h = absurd (omega arith)
+no-totals Ans.Range h = (refl, refl)
+no-totals (Ans.Malformed k) h = (refl, refl)
+no-totals Ans.NotTaken h = (refl, refl)
+no-totals Ans.Names h = (refl, refl)
+no-totals (Ans.Marks k) h = (refl, refl)
+no-totals (Ans.Values k) h = (refl, refl)
+
+no-entry : (a : Answer) → (numbersOf a .number ≡ 2 → ⊥) → numbersOf a .entry ≡ 0
+no-entry (Ans.Done n r l) h = refl
+no-entry Ans.Range h = refl
+no-entry (Ans.Malformed k) h = absurd (h refl)
+no-entry Ans.NotTaken h = refl
+no-entry Ans.Names h = refl
+no-entry (Ans.Marks k) h = refl
+no-entry (Ans.Values k) h = refl
+
+no-opcode : (a : Answer) → numbersOf a .number < 5 → numbersOf a .opcode ≡ 0
+no-opcode (Ans.Done n r l) h = refl
+no-opcode Ans.Range h = refl
+no-opcode (Ans.Malformed k) h = refl
+no-opcode Ans.NotTaken h = refl
+no-opcode Ans.Names h = refl
+no-opcode (Ans.Marks k) h = absurd (omega arith)
+no-opcode (Ans.Values k) h = absurd (omega arith)
+
+row-number : (a : RowAnswer) → rowNumbersOf a .number ≤ 3
+row-number (Row.Done n) = omega arith
+row-number Row.Range = omega arith
+row-number (Row.Malformed k) = omega arith
+row-number Row.NotTaken = omega arith
+
+row-entry : (a : RowAnswer) → (rowNumbersOf a .number ≡ 2 → ⊥) → rowNumbersOf a .entry ≡ 0
+row-entry (Row.Done n) h = refl
+row-entry Row.Range h = refl
+row-entry (Row.Malformed k) h = absurd (h refl)
+row-entry Row.NotTaken h = refl
+
+row-rest : (a : RowAnswer) → (rowNumbersOf a .opcode ≡ 0) × (rowNumbersOf a .repaired ≡ 0) × (rowNumbersOf a .left ≡ 0)
+row-rest (Row.Done n) = (refl, refl, refl)
+row-rest Row.Range = (refl, refl, refl)
+row-rest (Row.Malformed k) = (refl, refl, refl)
+row-rest Row.NotTaken = (refl, refl, refl)
+
+reading-number : (a : Reading) → (readingNumbersOf a .number ≡ 2 → ⊥) → (readingNumbersOf a .number ≡ 0) × (readingNumbersOf a .entry ≡ 0)
+reading-number (R.Whole n) h = (refl, refl)
+reading-number (R.Malformed k) h = absurd (h refl)
+
+reading-rest : (a : Reading) → (readingNumbersOf a .opcode ≡ 0) × (readingNumbersOf a .repaired ≡ 0) × (readingNumbersOf a .left ≡ 0)
+reading-rest (R.Whole n) = (refl, refl, refl)
+reading-rest (R.Malformed k) = (refl, refl, refl)
+
+pub numbered : Numbered
+numbered =
+    record {
+      totals = no-totals;
+      entry = no-entry;
+      opcode = no-opcode;
+      row = row-number;
+      rowEntry = row-entry;
+      rowRest = row-rest;
+      reading = reading-number;
+      readingRest = reading-rest;
+    }
 
 -- ---- a row
 

@@ -1,22 +1,27 @@
 -- Demand 3 of the calls: what each call did is what the definitions say, so the theorems on the definitions are theorems on the calls. Assumes nothing.
-use Prim.Native.Nat.{ℕ, suc, _+_, _≤_, _<_}
+use Prim.Native.Nat.{ℕ, suc, _+_, _*_, _≤_, _<_}
 use mathlib.Core.List.{List, [], _∷_}
 use mathlib.Core.Path.{_≡_, refl, sym, ap, ap₂, subst, _∙_}
+use native.Mathlib.Nat.{le-trans}
+use native.Mathlib.Omega.{arith}
 use lib.Ieee.{Float}
 use lib.ListN.{length, take, replicate}
 use Rattle.dng.specs.declared.Window.{Window}
 use Rattle.dng.specs.declared.RowAnswer.{RowAnswer}
 use Rattle.dng.specs.declared.RowAnswer.the-variants as Row
+use Rattle.dng.specs.declared.Answer.the-variants as Ans
 use Rattle.dng.specs.List.{itemsOf}
-use Rattle.dng.specs.Run.{namesOf, skipped, skipped16}
-use Rattle.dng.specs.Answer.{rowOut}
+use Rattle.dng.specs.Repair.{positions}
+use Rattle.dng.specs.Run.{Room, namesOf, skipped, skipped16}
+use Rattle.dng.specs.Answer.{Out, f32Out, u16Out, rowOut}
 use Rattle.rowform.specs.RowForm.{occurs, rowPart, rowPut, rowWindowOf, allRows}
 use Rattle.rowform.proofs.Order.{once-below, occurs-head, occurs-tail}
 use Rattle.rowform.proofs.Theorem.{row-form}
-use Rattle.wholeform.specs.WholeForm.{widened, narrowed, withoutTables, atOne}
+use Rattle.wholeform.specs.WholeForm.{widened, narrowed, withoutTables, atOne, WholeForm}
 use Rattle.wholeform.proofs.Theorem.{whole-form}
-use Rattle.promises.specs.Promises.{RowCalls, done, call, Row-calls, Whole-calls, f32Call, u16Call}
-use Rattle.promises.proofs.Answers.{kept}
+use Rattle.promises.specs.Promises.{End, Meets, When, f32Call, u16Call, RowCalls, done, call, Row-calls, Wholes-agree, Whole-calls, Wholes·if, NoShorter, Whole-calls-tight}
+use Rattle.promises.proofs.Answers.{kept, when}
+use Rattle.promises.proofs.Rooms.{other-room, own-room}
 
 -- ---- rows
 
@@ -44,20 +49,100 @@ row-calls w set room list s names ys rs t e h ran calls =
 
 -- ---- whole numbers
 
+module _ (w : Window) (period : ℕ) (room room′ : Room) (list s names names′ : List ℕ) (e : End ℕ) (e′ : End Float)
+    (ran : Meets (u16Out w period room list s names) room e) (ran′ : Meets (f32Out w (atOne period) room′ list (widened s) names′) room′ e′) where
+  -- the theorem on the definitions, perhaps with other scratch that changes nothing
+  agree : (other other′ : Room) → WholeForm w period other other′ list s names names′
+      → u16Out w period other list s names ≡ u16Out w period room list s names
+      → f32Out w (atOne period) other′ list (widened s) names′ ≡ f32Out w (atOne period) room′ list (widened s) names′ → Wholes-agree e e′
+  agree other other′ form is16 is32 =
+      let answer16 = ran .answered ∙ ap (λ (o : Out ℕ). o .answer) (sym is16) ∙ form .run16 in
+      let answer32 = ran′ .answered ∙ ap (λ (o : Out Float). o .answer) (sym is32) ∙ form .run32 in
+      let front16 = kept (u16Call w period room list s names) e ran .written _ _ _ answer16 in
+      let front32 = kept (f32Call w (atOne period) room′ list (widened s) names′) e′ ran′ .written _ _ _ answer32 in
+      record {
+        skips16 = length (namesOf skipped16 (itemsOf list));
+        skips32 = length (namesOf skipped (itemsOf list));
+        repaired = form .repaired;
+        left = form .left;
+        run16 = answer16;
+        run32 = answer32;
+        samples = ran .left ∙ ap (λ (o : Out ℕ). o .samples) (sym is16) ∙ form .samples ∙ ap (λ (o : Out Float). narrowed (o .samples)) is32
+            ∙ sym (ap narrowed (ran′ .left));
+        named = front16 ∙ form .named ∙ sym (ap withoutTables front32);
+      }
+
+  module _ (h : Wholes·if w period list s names names′) where
+    -- scratch for any repair of the window, and no shorter than a given one
+    ample : Room → Room
+    ample given = record { marks = positions w + given .marks; values = w .planes * positions w + given .values }
+
+    formed : (given : Room) → WholeForm w period (ample given) (ample given) list s names names′
+    unfolding ample
+    formed given =
+        whole-form w period (ample given) (ample given) list s names names′
+        (record {
+          bytes = h .bytes;
+          words = h .words;
+          ranges = h .ranges;
+          opcodes = h .opcodes;
+          whole = h .whole;
+          taken = h .taken;
+          enough = record { marks = omega arith; values = omega arith };
+          enough′ = record { marks = omega arith; values = omega arith };
+          roomy = h .roomy;
+          roomy′ = h .roomy′;
+        })
+
+    tight16 : (n r l : ℕ) → NoShorter room room′ → e .answer ≡ Ans.Done n r l → Wholes-agree e e′
+    unfolding ample
+    tight16 n r l short p =
+        let call16 = u16Call w period room list s names in
+        let big : Room = ample room in
+        let form = formed room in
+        let done16 : When call16 (Ans.Done n r l) = subst (When call16) (sym (ran .answered) ∙ p) (when call16) in
+        let own = own-room call16 n r l done16 (h .taken) in
+        let same16 : u16Out w period big list s names ≡ u16Out w period room list s names =
+        other-room call16 n r l done16 big (omega (arith, own .0)) (omega (arith, own .1)) in
+        let is : Ans.Done (length (namesOf skipped16 (itemsOf list))) (form .repaired) (form .left) ≡ Ans.Done n r l =
+        sym (form .run16) ∙ ap (λ (o : Out ℕ). o .answer) same16 ∙ sym (ran .answered) ∙ p in
+        let repaired : form .repaired ≡ r = cc in
+        let left : form .left ≡ l = cc in
+        let call32 = f32Call w (atOne period) big list (widened s) names′ in
+        let done32 : When call32 (Ans.Done (length (namesOf skipped (itemsOf list))) (form .repaired) (form .left)) =
+        subst (When call32) (form .run32) (when call32) in
+        agree big big form same16
+        (sym (other-room call32 (length (namesOf skipped (itemsOf list))) (form .repaired) (form .left) done32 room′
+        (omega (arith, own .0, short .marks)) (rw repaired (le-trans (own .1) (short .values)))))
+
+    tight32 : (n r l : ℕ) → NoShorter room′ room → e′ .answer ≡ Ans.Done n r l → Wholes-agree e e′
+    unfolding ample
+    tight32 n r l short p =
+        let call32 = f32Call w (atOne period) room′ list (widened s) names′ in
+        let big : Room = ample room′ in
+        let form = formed room′ in
+        let done32 : When call32 (Ans.Done n r l) = subst (When call32) (sym (ran′ .answered) ∙ p) (when call32) in
+        let own = own-room call32 n r l done32 (h .taken) in
+        let same32 : f32Out w (atOne period) big list (widened s) names′ ≡ f32Out w (atOne period) room′ list (widened s) names′ =
+        other-room call32 n r l done32 big (omega (arith, own .0)) (omega (arith, own .1)) in
+        let is : Ans.Done (length (namesOf skipped (itemsOf list))) (form .repaired) (form .left) ≡ Ans.Done n r l =
+        sym (form .run32) ∙ ap (λ (o : Out Float). o .answer) same32 ∙ sym (ran′ .answered) ∙ p in
+        let repaired : form .repaired ≡ r = cc in
+        let left : form .left ≡ l = cc in
+        let call16 = u16Call w period big list s names in
+        let done16 : When call16 (Ans.Done (length (namesOf skipped16 (itemsOf list))) (form .repaired) (form .left)) =
+        subst (When call16) (form .run16) (when call16) in
+        agree big big form
+        (sym (other-room call16 (length (namesOf skipped16 (itemsOf list))) (form .repaired) (form .left) done16 room
+        (omega (arith, own .0, short .marks)) (rw repaired (le-trans (own .1) (short .values)))))
+        same32
+
 pub whole-calls : Whole-calls
 whole-calls w period room room′ list s names names′ e e′ h ran ran′ =
-    let form = whole-form w period room room′ list s names names′ h in
-    let answer16 = ran .answered ∙ form .run16 in
-    let answer32 = ran′ .answered ∙ form .run32 in
-    let front16 = kept (u16Call w period room list s names) e ran .written _ _ _ answer16 in
-    let front32 = kept (f32Call w (atOne period) room′ list (widened s) names′) e′ ran′ .written _ _ _ answer32 in
-    record {
-      skips16 = length (namesOf skipped16 (itemsOf list));
-      skips32 = length (namesOf skipped (itemsOf list));
-      repaired = form .repaired;
-      left = form .left;
-      run16 = answer16;
-      run32 = answer32;
-      samples = ran .left ∙ form .samples ∙ sym (ap narrowed (ran′ .left));
-      named = front16 ∙ form .named ∙ sym (ap withoutTables front32);
-    }
+    agree w period room room′ list s names names′ e e′ ran ran′ room room′ (whole-form w period room room′ list s names names′ h) refl refl
+
+pub whole-calls-tight : Whole-calls-tight
+whole-calls-tight w period room room′ list s names names′ e e′ h ran ran′ n r l = (
+  tight16 w period room room′ list s names names′ e e′ ran ran′ h n r l,
+  tight32 w period room room′ list s names names′ e e′ ran ran′ h n r l,
+)

@@ -10,10 +10,12 @@ use Rattle.dng.specs.List.{itemsOf}
 use Rattle.dng.specs.Run.{Progress, going, marksFull, valuesFull}
 use Rattle.dng.specs.Answer.{Out, finished}
 use Rattle.rows.proofs.Laws.{determined as rows-determined, kept as rows-kept}
-use Rattle.promises.specs.Promises.{Forms, Determined, Call, End, outOf, Meets, performed, Goes, When, RowWhen, MarksOver, ValuesOver, Exactly-when, Row-exactly-when, Keeps, Row-keeps, Adds-up, Row-calls, Whole-calls}
+use Rattle.promises.specs.Promises.{Forms, Determined, Call, End, outOf, Meets, performed, Goes, When, RowWhen, MarksOver, ValuesOver, Exactly-when, Row-exactly-when, Keeps, Row-keeps, Numbered, Adds-up, Scratch, Row-calls, Whole-calls, Whole-calls-tight}
 use Rattle.promises.proofs.Answers.{named, goes-on, when, only, kept, row-when, row-only}
 use Rattle.promises.proofs.Stops.{shown, marks-stop, values-stop}
+use Rattle.promises.proofs.Answers as Answers
 use Rattle.promises.proofs.Sums as Sums
+use Rattle.promises.proofs.Rooms.{other-room}
 use Rattle.promises.proofs.Calls as Calls
 
 pub forms : Forms
@@ -69,9 +71,14 @@ module _ {A : Type 0} (c : Call A) (e : End A) (m : Meets (outOf c) (c .room) e)
       let h : When c (Ans.Values k) = answers (Ans.Values k) .0 p in
       subst (λ (t : List A). ValuesOver c k t) (sym (stopped (h .0) (valuesFull (h .1 .0) k) (h .1 .1))) (shown c (valuesFull (h .1 .0) k) (h .1 .1))
 
+  result : (n r l : ℕ) → e .answer ≡ Ans.Done n r l → performed c (itemsOf (c .list)) ≡ going (e .samples) r l
+  result n r l p =
+      let h : When c (Ans.Done n r l) = answers (Ans.Done n r l) .0 p in
+      h .2 .1 ∙ ap (λ (t : List A). going t r l) (sym (stopped (h .0) (going (h .2 .0) r l) (h .2 .1)))
+
 pub exactly-when : Exactly-when
 exactly-when A c e m =
-    record { answers = answers c e m; marks = marks c e m; values = values c e m; marksStop = marks-left c e m; valuesStop = values-left c e m }
+    record { answers = answers c e m; marks = marks c e m; values = values c e m; result = result c e m; marksStop = marks-left c e m; valuesStop = values-left c e m }
 
 pub row-exactly-when : Row-exactly-when
 row-exactly-when w scale y list row r t ran a = (
@@ -84,6 +91,9 @@ row-exactly-when w scale y list row r t ran a = (
 pub keeps : Keeps
 keeps A c e m = kept c e m
 
+pub numbered : Numbered
+numbered = Answers.numbered
+
 pub row-keeps : Row-keeps
 row-keeps w scale y list row r t ran not = rows-kept w scale y list row ran not
 
@@ -94,6 +104,9 @@ adds-up A c e m n r l p =
     let h : When c (Ans.Done n r l) = answers c e m (Ans.Done n r l) .0 p in
     Sums.adds-up c (h .2 .0) r l (h .2 .1)
 
+pub scratch : Scratch
+scratch A c e m n r l p room = other-room c n r l (answers c e m (Ans.Done n r l) .0 p) room
+
 -- ---- 5
 
 pub row-calls : Row-calls
@@ -101,3 +114,6 @@ row-calls = Calls.row-calls
 
 pub whole-calls : Whole-calls
 whole-calls = Calls.whole-calls
+
+pub whole-calls-tight : Whole-calls-tight
+whole-calls-tight = Calls.whole-calls-tight

@@ -20,10 +20,10 @@ use Rattle.dng.specs.List.{Item, readingOf, itemsOf, bodyOf}
 use Rattle.dng.specs.Value.{nought}
 use Rattle.dng.specs.Repair.{marksOf, markedIn, repairedIn, leftIn}
 use Rattle.dng.specs.Run.{Class, table, empty, local, repair, unapplied, classOf, Kind, f32Kind, u16Kind, skipped, skipped16, takes16, takesRows, namesOf, Progress, going, marksFull, valuesFull, Room, perform, performAll}
-use Rattle.dng.specs.Answer.{inRange, rowInRange, numbersOf, Out, runOut, takesAll, frameOf, f32Out, u16Out, Ran, RowOut, rowOut}
+use Rattle.dng.specs.Answer.{inRange, rowInRange, numbersOf, rowNumbersOf, readingNumbersOf, Out, runOut, takesAll, frameOf, f32Out, u16Out, Ran, RowOut, rowOut}
 use Rattle.rows.specs.Rows.{RowRan}
 use Rattle.rowform.specs.RowForm.{rowPart, rowPut, rowWindowOf, RowForm·if}
-use Rattle.wholeform.specs.WholeForm.{widened, narrowed, withoutTables, atOne, WholeForm·if}
+use Rattle.wholeform.specs.WholeForm.{Below, widened, narrowed, withoutTables, atOne, WholeForm·if}
 
 -- ---- a run: what it is lent, and what it leaves
 
@@ -140,11 +140,12 @@ module _ {A : Type 0} (c : Call A) where
     pub fits : markedIn (c .window) (marksOn (reached .item) t) ≤ c .room .marks
     pub over : c .room .values < c .window .planes * repairedIn (c .window) (c .period) (marksOn (reached .item) t)
 
--- a run: by the table; and 5 and 6 by the repair that is named, whose samples are those that the opcodes before it left
+-- a run: by the table; 5 and 6 also by the repair that is named; and the samples, on 0 the result, on 5 and 6 those that the opcodes before that repair left
 pub record Exactly {A : Type 0} (c : Call A) (e : End A) : Type 0 where
   pub answers : (a : Answer) → (e .answer ≡ a) ↔ When c a
   pub marks : (k : ℕ) → (e .answer ≡ Ans.Marks k) ↔ (Goes c × ((t : List A) × MarksOver c k t))
   pub values : (k : ℕ) → (e .answer ≡ Ans.Values k) ↔ (Goes c × ((t : List A) × ValuesOver c k t))
+  pub result : (n r l : ℕ) → e .answer ≡ Ans.Done n r l → performed c (itemsOf (c .list)) ≡ going (e .samples) r l
   pub marksStop : (k : ℕ) → e .answer ≡ Ans.Marks k → MarksOver c k (e .samples)
   pub valuesStop : (k : ℕ) → e .answer ≡ Ans.Values k → ValuesOver c k (e .samples)
 
@@ -171,13 +172,9 @@ pub record Kept {A : Type 0} (c : Call A) (e : End A) : Type 0 where
   pub samples : 1 ≤ numbersOf (e .answer) .number → numbersOf (e .answer) .number ≤ 4 → e .samples ≡ c .samples
   -- any refusal
   pub names : 1 ≤ numbersOf (e .answer) .number → e .names ≡ c .names
-  pub totals : 1 ≤ numbersOf (e .answer) .number → (numbersOf (e .answer) .repaired ≡ 0) × (numbersOf (e .answer) .left ≡ 0)
   -- 0: one byte for each skipped opcode in front, and what stood after them
   pub written : (n r l : ℕ) → e .answer ≡ Ans.Done n r l → take n (e .names) ≡ namesOf (c .skip) (itemsOf (c .list))
   pub after : (n r l : ℕ) → e .answer ≡ Ans.Done n r l → drop n (e .names) ≡ drop n (c .names)
-  -- every answer but 2; every answer but 5 and 6
-  pub entry : (numbersOf (e .answer) .number ≡ 2 → ⊥) → numbersOf (e .answer) .entry ≡ 0
-  pub opcode : numbersOf (e .answer) .number < 5 → numbersOf (e .answer) .opcode ≡ 0
   -- every return
   pub marks : e .marks ≡ replicate (c .room .marks) 0
   pub values : e .values ≡ replicate (c .room .values) nought
@@ -189,6 +186,19 @@ abbrev pub Row-keeps : Type 0
 Row-keeps =
     (w : RowWindow) (scale : Float) (y : ℕ) (list : List ℕ) (row : List Float) (r : RowAnswer) (t : List Float)
     → RowRan (rowOut w scale y list row) r t → ((n : ℕ) → r ≡ Row.Done n → ⊥) → t ≡ row
+
+-- the paper's numbers of every answer: totals 0 on a refusal, the entry's number 0 but in 2, the opcode's 0 but in 5 and 6
+pub record Numbered : Type 0 where
+  pub totals : (a : Answer) → 1 ≤ numbersOf a .number → (numbersOf a .repaired ≡ 0) × (numbersOf a .left ≡ 0)
+  pub entry : (a : Answer) → (numbersOf a .number ≡ 2 → ⊥) → numbersOf a .entry ≡ 0
+  pub opcode : (a : Answer) → numbersOf a .number < 5 → numbersOf a .opcode ≡ 0
+  -- a row gives 0, 1, 2 or 3
+  pub row : (a : RowAnswer) → rowNumbersOf a .number ≤ 3
+  pub rowEntry : (a : RowAnswer) → (rowNumbersOf a .number ≡ 2 → ⊥) → rowNumbersOf a .entry ≡ 0
+  pub rowRest : (a : RowAnswer) → (rowNumbersOf a .opcode ≡ 0) × (rowNumbersOf a .repaired ≡ 0) × (rowNumbersOf a .left ≡ 0)
+  -- reading alone gives 0 or 2
+  pub reading : (a : Reading) → (readingNumbersOf a .number ≡ 2 → ⊥) → (readingNumbersOf a .number ≡ 0) × (readingNumbersOf a .entry ≡ 0)
+  pub readingRest : (a : Reading) → (readingNumbersOf a .opcode ≡ 0) × (readingNumbersOf a .repaired ≡ 0) × (readingNumbersOf a .left ≡ 0)
 
 -- ---- 4. totals: over a run that answers 0 they are sums over its repairs, and add up to the distinct marked positions of all of them
 
@@ -221,6 +231,18 @@ pub record Totals {A : Type 0} (c : Call A) (r l : ℕ) : Type 0 where
 abbrev pub Adds-up : Type 1
 Adds-up =
     (A : Type 0) (c : Call A) (e : End A) → Meets (outOf c) (c .room) e → (n r l : ℕ) → e .answer ≡ Ans.Done n r l → Totals c r l
+
+-- the call with other scratch
+abbrev pub withRoom : {A : Type 0} → Call A → Room → Call A
+withRoom c room =
+    record { kind = c .kind; takes = c .takes; skip = c .skip; window = c .window; period = c .period; room = room; list = c .list; samples = c .samples; names = c .names }
+
+-- So the totals say how much scratch is enough: a run that answers 0 answers the same, and leaves the same, with any scratch that holds as many marks as
+-- were repaired and left, and a value for each plane of those repaired.
+abbrev pub Scratch : Type 1
+Scratch =
+    (A : Type 0) (c : Call A) (e : End A) → Meets (outOf c) (c .room) e → (n r l : ℕ) → e .answer ≡ Ans.Done n r l
+    → (room : Room) → r + l ≤ room .marks → c .window .planes * r ≤ room .values → outOf (withRoom c room) ≡ outOf c
 
 -- ---- 5. demand 3, of the calls
 
@@ -262,3 +284,28 @@ Whole-calls =
     → WholeForm·if w period room room′ list s names names′
     → Meets (u16Out w period room list s names) room e → Meets (f32Out w (atOne period) room′ list (widened s) names′) room′ e′
     → Wholes-agree e e′
+
+-- The same where the scratch is only known to be enough for one of the two: what WholeForm·if asks but for the room.
+pub record Wholes·if (w : Window) (period : ℕ) (list s names names′ : List ℕ) : Type 0 where
+  pub bytes : Below 256 list
+  pub words : Below 65536 s
+  pub ranges : inRange w period ≡ true
+  pub opcodes : ℕ
+  pub whole : readingOf list ≡ R.Whole opcodes
+  pub taken : takes16 (itemsOf list) ≡ true
+  pub roomy : length (namesOf skipped16 (itemsOf list)) ≤ length names
+  pub roomy′ : length (namesOf skipped (itemsOf list)) ≤ length names′
+
+-- the scratch room′ is no shorter than room
+pub record NoShorter (room room′ : Room) : Type 0 where
+  pub marks : room .marks ≤ room′ .marks
+  pub values : room .values ≤ room′ .values
+
+-- where one of the two answers 0, so does the other with no shorter scratch, and they agree
+abbrev pub Whole-calls-tight : Type 0
+Whole-calls-tight =
+    (w : Window) (period : ℕ) (room room′ : Room) (list s names names′ : List ℕ) (e : End ℕ) (e′ : End Float)
+    → Wholes·if w period list s names names′
+    → Meets (u16Out w period room list s names) room e → Meets (f32Out w (atOne period) room′ list (widened s) names′) room′ e′
+    → (n r l : ℕ)
+    → (NoShorter room room′ → e .answer ≡ Ans.Done n r l → Wholes-agree e e′) × (NoShorter room′ room → e′ .answer ≡ Ans.Done n r l → Wholes-agree e e′)
