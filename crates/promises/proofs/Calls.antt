@@ -1,5 +1,6 @@
 -- Demand 3 of the calls: what each call did is what the definitions say, so the theorems on the definitions are theorems on the calls. Assumes nothing.
 use Prim.Native.Nat.{ℕ, suc, _+_, _*_, _≤_, _<_}
+use mathlib.Core.Bool.{true}
 use mathlib.Core.List.{List, [], _∷_}
 use mathlib.Core.Path.{_≡_, refl, sym, ap, ap₂, subst, _∙_}
 use native.Mathlib.Nat.{le-trans}
@@ -12,14 +13,14 @@ use Rattle.dng.specs.declared.RowAnswer.the-variants as Row
 use Rattle.dng.specs.declared.Answer.the-variants as Ans
 use Rattle.dng.specs.List.{itemsOf}
 use Rattle.dng.specs.Repair.{positions}
-use Rattle.dng.specs.Run.{Room, namesOf, skipped, skipped16}
-use Rattle.dng.specs.Answer.{Out, f32Out, u16Out, rowOut}
+use Rattle.dng.specs.Run.{Room, namesOf, skipped, skipped16, takes16}
+use Rattle.dng.specs.Answer.{inRange, Out, f32Out, u16Out, rowOut}
 use Rattle.rowform.specs.RowForm.{occurs, rowPart, rowPut, rowWindowOf, allRows}
 use Rattle.rowform.proofs.Order.{once-below, occurs-head, occurs-tail}
 use Rattle.rowform.proofs.Theorem.{row-form}
-use Rattle.wholeform.specs.WholeForm.{widened, narrowed, withoutTables, atOne, WholeForm}
+use Rattle.wholeform.specs.WholeForm.{Below, widened, narrowed, withoutTables, atOne, WholeForm}
 use Rattle.wholeform.proofs.Theorem.{whole-form}
-use Rattle.promises.specs.Promises.{End, Meets, When, f32Call, u16Call, RowCalls, done, call, Row-calls, Wholes-agree, Whole-calls, Wholes·if, NoShorter, Whole-calls-tight}
+use Rattle.promises.specs.Promises.{End, Meets, Whole, When, f32Call, u16Call, RowCalls, done, call, Row-calls, Wholes-agree, Whole-calls, NoShorter, Whole-calls-16, Whole-calls-32}
 use Rattle.promises.proofs.Answers.{kept, when}
 use Rattle.promises.proofs.Rooms.{other-room, own-room}
 
@@ -72,36 +73,35 @@ module _ (w : Window) (period : ℕ) (room room′ : Room) (list s names names�
         named = front16 ∙ form .named ∙ sym (ap withoutTables front32);
       }
 
-  module _ (h : Wholes·if w period list s names names′) where
-    -- scratch for any repair of the window, and no shorter than a given one
-    ample : Room → Room
-    ample given = record { marks = positions w + given .marks; values = w .planes * positions w + given .values }
+  -- scratch for any repair of the window, and no shorter than a given one
+  abbrev ample : Room → Room
+  ample given = record { marks = positions w + given .marks; values = w .planes * positions w + given .values }
 
+  module _ (bytes : Below 256 list) (words : Below 65536 s) (ranges : inRange w period ≡ true) (whole : Whole list) (taken : takes16 (itemsOf list) ≡ true)
+      (roomy : length (namesOf skipped16 (itemsOf list)) ≤ length names) (roomy′ : length (namesOf skipped (itemsOf list)) ≤ length names′) where
     formed : (given : Room) → WholeForm w period (ample given) (ample given) list s names names′
-    unfolding ample
     formed given =
         whole-form w period (ample given) (ample given) list s names names′
         (record {
-          bytes = h .bytes;
-          words = h .words;
-          ranges = h .ranges;
-          opcodes = h .opcodes;
-          whole = h .whole;
-          taken = h .taken;
+          bytes = bytes;
+          words = words;
+          ranges = ranges;
+          opcodes = whole .0;
+          whole = whole .1;
+          taken = taken;
           enough = record { marks = omega arith; values = omega arith };
           enough′ = record { marks = omega arith; values = omega arith };
-          roomy = h .roomy;
-          roomy′ = h .roomy′;
+          roomy = roomy;
+          roomy′ = roomy′;
         })
 
-    tight16 : (n r l : ℕ) → NoShorter room room′ → e .answer ≡ Ans.Done n r l → Wholes-agree e e′
-    unfolding ample
-    tight16 n r l short p =
+    tight16 : (n r l : ℕ) → NoShorter room room′ → e .answer ≡ Ans.Done n r l → When (u16Call w period room list s names) (Ans.Done n r l)
+        → Wholes-agree e e′
+    tight16 n r l short p done16 =
         let call16 = u16Call w period room list s names in
         let big : Room = ample room in
         let form = formed room in
-        let done16 : When call16 (Ans.Done n r l) = subst (When call16) (sym (ran .answered) ∙ p) (when call16) in
-        let own = own-room call16 n r l done16 (h .taken) in
+        let own = own-room call16 n r l done16 taken in
         let same16 : u16Out w period big list s names ≡ u16Out w period room list s names =
         other-room call16 n r l done16 big (omega (arith, own .0)) (omega (arith, own .1)) in
         let is : Ans.Done (length (namesOf skipped16 (itemsOf list))) (form .repaired) (form .left) ≡ Ans.Done n r l =
@@ -115,14 +115,13 @@ module _ (w : Window) (period : ℕ) (room room′ : Room) (list s names names�
         (sym (other-room call32 (length (namesOf skipped (itemsOf list))) (form .repaired) (form .left) done32 room′
         (omega (arith, own .0, short .marks)) (rw repaired (le-trans (own .1) (short .values)))))
 
-    tight32 : (n r l : ℕ) → NoShorter room′ room → e′ .answer ≡ Ans.Done n r l → Wholes-agree e e′
-    unfolding ample
-    tight32 n r l short p =
+    tight32 : (n r l : ℕ) → NoShorter room′ room → e′ .answer ≡ Ans.Done n r l
+        → When (f32Call w (atOne period) room′ list (widened s) names′) (Ans.Done n r l) → Wholes-agree e e′
+    tight32 n r l short p done32 =
         let call32 = f32Call w (atOne period) room′ list (widened s) names′ in
         let big : Room = ample room′ in
         let form = formed room′ in
-        let done32 : When call32 (Ans.Done n r l) = subst (When call32) (sym (ran′ .answered) ∙ p) (when call32) in
-        let own = own-room call32 n r l done32 (h .taken) in
+        let own = own-room call32 n r l done32 taken in
         let same32 : f32Out w (atOne period) big list (widened s) names′ ≡ f32Out w (atOne period) room′ list (widened s) names′ =
         other-room call32 n r l done32 big (omega (arith, own .0)) (omega (arith, own .1)) in
         let is : Ans.Done (length (namesOf skipped (itemsOf list))) (form .repaired) (form .left) ≡ Ans.Done n r l =
@@ -141,8 +140,15 @@ pub whole-calls : Whole-calls
 whole-calls w period room room′ list s names names′ e e′ h ran ran′ =
     agree w period room room′ list s names names′ e e′ ran ran′ room room′ (whole-form w period room room′ list s names names′ h) refl refl
 
-pub whole-calls-tight : Whole-calls-tight
-whole-calls-tight w period room room′ list s names names′ e e′ h ran ran′ n r l = (
-  tight16 w period room room′ list s names names′ e e′ ran ran′ h n r l,
-  tight32 w period room room′ list s names names′ e e′ ran ran′ h n r l,
-)
+pub whole-calls-16 : Whole-calls-16
+whole-calls-16 w period room room′ list s names names′ e e′ n r l bytes words short roomy′ ran ran′ p =
+    let h : When (u16Call w period room list s names) (Ans.Done n r l) =
+    subst (When (u16Call w period room list s names)) (sym (ran .answered) ∙ p) (when (u16Call w period room list s names)) in
+    tight16 w period room room′ list s names names′ e e′ ran ran′ bytes words (h .0 .ranges) (h .0 .whole) (h .0 .taken) (h .0 .named) roomy′ n r l short p h
+
+pub whole-calls-32 : Whole-calls-32
+whole-calls-32 w period room room′ list s names names′ e e′ n r l bytes words short taken roomy ran ran′ p =
+    let h : When (f32Call w (atOne period) room′ list (widened s) names′) (Ans.Done n r l) =
+    subst (When (f32Call w (atOne period) room′ list (widened s) names′)) (sym (ran′ .answered) ∙ p)
+    (when (f32Call w (atOne period) room′ list (widened s) names′)) in
+    tight32 w period room room′ list s names names′ e e′ ran ran′ bytes words (h .0 .ranges) (h .0 .whole) taken roomy (h .0 .named) n r l short p h

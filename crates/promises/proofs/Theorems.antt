@@ -1,16 +1,19 @@
 -- The promises of specs/Promises, proved. Assumes nothing.
 use Prim.Native.Nat.{ℕ}
+use mathlib.Core.Bool.{true, false≢true}
 use mathlib.Core.List.{List}
 use mathlib.Core.Logic.{_↔_}
 use mathlib.Core.Path.{_≡_, refl, sym, ap, subst, _∙_}
+use native.Mathlib.Omega.{arith}
+use borrow.Author.Tests.{eqb-true, eq-eqb}
 use Rattle.dng.specs.declared.Answer.{Answer}
 use Rattle.dng.specs.declared.Answer.the-variants as Ans
 use Rattle.dng.specs.declared.RowAnswer.{RowAnswer}
 use Rattle.dng.specs.List.{itemsOf}
 use Rattle.dng.specs.Run.{Progress, going, marksFull, valuesFull}
-use Rattle.dng.specs.Answer.{Out, finished}
+use Rattle.dng.specs.Answer.{Out, finished, numbersOf, wholeFrame}
 use Rattle.rows.proofs.Laws.{determined as rows-determined, kept as rows-kept}
-use Rattle.promises.specs.Promises.{Forms, Determined, Call, End, outOf, Meets, performed, Goes, When, RowWhen, MarksOver, ValuesOver, Exactly-when, Row-exactly-when, Keeps, Row-keeps, Numbered, Adds-up, Scratch, Row-calls, Whole-calls, Whole-calls-tight}
+use Rattle.promises.specs.Promises.{Forms, Determined, Call, End, outOf, Meets, skips, performed, Goes, When, RowWhen, MarksOver, ValuesOver, Exactly-when, Row-exactly-when, Keeps, Row-keeps, Numbered, Adds-up, Scratch, Row-calls, Whole-calls, Whole-calls-16, Whole-calls-32, Verdict}
 use Rattle.promises.proofs.Answers.{named, goes-on, when, only, kept, row-when, row-only}
 use Rattle.promises.proofs.Stops.{shown, marks-stop, values-stop}
 use Rattle.promises.proofs.Answers as Answers
@@ -115,5 +118,35 @@ row-calls = Calls.row-calls
 pub whole-calls : Whole-calls
 whole-calls = Calls.whole-calls
 
-pub whole-calls-tight : Whole-calls-tight
-whole-calls-tight = Calls.whole-calls-tight
+pub whole-calls-16 : Whole-calls-16
+whole-calls-16 = Calls.whole-calls-16
+
+pub whole-calls-32 : Whole-calls-32
+whole-calls-32 = Calls.whole-calls-32
+
+-- ---- 6
+
+pub verdict : Verdict
+verdict A c e m = (there (e .answer) (λ n r l. settled n r l), back (e .answer) (λ n r l. settled n r l))
+  where
+    settled : (n r l : ℕ) → e .answer ≡ Ans.Done n r l → n ≡ skips c
+    settled n r l p = let h : When c (Ans.Done n r l) = answers c e m (Ans.Done n r l) .0 p in h .1
+
+    -- any answer that is e's
+    there : (a : Answer) → ((n r l : ℕ) → a ≡ Ans.Done n r l → n ≡ skips c) → wholeFrame a ≡ true → (numbersOf a .number ≡ 0) × (skips c ≡ 0)
+    there (Ans.Done n r l) f h = (refl, sym (f n r l refl) ∙ eqb-true n 0 h)
+    there Ans.Range f h = absurd (false≢true h)
+    there (Ans.Malformed k) f h = absurd (false≢true h)
+    there Ans.NotTaken f h = absurd (false≢true h)
+    there Ans.Names f h = absurd (false≢true h)
+    there (Ans.Marks k) f h = absurd (false≢true h)
+    there (Ans.Values k) f h = absurd (false≢true h)
+
+    back : (a : Answer) → ((n r l : ℕ) → a ≡ Ans.Done n r l → n ≡ skips c) → (numbersOf a .number ≡ 0) × (skips c ≡ 0) → wholeFrame a ≡ true
+    back (Ans.Done n r l) f h = eq-eqb n 0 (f n r l refl ∙ h .1)
+    back Ans.Range f h = absurd (omega (arith, h .0))
+    back (Ans.Malformed k) f h = absurd (omega (arith, h .0))
+    back Ans.NotTaken f h = absurd (omega (arith, h .0))
+    back Ans.Names f h = absurd (omega (arith, h .0))
+    back (Ans.Marks k) f h = absurd (omega (arith, h .0))
+    back (Ans.Values k) f h = absurd (omega (arith, h .0))

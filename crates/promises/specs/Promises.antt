@@ -20,7 +20,7 @@ use Rattle.dng.specs.List.{Item, readingOf, itemsOf, bodyOf}
 use Rattle.dng.specs.Value.{nought}
 use Rattle.dng.specs.Repair.{marksOf, markedIn, repairedIn, leftIn}
 use Rattle.dng.specs.Run.{Class, table, empty, local, repair, unapplied, classOf, Kind, f32Kind, u16Kind, skipped, skipped16, takes16, takesRows, namesOf, Progress, going, marksFull, valuesFull, Room, perform, performAll}
-use Rattle.dng.specs.Answer.{inRange, rowInRange, numbersOf, rowNumbersOf, readingNumbersOf, Out, runOut, takesAll, frameOf, f32Out, u16Out, Ran, RowOut, rowOut}
+use Rattle.dng.specs.Answer.{inRange, rowInRange, numbersOf, rowNumbersOf, readingNumbersOf, Out, runOut, takesAll, frameOf, f32Out, u16Out, Ran, RowOut, rowOut, wholeFrame}
 use Rattle.rows.specs.Rows.{RowRan}
 use Rattle.rowform.specs.RowForm.{rowPart, rowPut, rowWindowOf, RowForm·if}
 use Rattle.wholeform.specs.WholeForm.{Below, widened, narrowed, withoutTables, atOne, WholeForm·if}
@@ -285,27 +285,30 @@ Whole-calls =
     → Meets (u16Out w period room list s names) room e → Meets (f32Out w (atOne period) room′ list (widened s) names′) room′ e′
     → Wholes-agree e e′
 
--- The same where the scratch is only known to be enough for one of the two: what WholeForm·if asks but for the room.
-pub record Wholes·if (w : Window) (period : ℕ) (list s names names′ : List ℕ) : Type 0 where
-  pub bytes : Below 256 list
-  pub words : Below 65536 s
-  pub ranges : inRange w period ≡ true
-  pub opcodes : ℕ
-  pub whole : readingOf list ≡ R.Whole opcodes
-  pub taken : takes16 (itemsOf list) ≡ true
-  pub roomy : length (namesOf skipped16 (itemsOf list)) ≤ length names
-  pub roomy′ : length (namesOf skipped (itemsOf list)) ≤ length names′
-
--- the scratch room′ is no shorter than room
+-- The same with no more scratch than the one repair needs: where one of the two answers 0, the other does too if its scratch is no shorter, it takes the
+-- list and its names fit. What a slice of u8 or u16 holds is below 256 or 65,536; the rest of WholeForm·if follows from the answer.
 pub record NoShorter (room room′ : Room) : Type 0 where
   pub marks : room .marks ≤ room′ .marks
   pub values : room .values ≤ room′ .values
 
--- where one of the two answers 0, so does the other with no shorter scratch, and they agree
-abbrev pub Whole-calls-tight : Type 0
-Whole-calls-tight =
-    (w : Window) (period : ℕ) (room room′ : Room) (list s names names′ : List ℕ) (e : End ℕ) (e′ : End Float)
-    → Wholes·if w period list s names names′
+abbrev pub Whole-calls-16 : Type 0
+Whole-calls-16 =
+    (w : Window) (period : ℕ) (room room′ : Room) (list s names names′ : List ℕ) (e : End ℕ) (e′ : End Float) (n r l : ℕ)
+    → Below 256 list → Below 65536 s → NoShorter room room′ → length (namesOf skipped (itemsOf list)) ≤ length names′
     → Meets (u16Out w period room list s names) room e → Meets (f32Out w (atOne period) room′ list (widened s) names′) room′ e′
-    → (n r l : ℕ)
-    → (NoShorter room room′ → e .answer ≡ Ans.Done n r l → Wholes-agree e e′) × (NoShorter room′ room → e′ .answer ≡ Ans.Done n r l → Wholes-agree e e′)
+    → e .answer ≡ Ans.Done n r l → Wholes-agree e e′
+
+abbrev pub Whole-calls-32 : Type 0
+Whole-calls-32 =
+    (w : Window) (period : ℕ) (room room′ : Room) (list s names names′ : List ℕ) (e : End ℕ) (e′ : End Float) (n r l : ℕ)
+    → Below 256 list → Below 65536 s → NoShorter room′ room → takes16 (itemsOf list) ≡ true
+    → length (namesOf skipped16 (itemsOf list)) ≤ length names
+    → Meets (u16Out w period room list s names) room e → Meets (f32Out w (atOne period) room′ list (widened s) names′) room′ e′
+    → e′ .answer ≡ Ans.Done n r l → Wholes-agree e e′
+
+-- ---- 6. the verdict: a frame is whole when a run answers 0 and skips nothing
+
+abbrev pub Verdict : Type 1
+Verdict =
+    (A : Type 0) (c : Call A) (e : End A) → Meets (outOf c) (c .room) e
+    → (wholeFrame (e .answer) ≡ true) ↔ ((numbersOf (e .answer) .number ≡ 0) × (skips c ≡ 0))
