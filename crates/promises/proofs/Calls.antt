@@ -1,12 +1,12 @@
 -- Demand 3 of the calls: what each call did is what the definitions say, so the theorems on the definitions are theorems on the calls. Assumes nothing.
-use Prim.Native.Nat.{ℕ, suc, _+_, _*_, _≤_, _<_}
+use Prim.Native.Nat.{ℕ, _+_, _*_, _≤_, _<_}
 use mathlib.Core.Bool.{true}
-use mathlib.Core.List.{List, [], _∷_}
+use mathlib.Core.List.{List, _∷_}
 use mathlib.Core.Path.{_≡_, refl, sym, ap, ap₂, subst, _∙_}
 use native.Mathlib.Nat.{le-trans}
 use native.Mathlib.Omega.{arith}
 use lib.Ieee.{Float}
-use lib.ListN.{length, take, replicate}
+use lib.ListN.{length, replicate}
 use Rattle.dng.specs.declared.Window.{Window}
 use Rattle.dng.specs.declared.RowAnswer.{RowAnswer}
 use Rattle.dng.specs.declared.RowAnswer.the-variants as Row

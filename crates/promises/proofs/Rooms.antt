@@ -1,7 +1,7 @@
 -- How much scratch is enough: a run that goes on to the end does so with any scratch that the sums of its repairs fit; and in a list with at most one
 -- repair those sums fit the scratch that the run was given. Assumes nothing.
 use Prim.Native.Nat.{ℕ, suc, _+_, _*_, _≤_}
-use mathlib.Core.Bool.{Bool, true, false, _&&_, cond, false≢true}
+use mathlib.Core.Bool.{Bool, true, false, cond, false≢true}
 use mathlib.Core.List.{List, [], _∷_}
 use mathlib.Core.Path.{_≡_, refl, sym, ap, ap₂, subst, _∙_}
 use native.Mathlib.Nat.{le-trans, mul-le-mul-left}

@@ -8,7 +8,6 @@ use native.Mathlib.Omega.{arith}
 use borrow.Author.Tests.{eqb-true, eq-eqb}
 use Rattle.dng.specs.declared.Answer.{Answer}
 use Rattle.dng.specs.declared.Answer.the-variants as Ans
-use Rattle.dng.specs.declared.RowAnswer.{RowAnswer}
 use Rattle.dng.specs.List.{itemsOf}
 use Rattle.dng.specs.Run.{Progress, going, marksFull, valuesFull}
 use Rattle.dng.specs.Answer.{Out, finished, numbersOf, wholeFrame}

@@ -1,23 +1,20 @@
 -- The promises at work on P5 of document 01, 'Bench frames': u16 10 0 19, a repair of the constant 0, period 1. With one mark and one value of scratch it is
 -- done; without the mark it is 5, without the value 6, both at opcode 0 with the samples as they were. Assumes nothing.
-use Prim.Native.Nat.{ℕ, zero, suc, _+_, _*_, _/_, _%_, _^_}
-use mathlib.Core.Path.{_≡_, refl, sym, ap, _∙_}
-use mathlib.Core.Bool.{Bool, true, false}
+use Prim.Native.Nat.{ℕ}
+use mathlib.Core.Path.{_≡_, refl, ap, _∙_}
 use mathlib.Core.List.{List, [], _∷_}
-use lib.Ieee.{Float, binary32, fin, nan, inf, ofInt, ofBits, round, mul, div, add, eq, units, odd, size, span, climb}
-use lib.ListN.{length}
+use lib.Ieee.{ofInt, round, mul, div, add, eq, units, odd, size, span, climb}
 use Rattle.words.specs.Words.{big}
 use Rattle.points.specs.Points.{each}
 use Rattle.whole.specs.Whole.{roundHeld}
 use Rattle.dng.specs.declared.Window.{Window}
-use Rattle.dng.specs.declared.Answer.{Answer}
 use Rattle.dng.specs.declared.Answer.the-variants as Ans
 use Rattle.dng.specs.List.{readingOf, itemsOf, counted, readFrom, stepAt, nextAt, parsedAt}
 use Rattle.dng.specs.Select.{inWindow, active, wholePixel}
 use Rattle.dng.specs.Repair.{countBelow, complete, badValue, marksOf, markedIn, repairedIn, leftIn, moved, sound, tallyOn, repairAt, soundOn}
 use Rattle.dng.specs.Run.{Room, namesOf, takes16On, takes16From, repairOn, performAll}
 use Rattle.dng.specs.Answer.{Out, inRange, ranOn, runOut, u16Out}
-use Rattle.promises.specs.Promises.{End, Meets, u16Call, sumFrom, sumOver, Totals}
+use Rattle.promises.specs.Promises.{End, Meets, u16Call, Totals}
 use Rattle.promises.proofs.Theorems.{adds-up}
 
 -- one entry: id 4, version, flags, 8 bytes of body; constant 0, phase 0

@@ -1,5 +1,7 @@
 -- What a caller may conclude from the contracts of the public calls alone: `Ran` of a run, `RowRan` of a row call, the equation of reading.
--- Document 01, 'What comes back' and 'How a promise is judged'. One statement for each promise, over any sample kind; proofs/Theorems proves them.
+-- Document 01, 'What comes back' and 'How a promise is judged'. Over any sample kind; proofs/Theorems proves each statement under its name in lower case:
+--     1 Determined   2 Exactly-when, Row-exactly-when   3 Keeps, Row-keeps, Numbered   4 Adds-up, Scratch
+--     5 Row-calls, Whole-calls, Whole-calls-16, Whole-calls-32   6 Verdict
 use Prim.Native.Nat.{ℕ, suc, _+_, _*_, _≤_, _<_}
 use mathlib.Core.Bool.{Bool, true, false}
 use mathlib.Core.List.{List, [], _∷_}
