@@ -96,7 +96,7 @@ module _ {A : Type 0} (c : Call A) where
   abbrev pub skips : ℕ
   skips = length (namesOf (c .skip) (itemsOf (c .list)))
 
-  -- the opcodes is, the first of them number 0
+  -- the run over the opcodes `is`, numbered from 0, from the lent samples
   abbrev pub performed : List Item → Progress A
   performed is = performAll (c .kind) (c .window) (c .period) (c .room) (c .list) 0 is (going (c .samples) 0 0)
 
