@@ -1,18 +1,17 @@
--- How much scratch is enough: a run that goes on to the end does so with any scratch that the sums of its repairs fit; and in a list with at most one
--- repair those sums fit the scratch that the run was given. Assumes nothing.
+-- How much scratch is enough: a run that goes on to the end does so with any scratch that the sums of its repairs fit. Assumes nothing.
 use Prim.Native.Nat.{ℕ, suc, _+_, _*_, _≤_}
-use mathlib.Core.Bool.{Bool, true, false, cond, false≢true}
+use mathlib.Core.Bool.{Bool, true, false, cond}
 use mathlib.Core.List.{List, [], _∷_}
 use mathlib.Core.Path.{_≡_, refl, sym, ap, ap₂, subst, _∙_}
 use native.Mathlib.Nat.{le-trans, mul-le-mul-left}
 use native.Mathlib.Omega.{arith}
-use borrow.Author.Tests.{leb-true, le-leb}
+use borrow.Author.Tests.{le-leb}
 use lib.Dec.{leb}
 use Rattle.points.specs.Points.{each}
 use Rattle.dng.specs.declared.Answer.the-variants as Ans
 use Rattle.dng.specs.List.{Item, itemsOf, bodyOf}
 use Rattle.dng.specs.Repair.{markedIn, repairedIn, leftIn, repairAt}
-use Rattle.dng.specs.Run.{Class, table, empty, local, repair, unapplied, classOf, takes16On, takes16From, takes16, Progress, going, marksFull, valuesFull, Room, repairOn, performOn, perform, performAll}
+use Rattle.dng.specs.Run.{Class, table, empty, local, repair, unapplied, classOf, Progress, going, marksFull, valuesFull, Room, repairOn, performOn, perform, performAll}
 use Rattle.dng.specs.Answer.{finished}
 use Rattle.promises.specs.Promises.{Call, outOf, performed, When, withRoom, marksOn, countOn, countAt, sumFrom}
 use Rattle.promises.proofs.Stops.{still-marks, still-values}
@@ -51,94 +50,21 @@ module _ {A : Type 0} (c : Call A) where
   unstopped k is t r l (valuesFull s o) e f =
       absurd (let z : _≡_ {A = ℕ} 0 1 = cc (still-values (c .kind) (c .window) (c .period) (c .room) (c .list) k is s o) in omega arith)
 
-  -- a repair that goes on has fitted
-  record Fitted (bad : ℕ → Bool) : Type 0 where
-    marks : marked bad ≤ c .room .marks
-    values : c .window .planes * mended bad ≤ c .room .values
-
-  fitted : (bad : ℕ → Bool) (k : ℕ) (s : List A) (a b : ℕ) (t : List A) (r l : ℕ)
-      → repairOn (c .kind) (c .window) (c .period) (c .room) bad k s a b ≡ going t r l → Fitted bad × (fixed bad s a b ≡ going t r l)
+  -- a repair that goes on is done
+  repaired-on : (bad : ℕ → Bool) (k : ℕ) (s : List A) (a b : ℕ) (t : List A) (r l : ℕ)
+      → repairOn (c .kind) (c .window) (c .period) (c .room) bad k s a b ≡ going t r l → fixed bad s a b ≡ going t r l
   unfolding repairOn
-  fitted bad k s a b t r l =
-      go (leb (marked bad) (c .room .marks)) (leb (c .window .planes * mended bad) (c .room .values)) (λ p. leb-true _ _ p) (λ p. leb-true _ _ p)
+  repaired-on bad k s a b t r l = go (leb (marked bad) (c .room .marks)) (leb (c .window .planes * mended bad) (c .room .values))
     where
-      go : (x y : Bool) → (x ≡ true → marked bad ≤ c .room .marks) → (y ≡ true → c .window .planes * mended bad ≤ c .room .values)
-          → mends bad k s a b x y ≡ going t r l → Fitted bad × (fixed bad s a b ≡ going t r l)
-      go true true p q e = (record { marks = p refl; values = q refl }, e)
-      go true false p q e = absurd (let z : _≡_ {A = ℕ} 0 1 = cc in omega arith)
-      go false y p q e = absurd (let z : _≡_ {A = ℕ} 0 1 = cc in omega arith)
-
-  -- ---- at most one repair: its marks and values are all
-
-  -- the whole-number form takes no second repair
-  none-left : (count : (ℕ → Bool) → ℕ) (is : List Item) (k : ℕ) (g : Progress A) → takes16From false is ≡ true → sumFrom c count k is g ≡ 0
-  unfolding takes16From sumFrom takes16On
-  none-left count [] k g h = refl
-  none-left count (i ∷ is) k g h = go (classOf (i .op)) refl h (λ q. none-left count is (suc k) (one i k g) q)
-    where
-      at : (z : Class) → classOf (i .op) ≡ z → ((t : List A) → countOn c count z i t ≡ 0) → (p : Progress A) → countAt c count i p ≡ 0
-      at z e f (going t r l) = ap (λ (y : Class). countOn c count y i t) e ∙ f t
-      at z e f (marksFull t o) = refl
-      at z e f (valuesFull t o) = refl
-
-      go : (z : Class) → classOf (i .op) ≡ z → takes16On z false (λ (f : Bool). takes16From f is) ≡ true
-          → (takes16From false is ≡ true → sumFrom c count (suc k) is (one i k g) ≡ 0)
-          → countAt c count i g + sumFrom c count (suc k) is (one i k g) ≡ 0
-      go table e q more = omega (arith, at table e (λ t. refl) g, more q)
-      go empty e q more = omega (arith, at empty e (λ t. refl) g, more q)
-      go local e q more = absurd (false≢true q)
-      go repair e q more = absurd (false≢true q)
-      go unapplied e q more = omega (arith, at unapplied e (λ t. refl) g, more q)
+      go : (x y : Bool) → mends bad k s a b x y ≡ going t r l → fixed bad s a b ≡ going t r l
+      go true true e = e
+      go true false e = absurd (let z : _≡_ {A = ℕ} 0 1 = cc in omega arith)
+      go false y e = absurd (let z : _≡_ {A = ℕ} 0 1 = cc in omega arith)
 
   -- sums that fit a room
   record Fit (room : Room) (k : ℕ) (is : List Item) (g : Progress A) : Type 0 where
     marks : sumFrom c marked k is g ≤ room .marks
     values : c .window .planes * sumFrom c mended k is g ≤ room .values
-
-  fit-once : (is : List Item) (k : ℕ) (s : List A) (a b : ℕ) (t : List A) (r l : ℕ) → takes16From true is ≡ true → all k is (going s a b) ≡ going t r l
-      → Fit (c .room) k is (going s a b)
-  unfolding takes16From takes16On sumFrom performAll
-  fit-once [] k s a b t r l h e = record { marks = omega arith; values = omega arith }
-  fit-once (i ∷ is) k s a b t r l h e = go (classOf (i .op)) refl h e (λ s′ q p. fit-once is (suc k) s′ a b t r l q p)
-    where
-      bad : ℕ → Bool
-      bad = marksOn c i s
-
-      after : Class → Progress A
-      after z = performOn (c .kind) (c .window) (c .period) (c .room) z (i .op) (bodyOf (c .list) (i .entry)) k s a b
-
-      summed : (z : Class) → classOf (i .op) ≡ z
-          → (countOn c marked z i s + sumFrom c marked (suc k) is (after z) ≤ c .room .marks)
-          × (c .window .planes * (countOn c mended z i s + sumFrom c mended (suc k) is (after z)) ≤ c .room .values)
-          → Fit (c .room) k (i ∷ is) (going s a b)
-      summed z e p =
-          let q = subst (λ (y : Class).
-          (countOn c marked y i s + sumFrom c marked (suc k) is (after y) ≤ c .room .marks)
-          × (c .window .planes * (countOn c mended y i s + sumFrom c mended (suc k) is (after y)) ≤ c .room .values)) (sym e) p in
-          record { marks = q .0; values = q .1 }
-
-      rest : (g : Progress A) → Fit (c .room) (suc k) is g
-          → (0 + sumFrom c marked (suc k) is g ≤ c .room .marks) × (c .window .planes * (0 + sumFrom c mended (suc k) is g) ≤ c .room .values)
-      rest g f = (omega (arith, f .marks), omega (arith, f .values))
-
-      only : takes16From false is ≡ true → (g : Progress A) → Fitted bad
-          → (marked bad + sumFrom c marked (suc k) is g ≤ c .room .marks)
-          × (c .window .planes * (mended bad + sumFrom c mended (suc k) is g) ≤ c .room .values)
-      only q g f =
-          let x : sumFrom c marked (suc k) is g ≡ 0 = none-left marked is (suc k) g q in
-          let y : mended bad + sumFrom c mended (suc k) is g ≡ mended bad = omega (arith, none-left mended is (suc k) g q) in
-          (omega (arith, f .marks), subst (λ (n : ℕ). c .window .planes * n ≤ c .room .values) (sym y) (f .values))
-
-      go : (z : Class) → classOf (i .op) ≡ z → takes16On z true (λ (f : Bool). takes16From f is) ≡ true → all (suc k) is (after z) ≡ going t r l
-          → ((s′ : List A) → takes16From true is ≡ true → all (suc k) is (going s′ a b) ≡ going t r l → Fit (c .room) (suc k) is (going s′ a b))
-          → Fit (c .room) k (i ∷ is) (going s a b)
-      go table q h e more = summed table q (rest (after table) (more _ h e))
-      go empty q h e more = summed empty q (rest (after empty) (more _ h e))
-      go local q h e more = absurd (false≢true h)
-      go repair q h e more =
-          unstopped (suc k) is t r l (after repair) e
-          (λ s′ a′ b′ p e′. summed repair q (only h (after repair) (fitted bad k s a b s′ a′ b′ p .0)))
-      go unapplied q h e more = summed unapplied q (rest (after unapplied) (more _ h e))
 
   -- ---- another room that the sums fit
 
@@ -160,7 +86,7 @@ module _ {A : Type 0} (c : Call A) where
         go local e p q = e
         go repair e p q =
             ap₂ (mends bad k s a b) (le-leb (marked bad) (room .marks) p) (le-leb (c .window .planes * mended bad) (room .values) q)
-            ∙ fitted bad k s a b t r l e .1
+            ∙ repaired-on bad k s a b t r l e
         go unapplied e p q = e
 
     same-run : (is : List Item) (k : ℕ) (s : List A) (a b : ℕ) (t : List A) (r l : ℕ) → all k is (going s a b) ≡ going t r l
@@ -196,12 +122,3 @@ module _ {A : Type 0} (c : Call A) where
         }) ∙ sym (h .2 .1) in
         goes-on (withRoom c room) (record { ranges = h .0 .ranges; whole = h .0 .whole; taken = h .0 .taken; named = h .0 .named })
         ∙ ap (finished (named c) (c .names)) same ∙ sym (goes-on c (h .0))
-
-    -- with at most one repair, its own scratch holds what the totals ask
-    pub own-room : takes16 (itemsOf (c .list)) ≡ true → (r + l ≤ c .room .marks) × (c .window .planes * r ≤ c .room .values)
-    own-room taken =
-        let t = adds-up c (h .2 .0) r l (h .2 .1) in
-        let f = fit-once (itemsOf (c .list)) 0 (c .samples) 0 0 (h .2 .0) r l taken (h .2 .1) in (
-          subst (λ (m : ℕ). m ≤ c .room .marks) (sym (t .marked)) (f .marks),
-          subst (λ (m : ℕ). c .window .planes * m ≤ c .room .values) (sym (t .repaired)) (f .values),
-        )

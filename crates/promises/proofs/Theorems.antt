@@ -12,7 +12,7 @@ use Rattle.dng.specs.List.{itemsOf}
 use Rattle.dng.specs.Run.{Progress, going, marksFull, valuesFull}
 use Rattle.dng.specs.Answer.{Out, finished, numbersOf, wholeFrame}
 use Rattle.rows.proofs.Laws.{determined as rows-determined, kept as rows-kept}
-use Rattle.promises.specs.Promises.{Forms, Determined, Call, End, outOf, Meets, skips, performed, Goes, When, RowWhen, MarksOver, ValuesOver, Exactly-when, Row-exactly-when, Keeps, Row-keeps, Numbered, Adds-up, Scratch, Row-calls, Whole-calls, Whole-calls-16, Whole-calls-32, Verdict}
+use Rattle.promises.specs.Promises.{Forms, Determined, Call, End, outOf, Meets, skips, performed, Goes, When, RowWhen, MarksOver, ValuesOver, Exactly-when, Row-exactly-when, Keeps, Row-keeps, Numbered, Adds-up, Scratch, Row-calls, Whole-calls, Whole-calls-alike, Verdict}
 use Rattle.promises.proofs.Answers.{named, goes-on, when, only, kept, row-when, row-only}
 use Rattle.promises.proofs.Stops.{shown, marks-stop, values-stop}
 use Rattle.promises.proofs.Answers as Answers
@@ -117,11 +117,8 @@ row-calls = Calls.row-calls
 pub whole-calls : Whole-calls
 whole-calls = Calls.whole-calls
 
-pub whole-calls-16 : Whole-calls-16
-whole-calls-16 = Calls.whole-calls-16
-
-pub whole-calls-32 : Whole-calls-32
-whole-calls-32 = Calls.whole-calls-32
+pub whole-calls-alike : Whole-calls-alike
+whole-calls-alike = Calls.whole-calls-alike
 
 -- ---- 6
 

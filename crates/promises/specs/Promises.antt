@@ -1,7 +1,7 @@
 -- What a caller may conclude from the contracts of the public calls alone: `Ran` of a run, `RowRan` of a row call, the equation of reading.
 -- Document 01, 'What comes back' and 'How a promise is judged'. Over any sample kind; proofs/Theorems proves each statement under its name in lower case:
 --     1 Determined   2 Exactly-when, Row-exactly-when   3 Keeps, Row-keeps, Numbered   4 Adds-up, Scratch
---     5 Row-calls, Whole-calls, Whole-calls-16, Whole-calls-32   6 Verdict
+--     5 Row-calls, Whole-calls, Whole-calls-alike   6 Verdict
 use Prim.Native.Nat.{ℕ, suc, _+_, _*_, _≤_, _<_}
 use mathlib.Core.Bool.{Bool, true, false}
 use mathlib.Core.List.{List, [], _∷_}
@@ -25,7 +25,8 @@ use Rattle.dng.specs.Run.{Class, table, empty, local, repair, unapplied, classO
 use Rattle.dng.specs.Answer.{inRange, rowInRange, numbersOf, rowNumbersOf, readingNumbersOf, Out, runOut, takesAll, frameOf, f32Out, u16Out, Ran, RowOut, rowOut, wholeFrame}
 use Rattle.rows.specs.Rows.{RowRan}
 use Rattle.rowform.specs.RowForm.{rowPart, rowPut, rowWindowOf, RowForm·if}
-use Rattle.wholeform.specs.WholeForm.{Below, widened, narrowed, withoutTables, atOne, WholeForm·if}
+use Rattle.wholeform.specs.WholeForm.{widened, narrowed, withoutTables, atOne, WholeForm·if}
+use Rattle.wholeform.specs.Together.{renamed, Together·if}
 
 -- ---- a run: what it is lent, and what it leaves
 
@@ -96,7 +97,7 @@ module _ {A : Type 0} (c : Call A) where
   abbrev pub skips : ℕ
   skips = length (namesOf (c .skip) (itemsOf (c .list)))
 
-  -- the opcodes is, the first of them number 0
+  -- the run over the opcodes `is`, numbered from 0, from the lent samples
   abbrev pub performed : List Item → Progress A
   performed is = performAll (c .kind) (c .window) (c .period) (c .room) (c .list) 0 is (going (c .samples) 0 0)
 
@@ -287,26 +288,18 @@ Whole-calls =
     → Meets (u16Out w period room list s names) room e → Meets (f32Out w (atOne period) room′ list (widened s) names′) room′ e′
     → Wholes-agree e e′
 
--- The same with no more scratch than the one repair needs: where one of the two answers 0, the other does too if its scratch is no shorter, it takes the
--- list and its names fit. What a slice of u8 or u16 holds is below 256 or 65,536; the rest of WholeForm·if follows from the answer.
-pub record NoShorter (room room′ : Room) : Type 0 where
-  pub marks : room .marks ≤ room′ .marks
-  pub values : room .values ≤ room′ .values
+-- The same with one scratch for both, however short, and on every answer: the f32 run answers what the whole-number form answers, but for the number of names.
+pub record Wholes-alike (list : List ℕ) (e : End ℕ) (e′ : End Float) : Type 0 where
+  pub answers : e′ .answer ≡ renamed (length (namesOf skipped (itemsOf list))) (e .answer)
+  pub samples : e .samples ≡ narrowed (e′ .samples)
+  pub named : (n r l : ℕ) → e .answer ≡ Ans.Done n r l
+      → take n (e .names) ≡ withoutTables (take (length (namesOf skipped (itemsOf list))) (e′ .names))
 
-abbrev pub Whole-calls-16 : Type 0
-Whole-calls-16 =
-    (w : Window) (period : ℕ) (room room′ : Room) (list s names names′ : List ℕ) (e : End ℕ) (e′ : End Float) (n r l : ℕ)
-    → Below 256 list → Below 65536 s → NoShorter room room′ → length (namesOf skipped (itemsOf list)) ≤ length names′
-    → Meets (u16Out w period room list s names) room e → Meets (f32Out w (atOne period) room′ list (widened s) names′) room′ e′
-    → e .answer ≡ Ans.Done n r l → Wholes-agree e e′
-
-abbrev pub Whole-calls-32 : Type 0
-Whole-calls-32 =
-    (w : Window) (period : ℕ) (room room′ : Room) (list s names names′ : List ℕ) (e : End ℕ) (e′ : End Float) (n r l : ℕ)
-    → Below 256 list → Below 65536 s → NoShorter room′ room → takes16 (itemsOf list) ≡ true
-    → length (namesOf skipped16 (itemsOf list)) ≤ length names
-    → Meets (u16Out w period room list s names) room e → Meets (f32Out w (atOne period) room′ list (widened s) names′) room′ e′
-    → e′ .answer ≡ Ans.Done n r l → Wholes-agree e e′
+abbrev pub Whole-calls-alike : Type 0
+Whole-calls-alike =
+    (w : Window) (period : ℕ) (room : Room) (list s names names′ : List ℕ) (e : End ℕ) (e′ : End Float) → Together·if list s names names′
+    → Meets (u16Out w period room list s names) room e → Meets (f32Out w (atOne period) room list (widened s) names′) room e′
+    → Wholes-alike list e e′
 
 -- ---- 6. the verdict: a frame is whole when a run answers 0 and skips nothing
 
