@@ -150,14 +150,14 @@ module _ {A : Type 0} (c : Call A) where
 
 -- ---- numbers
 
-no-totals : (a : Answer) → 1 ≤ numbersOf a .number → (numbersOf a .repaired ≡ 0) × (numbersOf a .left ≡ 0)
+no-totals : (a : Answer) → 1 ≤ numbersOf a .number → (numbersOf a .names ≡ 0) × (numbersOf a .repaired ≡ 0) × (numbersOf a .left ≡ 0)
 no-totals (Ans.Done n r l) h = absurd (omega arith)
-no-totals Ans.Range h = (refl, refl)
-no-totals (Ans.Malformed k) h = (refl, refl)
-no-totals Ans.NotTaken h = (refl, refl)
-no-totals Ans.Names h = (refl, refl)
-no-totals (Ans.Marks k) h = (refl, refl)
-no-totals (Ans.Values k) h = (refl, refl)
+no-totals Ans.Range h = (refl, refl, refl)
+no-totals (Ans.Malformed k) h = (refl, refl, refl)
+no-totals Ans.NotTaken h = (refl, refl, refl)
+no-totals Ans.Names h = (refl, refl, refl)
+no-totals (Ans.Marks k) h = (refl, refl, refl)
+no-totals (Ans.Values k) h = (refl, refl, refl)
 
 no-entry : (a : Answer) → (numbersOf a .number ≡ 2 → ⊥) → numbersOf a .entry ≡ 0
 no-entry (Ans.Done n r l) h = refl
@@ -189,24 +189,24 @@ row-entry Row.Range h = refl
 row-entry (Row.Malformed k) h = absurd (h refl)
 row-entry Row.NotTaken h = refl
 
-row-rest : (a : RowAnswer) → (rowNumbersOf a .opcode ≡ 0) × (rowNumbersOf a .repaired ≡ 0) × (rowNumbersOf a .left ≡ 0)
-row-rest (Row.Done n) = (refl, refl, refl)
-row-rest Row.Range = (refl, refl, refl)
-row-rest (Row.Malformed k) = (refl, refl, refl)
-row-rest Row.NotTaken = (refl, refl, refl)
+row-rest : (a : RowAnswer) → (rowNumbersOf a .opcode ≡ 0) × (rowNumbersOf a .names ≡ 0) × (rowNumbersOf a .repaired ≡ 0) × (rowNumbersOf a .left ≡ 0)
+row-rest (Row.Done n) = (refl, refl, refl, refl)
+row-rest Row.Range = (refl, refl, refl, refl)
+row-rest (Row.Malformed k) = (refl, refl, refl, refl)
+row-rest Row.NotTaken = (refl, refl, refl, refl)
 
 reading-number : (a : Reading) → (readingNumbersOf a .number ≡ 2 → ⊥) → (readingNumbersOf a .number ≡ 0) × (readingNumbersOf a .entry ≡ 0)
 reading-number (R.Whole n) h = (refl, refl)
 reading-number (R.Malformed k) h = absurd (h refl)
 
-reading-rest : (a : Reading) → (readingNumbersOf a .opcode ≡ 0) × (readingNumbersOf a .repaired ≡ 0) × (readingNumbersOf a .left ≡ 0)
-reading-rest (R.Whole n) = (refl, refl, refl)
-reading-rest (R.Malformed k) = (refl, refl, refl)
+reading-rest : (a : Reading) → (readingNumbersOf a .opcode ≡ 0) × (readingNumbersOf a .names ≡ 0) × (readingNumbersOf a .repaired ≡ 0) × (readingNumbersOf a .left ≡ 0)
+reading-rest (R.Whole n) = (refl, refl, refl, refl)
+reading-rest (R.Malformed k) = (refl, refl, refl, refl)
 
 pub numbered : Numbered
 numbered =
     record {
-      totals = no-totals;
+      refused = no-totals;
       entry = no-entry;
       opcode = no-opcode;
       row = row-number;

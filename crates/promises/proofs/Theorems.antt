@@ -2,6 +2,7 @@
 use Prim.Native.Nat.{ℕ}
 use mathlib.Core.Bool.{true, false≢true}
 use mathlib.Core.List.{List}
+use lib.ListN.{length}
 use mathlib.Core.Logic.{_↔_}
 use mathlib.Core.Path.{_≡_, refl, sym, ap, subst, _∙_}
 use native.Mathlib.Omega.{arith}
@@ -9,10 +10,12 @@ use borrow.Author.Tests.{eqb-true, eq-eqb}
 use Rattle.dng.specs.declared.Answer.{Answer}
 use Rattle.dng.specs.declared.Answer.the-variants as Ans
 use Rattle.dng.specs.List.{itemsOf}
-use Rattle.dng.specs.Run.{Progress, going, marksFull, valuesFull}
-use Rattle.dng.specs.Answer.{Out, finished, numbersOf, wholeFrame}
+use Rattle.dng.specs.Run.{Progress, going, marksFull, valuesFull, skipped, namesOf}
+use Rattle.dng.specs.declared.RowAnswer.{RowAnswer}
+use Rattle.dng.specs.declared.RowAnswer.the-variants as Row
+use Rattle.dng.specs.Answer.{Out, finished, numbersOf, rowNumbersOf, wholeFrame, wholeRow}
 use Rattle.rows.proofs.Laws.{determined as rows-determined, kept as rows-kept}
-use Rattle.promises.specs.Promises.{Forms, Determined, Call, End, outOf, Meets, skips, performed, Goes, When, RowWhen, MarksOver, ValuesOver, Exactly-when, Row-exactly-when, Keeps, Row-keeps, Numbered, Adds-up, Scratch, Row-calls, Whole-calls, Whole-calls-alike, Verdict}
+use Rattle.promises.specs.Promises.{Forms, Determined, Call, End, outOf, Meets, skips, performed, Goes, When, RowWhen, MarksOver, ValuesOver, Exactly-when, Row-exactly-when, Keeps, Row-keeps, Numbered, Adds-up, Scratch, Row-calls, Whole-calls, Whole-calls-alike, Verdict, Row-verdict}
 use Rattle.promises.proofs.Answers.{named, goes-on, when, only, kept, row-when, row-only}
 use Rattle.promises.proofs.Stops.{shown, marks-stop, values-stop}
 use Rattle.promises.proofs.Answers as Answers
@@ -146,3 +149,21 @@ verdict A c e m = (there (e .answer) (λ n r l. settled n r l), back (e .answer)
     back Ans.Names f h = absurd (omega (arith, h .0))
     back (Ans.Marks k) f h = absurd (omega (arith, h .0))
     back (Ans.Values k) f h = absurd (omega (arith, h .0))
+
+pub row-verdict : Row-verdict
+row-verdict w scale y list row r t ran = (there r counted, back r counted)
+  where
+    counted : (n : ℕ) → r ≡ Row.Done n → n ≡ length (namesOf skipped (itemsOf list))
+    counted n p = let h : RowWhen w y (length row) list (Row.Done n) = row-exactly-when w scale y list row r t ran (Row.Done n) .0 p in h .3
+
+    there : (a : RowAnswer) → ((n : ℕ) → a ≡ Row.Done n → n ≡ length (namesOf skipped (itemsOf list))) → wholeRow a ≡ true → (rowNumbersOf a .number ≡ 0) × (length (namesOf skipped (itemsOf list)) ≡ 0)
+    there (Row.Done n) f h = (refl, sym (f n refl) ∙ eqb-true n 0 h)
+    there Row.Range f h = absurd (false≢true h)
+    there (Row.Malformed k) f h = absurd (false≢true h)
+    there Row.NotTaken f h = absurd (false≢true h)
+
+    back : (a : RowAnswer) → ((n : ℕ) → a ≡ Row.Done n → n ≡ length (namesOf skipped (itemsOf list))) → (rowNumbersOf a .number ≡ 0) × (length (namesOf skipped (itemsOf list)) ≡ 0) → wholeRow a ≡ true
+    back (Row.Done n) f h = eq-eqb n 0 (f n refl ∙ h .1)
+    back Row.Range f h = absurd (omega (arith, h .0))
+    back (Row.Malformed k) f h = absurd (omega (arith, h .0))
+    back Row.NotTaken f h = absurd (omega (arith, h .0))

@@ -2,7 +2,7 @@
 -- done; without the mark it is 5, without the value 6, both at opcode 0 with the samples as they were. Assumes nothing.
 use Prim.Native.Nat.{ℕ}
 use mathlib.Core.Path.{_≡_, refl, ap, _∙_}
-use mathlib.Core.List.{List, [], _∷_}
+use mathlib.Core.List.{List, [], _∷_, _++_}
 use lib.Ieee.{ofInt, round, mul, div, add, eq, units, odd, size, span, climb}
 use Rattle.words.specs.Words.{big}
 use Rattle.points.specs.Points.{each}
@@ -18,9 +18,11 @@ use Rattle.promises.specs.Promises.{End, Meets, u16Call, Totals}
 use Rattle.promises.proofs.Theorems.{adds-up}
 
 -- one entry: id 4, version, flags, 8 bytes of body; constant 0, phase 0
+abbrev repairing : List ℕ
+repairing = 0 ∷ 0 ∷ 0 ∷ 4 ∷ 1 ∷ 3 ∷ 0 ∷ 0 ∷ 0 ∷ 0 ∷ 0 ∷ 0 ∷ 0 ∷ 0 ∷ 0 ∷ 8 ∷ 0 ∷ 0 ∷ 0 ∷ 0 ∷ 0 ∷ 0 ∷ 0 ∷ 0 ∷ []
+
 abbrev list : List ℕ
-list =
-    0 ∷ 0 ∷ 0 ∷ 1 ∷ 0 ∷ 0 ∷ 0 ∷ 4 ∷ 1 ∷ 3 ∷ 0 ∷ 0 ∷ 0 ∷ 0 ∷ 0 ∷ 0 ∷ 0 ∷ 0 ∷ 0 ∷ 8 ∷ 0 ∷ 0 ∷ 0 ∷ 0 ∷ 0 ∷ 0 ∷ 0 ∷ 0 ∷ []
+list = 0 ∷ 0 ∷ 0 ∷ 1 ∷ repairing
 
 abbrev window : Window
 window = record { width = 3; height = 1; planes = 1; stride = 3; x0 = 0; y0 = 0; «full_width» = 3; «full_height» = 1 }
@@ -32,14 +34,26 @@ room m v = record { marks = m; values = v }
 abbrev out : Room → Out ℕ
 out r = u16Out window 1 r list (10 ∷ 0 ∷ 19 ∷ []) []
 
+-- two repairs and a trim
+abbrev two : List ℕ
+two =
+    0 ∷ 0 ∷ 0 ∷ 3 ∷ repairing ++ (repairing
+    ++ (0 ∷ 0 ∷ 0 ∷ 6 ∷ 1 ∷ 3 ∷ 0 ∷ 0 ∷ 0 ∷ 0 ∷ 0 ∷ 0 ∷ 0 ∷ 0 ∷ 0 ∷ 16 ∷ 0 ∷ 0 ∷ 0 ∷ 0 ∷ 0 ∷ 0 ∷ 0 ∷ 0 ∷ 0 ∷ 0 ∷ 0 ∷ 0 ∷ 0 ∷ 0 ∷ 0 ∷ 0 ∷ []))
+
+abbrev nine : Window
+nine = record { width = 3; height = 1; planes = 9; stride = 3; x0 = 0; y0 = 0; «full_width» = 3; «full_height» = 1 }
+
 record Computed : Type 0 where
   enough : out (room 1 1) ≡ record { answer = Ans.Done 0 1 0; samples = 10 ∷ 15 ∷ 19 ∷ []; names = [] }
   marks : out (room 0 1) ≡ record { answer = Ans.Marks 0; samples = 10 ∷ 0 ∷ 19 ∷ []; names = [] }
   values : out (room 1 0) ≡ record { answer = Ans.Values 0; samples = 10 ∷ 0 ∷ 19 ∷ []; names = [] }
+  -- the order of the refusals: nine planes and a list that is cut, two repairs and no room for a name
+  range-first : u16Out nine 1 (room 1 1) (1 ∷ []) (10 ∷ 0 ∷ 19 ∷ []) [] ≡ record { answer = Ans.Range; samples = 10 ∷ 0 ∷ 19 ∷ []; names = [] }
+  not-taken-first : u16Out window 1 (room 1 1) two (10 ∷ 0 ∷ 19 ∷ []) [] ≡ record { answer = Ans.NotTaken; samples = 10 ∷ 0 ∷ 19 ∷ []; names = [] }
 
 computed : Computed
 unfolding big each roundHeld readingOf itemsOf counted readFrom stepAt nextAt parsedAt inWindow active wholePixel countBelow complete badValue marksOf moved sound tallyOn repairAt soundOn markedIn repairedIn leftIn namesOf takes16On takes16From repairOn performAll inRange ranOn runOut ofInt round units odd size span climb mul div add eq
-computed = record { enough = refl; marks = refl; values = refl }
+computed = record { enough = refl; marks = refl; values = refl; range-first = refl; not-taken-first = refl }
 
 -- whatever meets the contract has this answer and these samples, and the totals of the definition
 pub worked : (e : End ℕ) → Meets (out (room 1 1)) (room 1 1) e → (e .answer ≡ Ans.Done 0 1 0) × (e .samples ≡ 10 ∷ 15 ∷ 19 ∷ [])

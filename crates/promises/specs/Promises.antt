@@ -1,7 +1,7 @@
 -- What a caller may conclude from the contracts of the public calls alone: `Ran` of a run, `RowRan` of a row call, the equation of reading.
 -- Document 01, 'What comes back' and 'How a promise is judged'. Over any sample kind; proofs/Theorems proves each statement under its name in lower case:
 --     1 Determined   2 Exactly-when, Row-exactly-when   3 Keeps, Row-keeps, Numbered   4 Adds-up, Scratch
---     5 Row-calls, Whole-calls, Whole-calls-alike   6 Verdict
+--     5 Row-calls, Whole-calls, Whole-calls-alike   6 Verdict, Row-verdict
 use Prim.Native.Nat.{ℕ, suc, _+_, _*_, _≤_, _<_}
 use mathlib.Core.Bool.{Bool, true, false}
 use mathlib.Core.List.{List, [], _∷_}
@@ -22,7 +22,7 @@ use Rattle.dng.specs.List.{Item, readingOf, itemsOf, bodyOf}
 use Rattle.dng.specs.Value.{nought}
 use Rattle.dng.specs.Repair.{marksOf, markedIn, repairedIn, leftIn}
 use Rattle.dng.specs.Run.{Class, table, empty, local, repair, unapplied, classOf, Kind, f32Kind, u16Kind, skipped, skipped16, takes16, takesRows, namesOf, Progress, going, marksFull, valuesFull, Room, perform, performAll}
-use Rattle.dng.specs.Answer.{inRange, rowInRange, numbersOf, rowNumbersOf, readingNumbersOf, Out, runOut, takesAll, frameOf, f32Out, u16Out, Ran, RowOut, rowOut, wholeFrame}
+use Rattle.dng.specs.Answer.{inRange, rowInRange, numbersOf, rowNumbersOf, readingNumbersOf, Out, runOut, takesAll, frameOf, f32Out, u16Out, Ran, RowOut, rowOut, wholeFrame, wholeRow}
 use Rattle.rows.specs.Rows.{RowRan}
 use Rattle.rowform.specs.RowForm.{rowPart, rowPut, rowWindowOf, RowForm·if}
 use Rattle.wholeform.specs.WholeForm.{widened, narrowed, withoutTables, atOne, WholeForm·if}
@@ -190,18 +190,18 @@ Row-keeps =
     (w : RowWindow) (scale : Float) (y : ℕ) (list : List ℕ) (row : List Float) (r : RowAnswer) (t : List Float)
     → RowRan (rowOut w scale y list row) r t → ((n : ℕ) → r ≡ Row.Done n → ⊥) → t ≡ row
 
--- the paper's numbers of every answer: totals 0 on a refusal, the entry's number 0 but in 2, the opcode's 0 but in 5 and 6
+-- the paper's numbers of every answer: names and totals 0 on a refusal, the entry's number 0 but in 2, the opcode's 0 but in 5 and 6
 pub record Numbered : Type 0 where
-  pub totals : (a : Answer) → 1 ≤ numbersOf a .number → (numbersOf a .repaired ≡ 0) × (numbersOf a .left ≡ 0)
+  pub refused : (a : Answer) → 1 ≤ numbersOf a .number → (numbersOf a .names ≡ 0) × (numbersOf a .repaired ≡ 0) × (numbersOf a .left ≡ 0)
   pub entry : (a : Answer) → (numbersOf a .number ≡ 2 → ⊥) → numbersOf a .entry ≡ 0
   pub opcode : (a : Answer) → numbersOf a .number < 5 → numbersOf a .opcode ≡ 0
   -- a row gives 0, 1, 2 or 3
   pub row : (a : RowAnswer) → rowNumbersOf a .number ≤ 3
   pub rowEntry : (a : RowAnswer) → (rowNumbersOf a .number ≡ 2 → ⊥) → rowNumbersOf a .entry ≡ 0
-  pub rowRest : (a : RowAnswer) → (rowNumbersOf a .opcode ≡ 0) × (rowNumbersOf a .repaired ≡ 0) × (rowNumbersOf a .left ≡ 0)
+  pub rowRest : (a : RowAnswer) → (rowNumbersOf a .opcode ≡ 0) × (rowNumbersOf a .names ≡ 0) × (rowNumbersOf a .repaired ≡ 0) × (rowNumbersOf a .left ≡ 0)
   -- reading alone gives 0 or 2
   pub reading : (a : Reading) → (readingNumbersOf a .number ≡ 2 → ⊥) → (readingNumbersOf a .number ≡ 0) × (readingNumbersOf a .entry ≡ 0)
-  pub readingRest : (a : Reading) → (readingNumbersOf a .opcode ≡ 0) × (readingNumbersOf a .repaired ≡ 0) × (readingNumbersOf a .left ≡ 0)
+  pub readingRest : (a : Reading) → (readingNumbersOf a .opcode ≡ 0) × (readingNumbersOf a .names ≡ 0) × (readingNumbersOf a .repaired ≡ 0) × (readingNumbersOf a .left ≡ 0)
 
 -- ---- 4. totals: over a run that answers 0 they are sums over its repairs, and add up to the distinct marked positions of all of them
 
@@ -288,7 +288,8 @@ Whole-calls =
     → Meets (u16Out w period room list s names) room e → Meets (f32Out w (atOne period) room′ list (widened s) names′) room′ e′
     → Wholes-agree e e′
 
--- The same with one scratch for both, however short, and on every answer: the f32 run answers what the whole-number form answers, but for the number of names.
+-- The same with one scratch for both, however short, and on 1, 2, 5 and 6 too: the f32 run answers what the whole-number form answers, but for the number
+-- of names.
 pub record Wholes-alike (list : List ℕ) (e : End ℕ) (e′ : End Float) : Type 0 where
   pub answers : e′ .answer ≡ renamed (length (namesOf skipped (itemsOf list))) (e .answer)
   pub samples : e .samples ≡ narrowed (e′ .samples)
@@ -307,3 +308,10 @@ abbrev pub Verdict : Type 1
 Verdict =
     (A : Type 0) (c : Call A) (e : End A) → Meets (outOf c) (c .room) e
     → (wholeFrame (e .answer) ≡ true) ↔ ((numbersOf (e .answer) .number ≡ 0) × (skips c ≡ 0))
+
+-- a row call names nothing, and its answer carries the count
+abbrev pub Row-verdict : Type 0
+Row-verdict =
+    (w : RowWindow) (scale : Float) (y : ℕ) (list : List ℕ) (row : List Float) (r : RowAnswer) (t : List Float)
+    → RowRan (rowOut w scale y list row) r t
+    → (wholeRow r ≡ true) ↔ ((rowNumbersOf r .number ≡ 0) × (length (namesOf skipped (itemsOf list)) ≡ 0))
