@@ -229,6 +229,14 @@ fn block_rows(
     }
 }
 
+// How far the block after `count` columns begins.
+fn next_block(from: usize, count: usize, pitch: usize) -> usize
+    requires { ⌜ from + count * pitch < 8589934592 ⌝ }
+    ensures { λ r. ⌜ r ≡ from + count * pitch ⌝ }
+{
+    from + count * pitch
+}
+
 // As many columns from image column x0 + from on as the tables hold, or as there are before `end`; answers how far the next block begins.
 fn one_block(
     samples: &mut [f32],
@@ -287,10 +295,18 @@ fn one_block(
         grid,
         map_planes,
     );
-    from + count * pitch
+    next_block(from, count, pitch)
 }
 
 // ---- a window
+
+// Past the last image column that the region and the window have.
+fn columns_end(w: Window, r: Region) -> usize
+    requires { ⌜ WindowFits w ⌝ }
+    ensures { λ e. ⌜ e ≡ min (r .right) (w .x0 + w .width) ⌝ }
+{
+    select::smaller(r.right as usize, w.x0 + w.width)
+}
 
 // The blocks of the columns that the region and the window share, one after another.
 fn blocks(
@@ -316,7 +332,7 @@ fn blocks(
         (now (samples .entry))
         ⌝ }
 {
-    let end = select::smaller(r.right as usize, w.x0 + w.width);
+    let end = columns_end(w, r);
     let mut from = start.col;
     while w.x0 + from < end {
         from = one_block(

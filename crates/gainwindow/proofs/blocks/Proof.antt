@@ -30,17 +30,11 @@ abbrev μ-loop : tie.MeasureT-loop
 μ-loop samples₀ w r start body points-v points-h grid map-planes end from₀ samples from = end - (w .x0 + from)
 
 -- where the function began, from where the columns' end is worked out
-abbrev begun : tie.After-smaller Inv-loop μ-loop → tie.Start Inv-loop μ-loop
-begun e = e .before .before .before .before .before
+abbrev begun : tie.After-columns-end Inv-loop μ-loop → tie.Start Inv-loop μ-loop
+begun e = e .before .before .before
 
-cast-smaller : tie.Need-cast-smaller Inv-loop μ-loop
-cast-smaller c = search needs
-
-add-smaller : tie.Need-add-smaller Inv-loop μ-loop
-add-smaller c = search needs
-
-smaller-requires : tie.Need-smaller-requires Inv-loop μ-loop
-smaller-requires c κs = search needs
+columns-end-requires : tie.Need-columns-end-requires Inv-loop μ-loop
+columns-end-requires c κs = search needs
 
 loop-holds : tie.Need-loop-holds Inv-loop μ-loop
 loop-holds c =
@@ -48,7 +42,7 @@ loop-holds c =
     let a = s .args in (
       block-begin (a .w) (length (a .samples .now)) (a .r) (a .w .x0 + a .start .col) _ (a .samples .now),
       omega arith,
-      lies-first (s .pre .2) (omega (arith, c .before .before .struct-known .given)) (omega (arith, c .before .before .struct-known .given)),
+      lies-first (s .pre .2) (omega (arith, s .good .1 .1 .0)) (omega (arith, s .good .1 .1 .0)),
       refl,
     )
 
@@ -65,7 +59,7 @@ one-block-requires c κs =
       s .pre .3,
       h .loop .inv .2,
       c .before .if1 .taken,
-      omega (arith, h .before .smaller .ensures, s .pre .0 .left, s .pre .0 .widest),
+      omega (arith, h .before .columns-end .ensures, s .pre .0 .left, s .pre .0 .widest),
     )
 
 loop-less : tie.Need-loop-less Inv-loop μ-loop
@@ -103,7 +97,7 @@ returns c =
     let a = s .args in
     h .loop .inv .0
     ∙ block-all (a .w) (record { some = s .pre .0 .some; wide = s .pre .1 .wide; strided = s .pre .1 .strided }) (length (a .samples .now)) (a .r)
-    (a .start .col) (a .start .nth) (a .w .x0 + h .loop .from) _ (a .samples .now) (s .pre .2) (omega (arith, e .smaller .ensures, c .if1 .left))
+    (a .start .col) (a .start .nth) (a .w .x0 + h .loop .from) _ (a .samples .now) (s .pre .2) (omega (arith, e .columns-end .ensures, c .if1 .left))
 
 pub blocks-spec : {M : Type 1} → statement M
 blocks-spec =
@@ -111,9 +105,7 @@ blocks-spec =
     (tie.spec
     Inv-loop
     μ-loop
-    cast-smaller
-    add-smaller
-    smaller-requires
+    columns-end-requires
     loop-holds
     add-if1
     one-block-requires

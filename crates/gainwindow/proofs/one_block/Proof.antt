@@ -1,12 +1,12 @@
 -- `one_block` meets its contract: the tables are those of the columns from `from` on, and `fill_block` says how many. Assumes nothing.
 use Prim.Native.Nat.{ℕ, _+_, _*_, _<_}
-use mathlib.Core.Path.{sym, ap, _∙_}
+use mathlib.Core.Path.{_≡_, sym, ap, subst, _∙_}
 use native.Mathlib.Omega.{arith}
 use borrow.Author.Needs.{needs}
 use lib.ListN.{length}
 use Rattle.points.specs.Points.{each}
 use Rattle.dng.specs.Select.{onWindow}
-use Rattle.gainwindow.specs.Columns.{gainRule, blockRule}
+use Rattle.gainwindow.specs.Columns.{pitchOf, gainRule, blockRule, Lies}
 use Rattle.gainwindow.proofs.Columns.{block-filled, far-fits, lies-next, far-on, far-is}
 use Rattle.gainwindow.proofs.one_block.Statement.{statement}
 use Rattle.gainwindow.proofs.one_block.Tie as tie
@@ -63,33 +63,27 @@ near f =
     let l = pitched f in
     far-fits (s .args .w .x0) (s .args .from) (s .args .r) (f .fill-block .ensures .1) (l .larger .ensures) (s .pre .5) (s .pre .6) (omega (arith, l .larger .ensures, l .before .struct-known .given))
 
-mul-result : tie.Need-mul-result
-mul-result c = omega (arith, near (c .before .before .before .before .before .before .before .before))
-
-add-result : tie.Need-add-result
-add-result c = omega (arith, near (c .before .before .before .before .before .before .before .before))
+next-block-requires : tie.Need-next-block-requires
+next-block-requires c κs = near (c .before .before .before .before .before .before .before .before)
 
 same-length : tie.Need-same-length
 same-length c = search needs
 
 returns : tie.Need-returns
 returns c =
-    let f = c .before .before .before .before .before .before .before .before in
+    let b = c .before in
+    let f = b .before .before .before .before .before .before .before .before in
     let s = begun f in
     let a = s .args in
     let l = pitched f .larger .ensures in
-    let n = f .fill-block .ensures .1 in (
-      c .before .before .block-rows .ensures
-          ∙ ap
-          (λ (e : ℕ).
-          each
-          (onWindow (a .w) (length (a .samples .now))
-          (blockRule (a .r) (a .w .x0 + a .from) e
-          (gainRule (a .w .«full_width») (a .w .«full_height») (a .body .now) (a .r) (a .points-v) (a .points-h) (a .grid) (a .map-planes))))
-          (a .samples .now))
-          (sym (far-is (a .w .x0) (a .from) (a .r) n l)),
-      lies-next (a .w .x0) (a .from) (a .r) n l (s .pre .4) (near f),
-      far-on (a .w .x0) (a .from) (a .r) n l (s .pre .5) (omega arith),
+    let n = f .fill-block .ensures .1 in
+    let g = gainRule (a .w .«full_width») (a .w .«full_height») (a .body .now) (a .r) (a .points-v) (a .points-h) (a .grid) (a .map-planes) in
+    let here : a .w .x0 + c .next-block .result ≡ a .w .x0 + a .from + f .fill-block .result * pitchOf (a .r) =
+    ap (λ (q : ℕ). a .w .x0 + q) (c .next-block .ensures) ∙ far-is (a .w .x0) (a .from) (a .r) n l in (
+      b .before .before .block-rows .ensures
+          ∙ ap (λ (e : ℕ). each (onWindow (a .w) (length (a .samples .now)) (blockRule (a .r) (a .w .x0 + a .from) e g)) (a .samples .now)) (sym here),
+      subst (Lies (a .w .x0) (a .r)) (sym (c .next-block .ensures)) (lies-next (a .w .x0) (a .from) (a .r) n l (s .pre .4) (near f)),
+      omega (arith, c .next-block .ensures, far-on (a .w .x0) (a .from) (a .r) n l (s .pre .5) (omega arith)),
     )
 
 pub one-block-spec : {M : Type 1} → statement M
@@ -106,7 +100,6 @@ one-block-spec =
     slice-aggregate-block-rows
     slice-aggregate-block-rows-2
     block-rows-requires
-    mul-result
-    add-result
+    next-block-requires
     same-length
     returns)
