@@ -1,9 +1,9 @@
 -- `row_stride` meets its contract: the product does not wrap. Assumes nothing.
 use native.Mathlib.Omega.{arith}
 use borrow.Author.Needs.{needs}
-use Rattle.windows.proofs.Turns.{step-fits}
-use Rattle.windows.proofs.row_stride.Statement.{statement}
-use Rattle.windows.proofs.row_stride.Tie as tie
+use Rattle.turns.proofs.Turns.{step-fits}
+use Rattle.turns.proofs.row_stride.Statement.{statement}
+use Rattle.turns.proofs.row_stride.Tie as tie
 
 mul-result : tie.Need-mul-result
 mul-result c = omega (arith, step-fits (c .before .args .w) (c .before .pre))
