@@ -33,17 +33,21 @@ pub appended-as : {b p q : List ℕ} {at r : ℕ} {o : List ℕ} → p ≡ q →
 appended-as {b} {at = at} e h =
     record { ends = h .ends ∙ ap (λ (l : List ℕ). at + length l) e; written = h .written ∙ ap (λ (l : List ℕ). take at b ++ l) e; after = h .after }
 
+-- what stands behind stays as it is, also behind a second text
+pub after-more :
+    (b : List ℕ) {q o o' : List ℕ} {r r' : ℕ} → drop r o ≡ drop r b → Appended o r q r' o' → drop r' o' ≡ drop r' b
+after-more b {q} {o} {o'} {r} {r'} e a =
+    a .after ∙ ap (λ (n : ℕ). drop n o) (a .ends) ∙ sym (drop-drop (length q) r o) ∙ ap (drop (length q)) e
+    ∙ drop-drop (length q) r b ∙ ap (λ (n : ℕ). drop n b) (sym (a .ends))
+
 -- one text after another
 pub appended-then :
     {b p q o o' : List ℕ} {at r r' : ℕ} → Appended b at p r o → Appended o r q r' o' → Appended b at (p ++ q) r' o'
 appended-then {b} {p} {q} {o} {o'} {at} {r} {r'} h i =
-    let moved : drop (length q) (drop r o) ≡ drop (length q) (drop r b) = ap (drop (length q)) (h .after) in
     record {
       ends = omega (arith, h .ends, i .ends, length-append p q);
       written = i .written ∙ ap (λ (l : List ℕ). l ++ q) (h .written) ∙ append-assoc (take at b) p q;
-      after =
-          i .after ∙ ap (λ (n : ℕ). drop n o) (i .ends) ∙ sym (drop-drop (length q) r o) ∙ moved ∙ drop-drop (length q) r b
-          ∙ ap (λ (n : ℕ). drop n b) (sym (i .ends));
+      after = after-more b (h .after) i;
     }
 
 -- the whole buffer, so that two buffers to which the same was appended are equal
