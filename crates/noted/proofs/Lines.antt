@@ -1,4 +1,4 @@
--- The lines of a list that was read whole, and the note by what was read. Assumes nothing.
+-- The lines of a list that was read whole, the note by what was read, and that its contract leaves no choice. Assumes nothing.
 use Prim.Native.Nat.{ℕ, _+_, _≤_, _<_}
 use mathlib.Core.Path.{_≡_, refl, sym, ap, _∙_, subst}
 use mathlib.Core.Bool.{true, false}
@@ -6,14 +6,15 @@ use mathlib.Core.List.{List, [], _∷_, _++_}
 use native.Mathlib.Omega.{arith}
 use borrow.Author.Tests.{lt-ltb, le-ltb}
 use lib.Dec.{ltb}
-use lib.ListN.{length, length-append}
+use lib.ListN.{length, length-append, take, drop}
 use Rattle.texts.specs.Text.{text}
 use Rattle.texts.specs.Appended.{Appended}
-use Rattle.texts.proofs.Laws.{appended-as, appended-then}
+use Rattle.texts.proofs.Laws.{appended-as, appended-then, appended-whole}
 use Rattle.dng.specs.declared.Reading.{Reading}
 use Rattle.dng.specs.declared.Reading.the-variants as R
 use Rattle.dng.specs.List.{readingOf, itemsOf}
 use Rattle.noted.specs.Note.{names, about, applied, notApplied, lines, linesOf, malformedAfter, noteOn, noteOf}
+use Rattle.noted.specs.Parts.{Noted}
 
 empty : (l : List ℕ) → length l ≡ 0 → l ≡ []
 empty [] h = refl
@@ -101,3 +102,10 @@ module _ (s : List ℕ) where
     pub note-whole : {n : ℕ} → g ≡ R.Whole n → Appended b 0 (linesOf (itemsOf s)) r o → Appended b 0 (noteOf s) r o
     unfolding noteOf noteOn
     note-whole {n} q a = appended-as (sym (simp (short h) (ap (λ (x : Reading). noteOn x (itemsOf s)) (sym e ∙ q)))) a
+
+-- ---- two results that keep the contract of `noted::note` on the same list and buffer are equal
+
+pub determined : {s b : List ℕ} {r r' : ℕ} {o o' : List ℕ} → Noted s b r o → Noted s b r' o' → (r ≡ r') × (o ≡ o')
+determined {s} {b} h i =
+    let e = h .note .ends ∙ sym (i .note .ends) in
+    (e, appended-whole (h .note) ∙ ap (λ (n : ℕ). (take 0 b ++ noteOf s) ++ drop n b) e ∙ sym (appended-whole (i .note)))

@@ -24,19 +24,25 @@ named k e t a = appended-as (t ∙ ap nameText (sym e)) a
 pub named-fits : (code at l k : ℕ) → code ≡ k → at + length (nameText code) ≤ l → at + length (nameText k) ≤ l
 named-fits code at l k e h = rw (sym e) h
 
--- the codes of no other name: none of 1 to k
-abbrev pub None : ℕ → ℕ → Type 0
-None code zero = Unit
-None code (suc k) = None code k × (code ≡ suc k → ⊥)
+-- none of the k codes from a on
+abbrev pub None : (code a k : ℕ) → Type 0
+None code a zero = Unit
+None code a (suc k) = None code a k × (code ≡ a + k → ⊥)
 
-past : (code k : ℕ) → None code k → 0 < code → k < code
-past code zero n h = h
-past code (suc k) n h = let l = past code k (n .0) h in let e = n .1 in omega (arith, l, e)
+past : (code a k : ℕ) → None code a k → a ≤ code → a + k ≤ code
+past code a zero n h = omega arith
+past code a (suc k) n h = let l = past code a k (n .0) h in let e = n .1 in omega (arith, l, e)
 
-module _ (code : ℕ) (h : None code 13) where
+pub low-other : (code : ℕ) → code < 7 → None code 1 6 → 0 < code → 14 ≤ code
+low-other code h n i = omega (arith, h, past code 1 6 n i)
+
+pub high-other : (code : ℕ) → 7 ≤ code → None code 7 7 → 0 < code → 14 ≤ code
+high-other code h n i = past code 7 7 n h
+
+module _ (code : ℕ) (h : 0 < code → 14 ≤ code) where
   other : nameText code ≡ text "Other"
   unfolding nameText
-  other = go code (past code 13 h)
+  other = go code h
     where
       go : (n : ℕ) → (0 < n → 14 ≤ n) → getD nameTexts n (text "Other") ≡ text "Other"
       go zero h = refl

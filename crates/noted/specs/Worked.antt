@@ -20,6 +20,8 @@ abbrev pub constant : List ℕ
 constant = entry 4 (words (0 ∷ 0 ∷ []))
 
 pub record Notes : Type 0 where
+  -- the names by their ids, 0 for `Other`
+  pub all-names : names (0 ∷ 1 ∷ 2 ∷ 3 ∷ 4 ∷ 5 ∷ 6 ∷ 7 ∷ 8 ∷ 9 ∷ 10 ∷ 11 ∷ 12 ∷ 13 ∷ []) ≡ text "Other, WarpRectilinear, WarpFisheye, FixVignetteRadial, FixBadPixelsConstant, FixBadPixelsList, TrimBounds, MapTable, MapPolynomial, GainMap, DeltaPerRow, DeltaPerColumn, ScalePerRow, ScalePerColumn"
   pub example : noteOf (word 2 ++ (fisheye ++ noEntries)) ≡ text "OpcodeList1: applied MapTable\nOpcodeList1: not applied WarpFisheye, MapTable\n"
   pub no-input : noteOf [] ≡ text "malformed after 0\n"
   pub cut : noteOf (word 2 ++ (constant ++ (0 ∷ 0 ∷ []))) ≡ text "malformed after 1\n"
@@ -32,4 +34,4 @@ pub record Notes : Type 0 where
 
 pub worked : Notes
 unfolding big readingOf itemsOf counted readFrom stepAt nextAt parsedAt warpAt polynomialAt countedAt gainAt badListAt namesOf digitsIn decimal nameText occurs item firsts behind joined names about lines malformedAfter noteOn noteOf
-worked = record { example = refl; no-input = refl; cut = refl; no-opcodes = refl; no-pixels = refl; all-applied = refl; repeats = refl; mixed = refl }
+worked = record { all-names = refl; example = refl; no-input = refl; cut = refl; no-opcodes = refl; no-pixels = refl; all-applied = refl; repeats = refl; mixed = refl }

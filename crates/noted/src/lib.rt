@@ -82,8 +82,9 @@ fn collect(list: &[u8], part: Part, codes: &mut [u8]) -> usize
 
 // ---- names
 
-fn put_name(out: &mut [u8], at: usize, code: u8) -> usize
-    requires { ⌜ at + length (nameText code) ≤ length (now out) ⌝ }
+// The names of ids below 7. They are in two functions because a function with all of them takes long to prove.
+fn put_low_name(out: &mut [u8], at: usize, code: u8) -> usize
+    requires { ⌜ (code < 7) × (at + length (nameText code) ≤ length (now out)) ⌝ }
     ensures { λ r. ⌜ Appended (now (out .entry)) at (nameText code) r (now (out .exit)) ⌝ }
 {
     match code {
@@ -93,6 +94,15 @@ fn put_name(out: &mut [u8], at: usize, code: u8) -> usize
         4 => texts::put(&mut *out, at, b"FixBadPixelsConstant"),
         5 => texts::put(&mut *out, at, b"FixBadPixelsList"),
         6 => texts::put(&mut *out, at, b"TrimBounds"),
+        _ => texts::put(&mut *out, at, b"Other"),
+    }
+}
+
+fn put_high_name(out: &mut [u8], at: usize, code: u8) -> usize
+    requires { ⌜ (7 ≤ code) × (at + length (nameText code) ≤ length (now out)) ⌝ }
+    ensures { λ r. ⌜ Appended (now (out .entry)) at (nameText code) r (now (out .exit)) ⌝ }
+{
+    match code {
         7 => texts::put(&mut *out, at, b"MapTable"),
         8 => texts::put(&mut *out, at, b"MapPolynomial"),
         9 => texts::put(&mut *out, at, b"GainMap"),
@@ -101,6 +111,17 @@ fn put_name(out: &mut [u8], at: usize, code: u8) -> usize
         12 => texts::put(&mut *out, at, b"ScalePerRow"),
         13 => texts::put(&mut *out, at, b"ScalePerColumn"),
         _ => texts::put(&mut *out, at, b"Other"),
+    }
+}
+
+fn put_name(out: &mut [u8], at: usize, code: u8) -> usize
+    requires { ⌜ at + length (nameText code) ≤ length (now out) ⌝ }
+    ensures { λ r. ⌜ Appended (now (out .entry)) at (nameText code) r (now (out .exit)) ⌝ }
+{
+    if code < 7 {
+        put_low_name(&mut *out, at, code)
+    } else {
+        put_high_name(&mut *out, at, code)
     }
 }
 
