@@ -97,15 +97,15 @@ fn out_of_range(r: &mut Rng, f: &mut Frame) {
     }
 }
 
-fn length(r: &mut Rng, f: &Frame) -> usize {
+fn length(r: &mut Rng, f: &Frame, most: usize) -> usize {
     let whole = f
         .stride
         .checked_mul(f.height)
         .and_then(|n| n.checked_mul(f.planes))
-        .filter(|&n| n <= 1 << 21)
+        .filter(|&n| n <= most)
         .unwrap_or(64);
     let rows = f.height.saturating_sub(1).saturating_mul(f.stride).saturating_add(f.width);
-    let tight = rows.checked_mul(f.planes).filter(|&n| n <= 1 << 21 && f.height > 0).unwrap_or(64);
+    let tight = rows.checked_mul(f.planes).filter(|&n| n <= most && f.height > 0).unwrap_or(64);
     match r.below(16) {
         0 => 0,
         1 => r.below(whole + 1),
@@ -139,10 +139,10 @@ fn whole(r: &mut Rng) -> u16 {
 impl Case {
     // The lengths of the buffers are set afterwards, from what the list needs.
     pub fn any(r: &mut Rng) -> Case {
-        let size = match r.below(4000) {
+        let size = match r.below(16_000) {
             0 => 3,
-            n if n < 160 => 2,
-            n if n < 1600 => 0,
+            n if n < 640 => 2,
+            n if n < 6400 => 0,
             _ => 1,
         };
         let frame = frame(r, size);
@@ -160,7 +160,7 @@ impl Case {
                 lists::damage(r, &mut list);
             }
         }
-        let n = length(r, &frame);
+        let n = length(r, &frame, if size == 3 { 1 << 21 } else { 8192 });
         let wild = r.once(8);
         let floats = (0..n).map(|_| float(r, frame.scale, wild)).collect();
         let wholes = (0..n).map(|_| whole(r)).collect();

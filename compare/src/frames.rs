@@ -65,34 +65,52 @@ fn fits(c: &Case) -> bool {
     c.list.len() <= 260 && c.floats.len() <= 24 && c.row.len() <= 12 && sizes.iter().all(|&n| n <= u32::MAX as usize)
 }
 
-// What a call shows: its form, answer and opcodes. A case is kept while few of its kind are.
-fn shows(c: &Case, r: &Replay) -> String {
-    let ids: Vec<u8> = if r.numbers.number == 0 {
-        crate::lists::starts(&c.list).iter().take(2).map(|&at| c.list[at + 3]).collect()
-    } else {
-        vec![]
+// What a call shows, and how many of its kind are kept.
+fn shows(c: &Case, r: &Replay) -> Vec<(String, usize)> {
+    let (form, number) = (r.form, r.numbers.number);
+    if form == 0 || number != 0 {
+        return vec![(format!("{form} {number}"), 10)];
+    }
+    if r.before == r.after {
+        return vec![(format!("{form} same"), 10)];
+    }
+    let ids: Vec<u8> = crate::lists::starts(&c.list).iter().map(|&at| c.list[at + 3]).collect();
+    let odd = |b: &[u8]| {
+        let v = f32::from_le_bytes([b[0], b[1], b[2], b[3]]);
+        !v.is_finite() || v.is_subnormal() || v.to_bits() == 1 << 31
     };
-    let kind = if r.before != r.after { "changed" } else { "same" };
-    format!("{} {} {ids:?} {kind}", r.form, r.numbers.number)
+    let mut v = match ids.as_slice() {
+        [id] => vec![(format!("{form} id {id}"), 5)],
+        _ => vec![(format!("{form} several"), 40)],
+    };
+    if form != 2 && r.after.chunks(4).any(odd) {
+        v.push((format!("{form} odd"), 25));
+    }
+    if r.numbers.left > 0 && r.numbers.repaired > 0 {
+        v.push((format!("{form} both totals"), 8));
+    }
+    v
 }
 
 pub fn write(folder: &str, seed: u64) {
     let (mut count, mut cases, mut lines) = (0, Vec::new(), String::new());
     let mut seen: BTreeMap<String, usize> = BTreeMap::new();
     let mut number = 0;
-    while count < 400 && cases.len() < 120_000 {
+    while number < 40_000 && cases.len() < 120_000 {
         let (c, o) = made(seed, number);
         number += 1;
         if !fits(&c) {
             continue;
         }
         for r in replays(&c, &o) {
-            let n = seen.entry(shows(&c, &r)).or_insert(0);
-            let enough = if r.numbers.number == 0 { 1 } else { 8 };
-            if *n >= enough || r.lengths.marks > 64 || r.lengths.values > 64 || r.lengths.names > 64 {
+            let kinds = shows(&c, &r);
+            let wanted = kinds.iter().any(|(k, most)| seen.get(k).map_or(true, |n| n < most));
+            if !wanted || r.lengths.marks > 64 || r.lengths.values > 64 || r.lengths.names > 64 {
                 continue;
             }
-            *n += 1;
+            for (k, _) in kinds {
+                *seen.entry(k).or_insert(0) += 1;
+            }
             count += 1;
             let g = &c.frame;
             put(&mut cases, r.form);

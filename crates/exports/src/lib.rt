@@ -358,12 +358,21 @@ pub extern "C" fn rolbhunga_bytes_u16(
         (now (bytes .entry)) (now (names .entry)) (length (now (work .entry)))
         r (now (bytes .exit)) (now (names .exit)) (now (marks .exit)) (now (values .exit)) (now (work .exit)) ⌝ }
 {
-    let n = bytes.len() / 2;
-    if work.len() < n {
+    let count = bytes.len() / 2;
+    if work.len() < count {
         samples::clear_u16(work);
         refuse(marks, values)
     } else {
-        let r = u16_in(list, bytes, w, period, &mut work[..n], marks, values, names);
+        let r = u16_in(
+            list,
+            bytes,
+            w,
+            period,
+            &mut work[..count],
+            marks,
+            values,
+            names,
+        );
         samples::clear_u16(work);
         answers::numbers(r)
     }
