@@ -361,6 +361,11 @@ pub fn count(c: &Case, o: &Oracle, n: &mut Counts) {
     add(n, "answers 100 u16".into(), (c.u.work < c.wholes.len()) as u64);
     add(n, "answers 100 row".into(), (c.row_work < c.row.len()) as u64);
     if let Read::Whole(ops) = &o.read {
+        if ops.iter().any(oracle::is_empty_table) {
+            add(n, "allowed: an empty table named by f32".into(), (f.numbers.number == 0) as u64);
+            let alone = !ops.iter().any(|op| op.is_pixel_opcode() && !op.is_row_local());
+            add(n, "allowed: a row refused for an empty table".into(), (row.number == 3 && alone) as u64);
+        }
         for op in ops {
             if f.numbers.number == 0 {
                 add(n, format!("f32 done {}", op.name()), 1);
@@ -402,5 +407,7 @@ pub fn count(c: &Case, o: &Oracle, n: &mut Counts) {
         add(n, "windows 65,536 wide or high".into(), (g.width == 65_536 || g.height == 65_536) as u64);
         add(n, "windows with gaps between rows".into(), (g.stride > g.width) as u64);
     }
+    let most = c.frame.width.checked_mul(c.frame.planes).unwrap_or(0);
+    add(n, "allowed: a row longer than width * planes".into(), (row.number == 1 && c.row.len() > most) as u64);
     add(n, "scales that are NaN, infinite or 0".into(), (!g.scale.is_finite() || g.scale == 0.0) as u64);
 }

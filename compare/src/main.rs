@@ -44,6 +44,10 @@ fn sweep(seed: u64, from: u64, to: u64, step: u64) -> (Counts, u64) {
         check::count(&c, &o, &mut n);
         if let Err(why) = check::check(&c, &o) {
             wrong += 1;
+            if first() {
+                println!("case {k}: {why}");
+                exit(1);
+            }
             if wrong <= 3 {
                 report(&format!("case {k} of seed {seed}"), &c, &why);
             }
@@ -51,6 +55,11 @@ fn sweep(seed: u64, from: u64, to: u64, step: u64) -> (Counts, u64) {
         k += step;
     }
     (n, wrong)
+}
+
+// FIRST=1: the first difference ends it, as compare/slips wants it.
+fn first() -> bool {
+    env::var_os("FIRST").is_some()
 }
 
 fn number(s: Option<&String>, or: u64) -> u64 {
@@ -71,6 +80,10 @@ fn main() {
     }
     let (cases, seed) = (number(args.first(), 1_000_000), number(args.get(1), 1));
     let jobs = number(env::var("JOBS").ok().as_ref(), 1).max(1);
+    if first() {
+        // slips show early, and the limits are long lists
+        sweep(seed, 0, cases, 1);
+    }
     let mut wrong = 0;
     let mut fixed = 0;
     for (what, mut c) in limits::cases() {
@@ -83,6 +96,10 @@ fn main() {
             fixed += 1;
             if let Err(why) = check::check(&c, &o) {
                 wrong += 1;
+                if first() {
+                    println!("{what}: {why}");
+                    exit(1);
+                }
                 report(what, &c, &why);
             }
         }
