@@ -3,7 +3,7 @@ use mathlib.Core.Path.{_≡_, refl, sym, ap, ap₂, _∙_, subst}
 use mathlib.Core.Bool.{true}
 use mathlib.Core.List.{List, [], _∷_}
 use Prim.Native.Nat.{ℕ, suc, _+_, _-_, _*_, _≤_, _<_}
-use native.Mathlib.Nat.{mul-le-mul, le-trans, add-zero}
+use native.Mathlib.Nat.{mul-le-mul, add-zero}
 use native.Mathlib.Numerals.{add-one}
 use native.Mathlib.Omega.{arith}
 use lib.Ieee.{Float}
@@ -28,7 +28,6 @@ use Rattle.repair.specs.declared.Fixed.{Fixed}
 use Rattle.repair.specs.declared.Fixed.the-variants as F
 use Rattle.repair.specs.Fixes as Fixes
 use Rattle.repair.proofs.Totals.{fixes-few}
-use Rattle.performs.specs.declared.Performed.{Performed}
 use Rattle.performs.specs.declared.Performed.the-variants as P
 use Rattle.performs.specs.Performs.{progressOf, doneOf, Steps, Stepped}
 
@@ -99,6 +98,14 @@ module _ {A : Type 0} (kind : Kind A) (w : Window) (period : ℕ) (room : Room) 
 
 -- ---- the list, one opcode at a time
 
+-- No total wraps: an opcode more adds its positions to those of the k before it.
+pub adds :
+    (w : Window) (n k repaired left : ℕ) {a b : ℕ} {f : Fixed} → positions w ≤ 4294967296 → n ≤ 4096 → k < n → repaired + left ≤ k * 4294967296
+    → doneOf f ≤ positions w → f ≡ F.Done a b → repaired + a + (left + b) ≤ 17592186044416
+adds w n k repaired left {a} {b} small short h few t z =
+    let one : doneOf (F.Done a b) ≤ positions w = subst (λ (f : Fixed). doneOf f ≤ positions w) z t in
+    omega arith
+
 -- the slices keep their lengths
 pub record Kept {A : Type 0} (s₀ s : List A) (m₀ m : List ℕ) (v₀ v : List Float) : Type 0 where
   pub samples : length s ≡ length s₀
@@ -139,10 +146,6 @@ module _ {A : Type 0} (kind : Kind A) (w : Window) (period : ℕ) (room : Room) 
     pub rest :
         performAll kind w period room list k (readFrom list (n - k) c) (going s repaired left)
         ≡ performAll kind w period room list 0 (itemsOf list) (going s₀ 0 0)
-
-  -- no total wraps
-  pub adds : {s₀ : List A} {n k : ℕ} {c : Cursor} {s : List A} {repaired left : ℕ} → Doing s₀ n k c s repaired left → repaired + left ≤ 17592186044416
-  adds d = omega (arith, d .few, d .near, d .short)
 
   pub begins : (s₀ : List A) (n : ℕ) → n ≡ countOf list → Doing s₀ n 0 start s₀ 0 0
   begins s₀ n e =

@@ -103,7 +103,7 @@ pub fn perform_f32(
     let mut left: u64 = 0;
     let mut k: usize = 0;
     let mut c = Cursor { at: 4 };
-    while k < n {
+    while k < n { // at most 4,096 times
         match list::step(list, c) {
             Step::Item { entry, op, next } => {
                 match one_f32(
@@ -120,16 +120,16 @@ pub fn perform_f32(
                         repaired: r,
                         left: l,
                     } => {
-                        repaired += r as u64;
+                        repaired += r as u64; // at most 2^32 positions
                         left += l as u64;
                         c = next;
                         k += 1;
                     }
                     Fixed::Marks => {
-                        return Performed::Marks { opcode: k };
+                        return Performed::Marks { opcode: k }; // 5
                     }
                     Fixed::Values => {
-                        return Performed::Values { opcode: k };
+                        return Performed::Values { opcode: k }; // 6
                     }
                 }
             }

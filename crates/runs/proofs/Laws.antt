@@ -1,6 +1,6 @@
 -- What a plan makes of a run, over any sample kind, which lists a form takes and which opcodes it skips. Assumes nothing.
-use mathlib.Core.Path.{_≡_, refl, sym, ap, subst, _∙_}
-use mathlib.Core.Bool.{Bool, true, false, cond}
+use mathlib.Core.Path.{_≡_, refl, sym, ap, ap₂, subst, _∙_}
+use mathlib.Core.Bool.{Bool, true, cond}
 use mathlib.Core.List.{List, [], _∷_, _++_, append-nil}
 use Prim.Native.Nat.{ℕ, zero, suc, _+_, _≤_, _<_}
 use native.Mathlib.Nat.{not-suc-le-zero, le-of-suc-le-suc}
@@ -11,9 +11,9 @@ use lib.ListN.{length, set, drop, replicate, drop-of-length-le}
 use Rattle.dng.specs.declared.Window.{Window}
 use Rattle.dng.specs.declared.Answer.{Answer}
 use Rattle.dng.specs.List.{Item, itemsOf}
-use Rattle.dng.specs.Run.{Kind, Class, namesOf, Progress, going, Room, performAll}
+use Rattle.dng.specs.Run.{Kind, Class, namesOf, going, Room, performAll}
 use Rattle.dng.specs.Answer.{inRange, Out, finished, runOut, Ran}
-use Rattle.names.specs.Names.{writtenIn}
+use Rattle.names.specs.Names.{skippedIn, writtenIn}
 use Rattle.names.proofs.Laws.{with-room}
 use Rattle.settles.specs.declared.Plan.{Plan}
 use Rattle.settles.specs.declared.Plan.the-variants as Go
@@ -33,9 +33,14 @@ is p e =
       named = sym (ap (λ (x : Out _). x .names) e);
     }
 
--- written once all is performed
-pub when-done : (l names : List ℕ) {done : Bool} {names′ : List ℕ} → done ≡ true → names′ ≡ writtenIn l names → names′ ≡ cond done (writtenIn l names) names
-when-done l names b h = h ∙ sym (ap (λ (k : Bool). cond k (writtenIn l names) names) b)
+-- written once all is performed, by the form that was told
+pub when-done :
+    (list names : List ℕ) {done whole b : Bool} {names′ : List ℕ} → done ≡ true → whole ≡ b
+    → names′ ≡ writtenIn (namesOf (skippedIn b) (itemsOf list)) names
+    → names′ ≡ cond done (writtenIn (namesOf (skippedIn whole) (itemsOf list)) names) names
+when-done list names d e h =
+    h
+    ∙ sym (ap₂ (λ (k f : Bool). cond k (writtenIn (namesOf (skippedIn f) (itemsOf list)) names) names) d e)
 
 module _ {A : Type 0} (kind : Kind A) (takes : List Item → Bool) (skip : Class → Bool) (w : Window) (period : ℕ) (room : Room)
     (list : List ℕ) (s : List A) (names : List ℕ) {p : Plan} (plan : p ≡ planOf takes skip list w period (length names)) where

@@ -9,9 +9,9 @@ ghost use mathlib.Core.Bool.{cond};
 ghost use lib.ListN.{length, replicate};
 ghost use Rattle.dng.specs.List.{itemsOf};
 ghost use Rattle.dng.specs.Value.{nought};
-ghost use Rattle.dng.specs.Run.{skipped, skipped16, namesOf};
+ghost use Rattle.dng.specs.Run.{namesOf};
 ghost use Rattle.dng.specs.Answer.{f32Out, u16Out, Ran};
-ghost use Rattle.names.specs.Names.{writtenIn};
+ghost use Rattle.names.specs.Names.{skippedIn, writtenIn};
 ghost use Rattle.runs.specs.Runs.{isDone, answerOf, Is, Clear};
 
 // ---- the end of a run
@@ -42,6 +42,21 @@ fn answer_of(p: Performed, n: usize) -> Answer
     }
 }
 
+// The names, once all is performed; on any refusal the buffer stays. `whole` asks for the whole-number form.
+fn name(list: &[u8], names: &mut [u8], done: bool, whole: bool)
+    ensures { λ _.
+        ⌜ now (names .exit)
+        ≡ cond done (writtenIn (namesOf (skippedIn whole) (itemsOf (now (list .entry)))) (now (names .entry))) (now (names .entry)) ⌝ }
+{
+    if done {
+        if whole {
+            names::write_names16(list, names);
+        } else {
+            names::write_names(list, names);
+        }
+    }
+}
+
 fn clear_f32(values: &mut [f32])
     ensures { λ _. ⌜ now (values .exit) ≡ replicate (length (now (values .entry))) nought ⌝ }
 {
@@ -62,17 +77,6 @@ fn clear(marks: &mut [u32], values: &mut [f32])
 
 // ---- f32
 
-// The names, once all is performed.
-fn name_f32(list: &[u8], names: &mut [u8], done: bool)
-    ensures { λ _.
-        ⌜ now (names .exit)
-        ≡ cond done (writtenIn (namesOf skipped (itemsOf (now (list .entry)))) (now (names .entry))) (now (names .entry)) ⌝ }
-{
-    if done {
-        names::write_names(list, names);
-    }
-}
-
 // 1 to 4, then opcode by opcode 5 before 6, then the names. The scratch is left as it is then.
 fn attempt_f32(
     list: &[u8],
@@ -92,7 +96,7 @@ fn attempt_f32(
         Plan::Refuse { answer } => answer,
         Plan::Go { names: n } => {
             let p = performs::perform_f32(list, samples, w, set, marks, values);
-            name_f32(list, names, is_done(p));
+            name(list, names, is_done(p), false);
             answer_of(p, n)
         }
     }
@@ -121,17 +125,6 @@ pub fn run_f32(
 
 // ---- u16: the whole-number form, which has no scale
 
-// The names of this form, once all is performed.
-fn name_u16(list: &[u8], names: &mut [u8], done: bool)
-    ensures { λ _.
-        ⌜ now (names .exit)
-        ≡ cond done (writtenIn (namesOf skipped16 (itemsOf (now (list .entry)))) (now (names .entry))) (now (names .entry)) ⌝ }
-{
-    if done {
-        names::write_names16(list, names);
-    }
-}
-
 fn attempt_u16(
     list: &[u8],
     samples: &mut [u16],
@@ -150,7 +143,7 @@ fn attempt_u16(
         Plan::Refuse { answer } => answer,
         Plan::Go { names: n } => {
             let p = performs::perform_u16(list, samples, w, period, marks, values);
-            name_u16(list, names, is_done(p));
+            name(list, names, is_done(p), true);
             answer_of(p, n)
         }
     }

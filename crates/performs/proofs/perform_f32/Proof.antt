@@ -1,10 +1,9 @@
 -- `performs::perform_f32` meets its contract. The loop's invariant: the opcodes that are left, performed on the samples as they stand, with the
 -- totals so far, are all of them performed on the samples as they came. Assumes nothing.
 use Prim.Native.Nat.{_+_, _-_, _≤_}
-use mathlib.Core.Path.{_≡_, refl, _∙_}
+use mathlib.Core.Path.{refl, _∙_}
 use native.Mathlib.Omega.{arith}
 use borrow.Author.Needs.{needs}
-use denote.Ref.{now}
 use lib.ListN.{length}
 use Rattle.dng.specs.Run.{f32Kind}
 use Rattle.dng.specs.Answer.{frameOf}
@@ -47,10 +46,9 @@ few :
 few c =
     let at = c .before .before .before .before .before .before .before .before .before .before .before .before .before .before .before .before .before .before .loop in
     let s = c .before .before .before .before .before .before .before .before .before .before .before .before .before .before .before .before .before .before .before .before .before .before .before .before in
-    adds _ _ _ _ _
-    (goes-on _ _ _ _ _ _ _ _ _ _ _ _ (at .inv .0) (c .before .before .before .before .before .before .before .before .before .before .before .before .before .before .before .before .before .loop-test .taken) (c .before .before .before .before .before .before .before .before .before .before .before .before .before .before .before .before .step .ensures) (c .before .before .before .before .before .before .before .before .before .before .before .before .before .before .entry .given .1)
-    (same-room (at .inv .1 .marks) (at .inv .1 .values) (c .before .before .before .before .before .before .before .before .before .one-f32 .ensures)) (positions-few (s .args .w) (s .args .set .period) (s .pre))
-    (c .before .r .given .1))
+    adds (s .args .w) (c .before .before .before .before .before .before .before .before .before .before .before .before .before .before .before .before .before .before .before .count .result) (at .k) (at .repaired) (at .left)
+    (positions-few (s .args .w) (s .args .set .period) (s .pre)) (at .inv .0 .short) (c .before .before .before .before .before .before .before .before .before .before .before .before .before .before .before .before .before .loop-test .taken) (at .inv .0 .few) (c .before .before .before .before .before .before .before .before .before .one-f32 .ensures .few)
+    (c .before .r .given .1)
 
 add-repaired : tie.Need-add-repaired Inv-loop μ-loop
 add-repaired c = omega (arith, few c)

@@ -27,8 +27,8 @@ perform-f32-requires c κs =
 is-done-requires : tie.Need-is-done-requires
 is-done-requires c κs = search needs
 
-name-f32-requires : tie.Need-name-f32-requires
-name-f32-requires c κs = search needs
+name-requires : tie.Need-name-requires
+name-requires c κs = search needs
 
 answer-of-requires : tie.Need-answer-of-requires
 answer-of-requires c κs = search needs
@@ -58,7 +58,7 @@ returns-2 c =
     ended (f32Kind (frameOf (a .w) (a .set .scale))) takesAll skipped (a .w) (a .set .period)
     (record { marks = length (now (a .marks)); values = length (now (a .values)) }) (now (a .list)) (now (a .samples)) (now (a .names))
     (c .before .before .before .before .before .before .before .before .before .before .before .before .before .before .before .before .before .before .before .settle-f32 .ensures) (c .before .before .before .before .before .before .before .before .before .before .before .before .before .before .before .before .before .n .given .1) (c .before .before .before .before .before .before .before .before .before .before .before .before .perform-f32 .result) (c .before .before .before .before .before .before .before .before .before .before .before .before .perform-f32 .ensures) (c .before .before .before .before .is-done .ensures)
-    (c .before .before .before .name-f32 .ensures) (c .answer-of .ensures)
+    (c .before .before .before .name .ensures) (c .answer-of .ensures)
 
 pub attempt-f32-spec : {M : Type 1} → statement M
 attempt-f32-spec =
@@ -69,7 +69,7 @@ attempt-f32-spec =
     enum-known-n
     perform-f32-requires
     is-done-requires
-    name-f32-requires
+    name-requires
     answer-of-requires
     returns
     same-length

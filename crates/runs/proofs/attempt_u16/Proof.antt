@@ -26,8 +26,8 @@ perform-u16-requires c κs =
 is-done-requires : tie.Need-is-done-requires
 is-done-requires c κs = search needs
 
-name-u16-requires : tie.Need-name-u16-requires
-name-u16-requires c κs = search needs
+name-requires : tie.Need-name-requires
+name-requires c κs = search needs
 
 answer-of-requires : tie.Need-answer-of-requires
 answer-of-requires c κs = search needs
@@ -57,7 +57,7 @@ returns-2 c =
     ended u16Kind takes16 skipped16 (a .w) (a .period)
     (record { marks = length (now (a .marks)); values = length (now (a .values)) }) (now (a .list)) (now (a .samples)) (now (a .names))
     (c .before .before .before .before .before .before .before .before .before .before .before .before .before .before .before .before .before .before .before .settle-u16 .ensures) (c .before .before .before .before .before .before .before .before .before .before .before .before .before .before .before .before .before .n .given .1) (c .before .before .before .before .before .before .before .before .before .before .before .before .perform-u16 .result) (c .before .before .before .before .before .before .before .before .before .before .before .before .perform-u16 .ensures) (c .before .before .before .before .is-done .ensures)
-    (c .before .before .before .name-u16 .ensures) (c .answer-of .ensures)
+    (c .before .before .before .name .ensures) (c .answer-of .ensures)
 
 pub attempt-u16-spec : {M : Type 1} → statement M
 attempt-u16-spec =
@@ -68,7 +68,7 @@ attempt-u16-spec =
     enum-known-n
     perform-u16-requires
     is-done-requires
-    name-u16-requires
+    name-requires
     answer-of-requires
     returns
     same-length
