@@ -1,4 +1,4 @@
--- `exports::put_u16` meets its contract. Assumes nothing.
+-- `exports::put_u16` meets its contract: by whether a run came to the samples. Assumes nothing.
 use borrow.Author.Needs.{needs}
 use Rattle.exports.proofs.put_u16.Statement.{statement}
 use Rattle.exports.proofs.put_u16.Tie as tie

@@ -1,3 +1,4 @@
+-- `exports::rolbhunga_bytes_row` meets its contract: by the test of the work room. Assumes nothing.
 use borrow.Author.Needs.{needs}
 use denote.Ref.{now}
 use Rattle.exports.proofs.Rows.{part-length, part-fits, enough, short}

@@ -1,3 +1,4 @@
+-- `exports::rolbhunga_run_row` meets its contract: the row form's promise, in numbers. Assumes nothing.
 use borrow.Author.Needs.{needs}
 use Rattle.exports.proofs.Rows.{told}
 use Rattle.exports.proofs.rolbhunga_run_row.Statement.{statement}

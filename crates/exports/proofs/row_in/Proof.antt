@@ -1,3 +1,4 @@
+-- `exports::row_in` meets its contract: decoded, run, and put back where the row was done. Assumes nothing.
 use borrow.Author.Needs.{needs}
 use denote.Ref.{now}
 use Rattle.exports.proofs.Rows.{left}
