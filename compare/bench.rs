@@ -1,0 +1,227 @@
+// One kind of work on one side, for counting or for time: the same list, window and samples for both. See compare/bench.
+use dng_opcodes::{apply, apply_u16, parse, PlaneImage, RowOps};
+use rolbhunga::{Frame, Room};
+use std::time::Instant;
+
+const KINDS: [&str; 15] = [
+    "f32-table",
+    "f32-polynomial",
+    "f32-gain",
+    "f32-gain-rows",
+    "f32-delta-row",
+    "f32-scale-row",
+    "f32-delta-column",
+    "f32-scale-column",
+    "f32-vignette",
+    "f32-constant",
+    "f32-list",
+    "u16-constant",
+    "u16-list",
+    "u16-table",
+    "f32-table-rows",
+];
+
+// whole region, one plane; three planes; every second row and column of one plane
+const FORMS: [&str; 3] = ["", "-3", "-p2"];
+
+extern "C" {
+    fn syscall(number: i64, ...) -> i64;
+}
+
+// What a counting command counts between.
+fn mark(k: i64) {
+    unsafe {
+        syscall(77777, k);
+    }
+}
+
+fn word(b: &mut Vec<u8>, w: u32) {
+    b.extend_from_slice(&w.to_be_bytes());
+}
+
+fn doubles(b: &mut Vec<u8>, d: &[f64]) {
+    for x in d {
+        b.extend_from_slice(&x.to_be_bytes());
+    }
+}
+
+struct Work {
+    list: Vec<u8>,
+    frame: Frame,
+    floats: Vec<f32>,
+    wholes: Vec<u16>,
+    marks: usize,
+    values: usize,
+}
+
+fn body(kind: &str, w: usize, h: usize, planes: usize, pitch: u32) -> (u32, Vec<u8>) {
+    let mut b = Vec::new();
+    let region = [0, 0, h as u32, w as u32, 0, planes as u32, pitch, pitch];
+    let mut put = |id: u32, f: &dyn Fn(&mut Vec<u8>)| {
+        for x in region {
+            word(&mut b, x);
+        }
+        f(&mut b);
+        (id, std::mem::take(&mut b))
+    };
+    let lines = |b: &mut Vec<u8>, n: usize, from: f32| {
+        word(b, n as u32);
+        for i in 0..n {
+            b.extend_from_slice(&(from + (i % 64) as f32 / 4096.0).to_be_bytes());
+        }
+    };
+    match kind {
+        "table" | "table-rows" => put(7, &|b| {
+            word(b, 65_536);
+            for i in 0..65_536u32 {
+                b.extend_from_slice(&((i * 7 / 8) as u16).to_be_bytes());
+            }
+        }),
+        "polynomial" => put(8, &|b| {
+            word(b, 3);
+            doubles(b, &[0.001, 0.9, 0.08, 0.01]);
+        }),
+        "gain" | "gain-rows" => put(9, &|b| {
+            word(b, 13);
+            word(b, 17);
+            doubles(b, &[1.0 / 12.0, 1.0 / 16.0, 0.0, 0.0]);
+            word(b, 1);
+            for i in 0..13 * 17 {
+                b.extend_from_slice(&(1.0 + (i % 23) as f32 / 64.0).to_be_bytes());
+            }
+        }),
+        "delta-row" => put(10, &|b| lines(b, h, 0.0)),
+        "delta-column" => put(11, &|b| lines(b, w, 0.0)),
+        "scale-row" => put(12, &|b| lines(b, h, 1.0)),
+        "scale-column" => put(13, &|b| lines(b, w, 1.0)),
+        "vignette" => {
+            doubles(&mut b, &[0.3, 0.1, 0.05, 0.02, 0.01, 0.5, 0.5]);
+            (3, b)
+        }
+        "constant" => {
+            word(&mut b, 0);
+            word(&mut b, 0);
+            (4, b)
+        }
+        _ => {
+            for x in [0, 500, 0] {
+                word(&mut b, x);
+            }
+            let mut n = 12_345u32;
+            for _ in 0..500 {
+                for size in [h, w] {
+                    n = n.wrapping_mul(1_664_525).wrapping_add(1_013_904_223);
+                    word(&mut b, (n >> 8) % size as u32);
+                }
+            }
+            (5, b)
+        }
+    }
+}
+
+impl Work {
+    fn new(kind: &str, form: &str, w: usize, h: usize) -> Work {
+        let planes = if form == "-3" { 3 } else { 1 };
+        let pitch = if form == "-p2" { 2 } else { 1 };
+        let (id, body) = body(&kind[4..], w, h, planes, pitch);
+        let mut list = Vec::new();
+        for x in [1, id, 0, 0, body.len() as u32] {
+            word(&mut list, x);
+        }
+        list.extend(body);
+        let frame = Frame::new(w, h, planes).period(2);
+        let n = w * h * planes;
+        let mut seed = 99u32;
+        let mut wholes: Vec<u16> = (0..n)
+            .map(|_| {
+                seed = seed.wrapping_mul(1_664_525).wrapping_add(1_013_904_223);
+                (seed >> 16).max(1) as u16
+            })
+            .collect();
+        // every thousandth pixel is bad
+        for i in (0..w * h).step_by(1000) {
+            wholes[i * planes] = 0;
+        }
+        let floats = wholes.iter().map(|&v| v as f32).collect();
+        // Scratch exactly as long as is needed: the distinct positions, and a mean for each of their planes.
+        let marks = match id {
+            4 => wholes.iter().step_by(planes).filter(|&&v| v == 0).count(),
+            5 => {
+                let at = list.len() - 500 * 8;
+                let mut points: Vec<&[u8]> = list[at..].chunks(8).collect();
+                points.sort_unstable();
+                points.dedup();
+                points.len()
+            }
+            _ => 0,
+        };
+        Work { list, frame, floats, wholes, marks, values: marks * planes }
+    }
+
+    fn ours(&self, kind: &str, f: &mut [f32], u: &mut [u16], marks: &mut [u32], values: &mut [f32]) {
+        let mut room = Room { marks, values, names: &mut [] };
+        let n = self.frame.width * self.frame.planes;
+        let done = if kind.ends_with("-rows") {
+            let row = self.frame.row();
+            f.chunks_mut(n).enumerate().all(|(y, s)| row.run(&self.list, s, y).number() == 0)
+        } else if kind.starts_with("u16") {
+            self.frame.run_u16(&self.list, u, &mut room).number() == 0
+        } else {
+            self.frame.run_f32(&self.list, f, &mut room).number() == 0
+        };
+        assert!(done);
+    }
+
+    fn theirs(&self, kind: &str, f: &mut [f32], u: &mut [u16]) {
+        let ops = parse(&self.list).expect("the list can be read");
+        let g = &self.frame;
+        if kind.ends_with("-rows") {
+            let rows = RowOps::new(&ops, g.width, g.planes, 0, g.full_width, g.full_height, 1.0).expect("taken");
+            for (y, s) in f.chunks_mut(g.width * g.planes).enumerate() {
+                rows.apply(y, s);
+            }
+        } else if kind.starts_with("u16") {
+            apply_u16(&ops, &mut PlaneImage::new(u, g.width, g.height, g.planes), g.period, false).expect("taken");
+        } else {
+            apply(&ops, &mut PlaneImage::new(f, g.width, g.height, g.planes), g.period, 1.0, false);
+        }
+    }
+}
+
+fn main() {
+    let args: Vec<String> = std::env::args().skip(1).collect();
+    let (w, h): (usize, usize) = (args[0].parse().expect("width"), args[1].parse().expect("height"));
+    if args.len() == 2 {
+        for form in FORMS {
+            for kind in KINDS {
+                // repairs and the vignette have no region
+                let region = !["constant", "list", "vignette"].contains(&&kind[4..]);
+                if form != "-p2" || region {
+                    println!("{kind}{form} {}", w * h * if form == "-3" { 3 } else { 1 });
+                }
+            }
+        }
+        return;
+    }
+    let form = FORMS.iter().rev().find(|f| args[2].ends_with(**f)).expect("a form");
+    let kind = args[2].strip_suffix(form).expect("a kind");
+    let x = Work::new(kind, form, w, h);
+    let (mut marks, mut values) = (vec![0; x.marks], vec![0.0; x.values]);
+    let mut best = u128::MAX;
+    let repeats = if args.len() > 4 { 5 } else { 1 };
+    for _ in 0..repeats {
+        let (mut f, mut u) = (x.floats.clone(), x.wholes.clone());
+        let from = Instant::now();
+        mark(1);
+        if args[3] == "ours" {
+            x.ours(kind, &mut f, &mut u, &mut marks, &mut values);
+        } else {
+            x.theirs(kind, &mut f, &mut u);
+        }
+        mark(2);
+        best = best.min(from.elapsed().as_nanos());
+    }
+    if args.len() > 4 {
+        println!("{best}");
+    }
+}

@@ -1,0 +1,74 @@
+/* Every function of the header, called from C and from C++ (the same text): each argument in its place, each struct laid out alike. */
+#include "rolbhunga.h"
+#include <stdio.h>
+#include <string.h>
+
+static int failed = 0;
+
+static void is(const char *what, unsigned long long got, unsigned long long want) {
+    if (got != want) {
+        printf("%s: %llu, want %llu\n", what, got, want);
+        failed = 1;
+    }
+}
+
+/* FixBadPixelsConstant with the constant 0, then a WarpFisheye with no body */
+static const uint8_t repair[] = {0, 0, 0, 2, 0, 0, 0, 4, 1, 3, 0, 0, 0, 0, 0, 0, 0, 0, 0, 8, 0, 0, 0, 0, 0, 0, 0, 0,
+                                 0, 0, 0, 2, 1, 3, 0, 0, 0, 0, 0, 0, 0, 0, 0, 0};
+
+int main(void) {
+    uint8_t list[sizeof repair];
+    rolbhunga_window w = {3, 1, 1, 3, 0, 0, 3, 1};
+    rolbhunga_row_window rw = {3, 1, 0, 3, 1};
+    rolbhunga_settings set = {1, 1.0f};
+    float f[3] = {10.0f, 0.0f, 19.0f}, values[1] = {7.0f}, work[3] = {1.0f, 2.0f, 3.0f};
+    uint16_t u[3] = {10, 0, 19}, work16[3] = {1, 2, 3};
+    uint32_t marks[1] = {7};
+    uint8_t names[2] = {0xee, 0xee}, b[12], b16[7] = {10, 0, 0, 0, 19, 0, 0xcc};
+    rolbhunga_numbers n;
+    rolbhunga_row_numbers r;
+    memcpy(list, repair, sizeof repair);
+
+    n = rolbhunga_read(list, sizeof list);
+    is("read", n.number, ROLBHUNGA_DONE);
+    n = rolbhunga_read(list, sizeof list - 1);
+    is("cut", n.number, ROLBHUNGA_MALFORMED);
+    is("cut after", n.entry, 1);
+
+    memcpy(b, f, sizeof b);
+    n = rolbhunga_run_f32(list, sizeof list, f, 3, w, set, marks, 1, values, 1, names, 2);
+    is("f32", n.number, ROLBHUNGA_DONE);
+    is("f32 names", n.names, 1);
+    is("f32 repaired", n.repaired, 1);
+    is("f32 left", n.left, 0);
+    is("f32 mean", f[1] == 14.5f, 1);
+    is("f32 name", names[0], 2);
+    is("f32 next", names[1], 0xee);
+    is("f32 scratch", marks[0] == 0 && values[0] == 0.0f, 1);
+
+    n = rolbhunga_run_u16(list, sizeof list, u, 3, w, 1, marks, 1, values, 1, names, 2);
+    is("u16", n.number, ROLBHUNGA_DONE);
+    is("u16 mean", u[1], 15);
+
+    r = rolbhunga_run_row(list, sizeof list, f, 3, rw, 0, 1.0f);
+    is("row of a repair", r.number, ROLBHUNGA_NOT_TAKEN);
+    list[3] = 0;
+    r = rolbhunga_run_row(list, sizeof list, f, 3, rw, 0, 1.0f);
+    is("row", r.number, ROLBHUNGA_DONE);
+    r = rolbhunga_bytes_row(list, sizeof list, b, 12, rw, 0, 1.0f, work, 2);
+    is("bytes of a row, little room", r.number, ROLBHUNGA_WORK);
+    r = rolbhunga_bytes_row(list, sizeof list, b, 12, rw, 0, 1.0f, work, 3);
+    is("bytes of a row", r.number, ROLBHUNGA_DONE);
+    list[3] = 2;
+
+    n = rolbhunga_bytes_f32(list, sizeof list, b, 12, w, set, work, 3, marks, 0, values, 1, names, 2);
+    is("bytes, no marks", n.number, ROLBHUNGA_MARKS);
+    n = rolbhunga_bytes_f32(list, sizeof list, b, 12, w, set, work, 3, marks, 1, values, 1, names, 2);
+    is("bytes f32", n.number, ROLBHUNGA_DONE);
+    is("bytes f32 mean", memcmp(b + 4, "\0\0\x68\x41", 4), 0);
+    n = rolbhunga_bytes_u16(list, sizeof list, b16, 7, w, 1, work16, 3, marks, 1, values, 1, names, 2);
+    is("bytes u16", n.number, ROLBHUNGA_DONE);
+    is("bytes u16 mean", b16[2], 15);
+    is("bytes left over", b16[6], 0xcc);
+    return failed;
+}

@@ -1,0 +1,124 @@
+// Compares every exported function with the Rust module on cases made by chance. See compare/run.
+mod cases;
+mod check;
+mod doc01;
+mod frames;
+mod limits;
+mod lists;
+mod oracle;
+mod rng;
+mod shrink;
+
+use cases::Case;
+use check::Counts;
+use oracle::Oracle;
+use rng::Rng;
+use std::env;
+use std::process::exit;
+use std::thread;
+
+fn made(seed: u64, number: u64) -> (Case, Oracle) {
+    let mut r = Rng::new(seed, number);
+    let mut c = Case::any(&mut r);
+    let o = Oracle::of(&c);
+    c.set_lengths(&mut r, &o);
+    (c, o)
+}
+
+fn report(what: &str, c: &Case, why: &str) {
+    println!("difference in {what}: {why}");
+    let small = if c.list.len() < 100_000 && c.floats.len() < 20_000 { shrink::shrink(c.clone()) } else { c.clone() };
+    if let Some(why) = shrink::differs(&small) {
+        println!("  smallest found: {why}");
+        if small.list.len() < 100_000 && small.floats.len() < 20_000 {
+            shrink::print(&small);
+        }
+    }
+}
+
+fn sweep(seed: u64, from: u64, to: u64, step: u64) -> (Counts, u64) {
+    let (mut n, mut wrong) = (Counts::new(), 0);
+    let mut k = from;
+    while k < to {
+        let (c, o) = made(seed, k);
+        check::count(&c, &o, &mut n);
+        if let Err(why) = check::check(&c, &o) {
+            wrong += 1;
+            if first() {
+                println!("case {k}: {why}");
+                exit(1);
+            }
+            if wrong <= 3 {
+                report(&format!("case {k} of seed {seed}"), &c, &why);
+            }
+        }
+        k += step;
+    }
+    (n, wrong)
+}
+
+// FIRST=1: the first difference ends it, as compare/slips wants it.
+fn first() -> bool {
+    env::var_os("FIRST").is_some()
+}
+
+fn number(s: Option<&String>, or: u64) -> u64 {
+    match s {
+        None => or,
+        Some(s) => s.replace([',', '_'], "").parse().unwrap_or_else(|_| {
+            eprintln!("compare: {s} is no number");
+            exit(2)
+        }),
+    }
+}
+
+fn main() {
+    let args: Vec<String> = env::args().skip(1).collect();
+    if args.first().map(String::as_str) == Some("frames") {
+        frames::write(&args[1], number(args.get(2), 1));
+        return;
+    }
+    let (cases, seed) = (number(args.first(), 1_000_000), number(args.get(1), 1));
+    let jobs = number(env::var("JOBS").ok().as_ref(), 1).max(1);
+    if first() {
+        // slips show early, and the limits are long lists
+        sweep(seed, 0, cases, 1);
+    }
+    let mut wrong = 0;
+    let mut fixed = 0;
+    for (what, mut c) in limits::cases() {
+        let o = Oracle::of(&c);
+        c.set_exact(&o);
+        for k in 0..4 {
+            if k > 0 {
+                c.set_lengths(&mut Rng::new(seed, k), &o);
+            }
+            fixed += 1;
+            if let Err(why) = check::check(&c, &o) {
+                wrong += 1;
+                if first() {
+                    println!("{what}: {why}");
+                    exit(1);
+                }
+                report(what, &c, &why);
+            }
+        }
+    }
+    println!("limits: {fixed} cases, {wrong} differ");
+    let threads: Vec<_> = (0..jobs).map(|j| thread::spawn(move || sweep(seed, j, cases, jobs))).collect();
+    let mut all = Counts::new();
+    for t in threads {
+        let (n, w) = t.join().expect("a sweep ends");
+        wrong += w;
+        for (k, v) in n {
+            *all.entry(k).or_insert(0) += v;
+        }
+    }
+    for (k, v) in &all {
+        println!("{v:>12}  {k}");
+    }
+    println!("compared {cases} cases of seed {seed}, seven calls each, and {fixed} at the limits: {wrong} differ");
+    if wrong > 0 {
+        exit(1);
+    }
+}

@@ -1,0 +1,23 @@
+-- `exports::rolbhunga_run_row` meets its contract: the row form's promise, in numbers. Assumes nothing.
+use borrow.Author.Needs.{needs}
+use Rattle.exports.proofs.Rows.{told}
+use Rattle.exports.proofs.rolbhunga_run_row.Statement.{statement}
+use Rattle.exports.proofs.rolbhunga_run_row.Tie as tie
+
+run-row-requires : tie.Need-run-row-requires
+run-row-requires c κs = search needs
+
+row-numbers-requires : tie.Need-row-numbers-requires
+row-numbers-requires c κs = search needs
+
+same-length : tie.Need-same-length
+same-length c = search needs
+
+returns : tie.Need-returns
+returns c =
+    let b3 = c .before .before .before in
+    told _ (b3 .run-row .result) (c .row-numbers .result) _ (b3 .run-row .ensures) (c .row-numbers .ensures)
+
+pub rolbhunga-run-row-spec : {M : Type 1} → statement M
+rolbhunga-run-row-spec =
+    tie.close (tie.spec run-row-requires row-numbers-requires same-length returns)

@@ -1,0 +1,440 @@
+//! DNG opcode lists, run on image samples.
+//!
+//! Every call is safe for every argument: a number that is out of its range, a malformed list or a buffer that is too small is an
+//! [`Answer`], never a panic. The work is done by a library whose functions are proved to meet their contracts; this crate only lends
+//! it slices and reads its answers.
+//!
+//! ```
+//! use rolbhunga::{Answer, Frame, Scratch};
+//!
+//! // One FixBadPixelsConstant with the constant 0: count, id, version, flags, body length, constant, phase.
+//! let words: [u32; 7] = [1, 4, 0x0103_0000, 0, 8, 0, 0];
+//! let list: Vec<u8> = words.iter().flat_map(|w| w.to_be_bytes()).collect();
+//!
+//! let mut samples = [10.0, 0.0, 19.0];
+//! let frame = Frame::new(3, 1, 1);
+//! let mut scratch = Scratch::enough(&frame);
+//! let answer = frame.run_f32(&list, &mut samples, &mut scratch.room());
+//! assert_eq!(answer, Answer::Done { names: 0, repaired: 1, left: 0 });
+//! assert_eq!(samples, [10.0, 14.5, 19.0]);
+//! ```
+pub mod ffi;
+
+/// The number of the answer [`Answer::Work`].
+pub const WORK: u32 = 100;
+
+/// The opcodes that a list can have at most, so that so many bytes of names are always enough.
+pub const MAX_OPCODES: usize = 4096;
+
+/// What a run answers. On `Range` to `Names` and on `Work` samples and names are as they were; on `Marks` and `Values` the samples
+/// are as after the opcodes before, and the names are as they were. The scratch holds only zeros after every call.
+#[derive(Debug, Clone, Copy, PartialEq, Eq)]
+pub enum Answer {
+    /// 0: done. The skip buffer starts with `names` bytes, one for each skipped opcode (its id, 0 for an unknown one).
+    Done { names: usize, repaired: u64, left: u64 },
+    /// 1: a number of the frame is out of its range.
+    Range,
+    /// 2: the list is malformed, after `entry` entries that were read whole.
+    Malformed { entry: usize },
+    /// 3: the form does not take this list.
+    NotTaken,
+    /// 4: the skip buffer is shorter than the skipped opcodes.
+    Names,
+    /// 5: the repair `opcode` marks more positions than there is room for.
+    Marks { opcode: usize },
+    /// 6: the repair `opcode` has more new values than there is room for.
+    Values { opcode: usize },
+    /// 100, of the forms over bytes alone: the work room has fewer entries than the bytes have samples.
+    Work,
+}
+
+impl Answer {
+    /// Document 01's number of the answer.
+    pub fn number(self) -> u32 {
+        match self {
+            Answer::Done { .. } => 0,
+            Answer::Range => 1,
+            Answer::Malformed { .. } => 2,
+            Answer::NotTaken => 3,
+            Answer::Names => 4,
+            Answer::Marks { .. } => 5,
+            Answer::Values { .. } => 6,
+            Answer::Work => WORK,
+        }
+    }
+
+    /// The verdict: the run answers 0 and skips nothing.
+    pub fn is_whole(self) -> bool {
+        matches!(self, Answer::Done { names: 0, .. })
+    }
+
+    fn of(n: ffi::Numbers) -> Answer {
+        match n.number {
+            0 => Answer::Done { names: n.names, repaired: n.repaired, left: n.left },
+            1 => Answer::Range,
+            2 => Answer::Malformed { entry: n.entry },
+            3 => Answer::NotTaken,
+            4 => Answer::Names,
+            5 => Answer::Marks { opcode: n.opcode },
+            6 => Answer::Values { opcode: n.opcode },
+            WORK => Answer::Work,
+            other => unreachable!("no answer has the number {other}"),
+        }
+    }
+}
+
+/// What a row call answers. On all but `Done` the row is as it was.
+#[derive(Debug, Clone, Copy, PartialEq, Eq)]
+pub enum RowAnswer {
+    /// 0: done. `skipped` opcodes of the list are named by the f32 run and not applied.
+    Done { skipped: usize },
+    /// 1: a number of the row is out of its range.
+    Range,
+    /// 2: the list is malformed, after `entry` entries that were read whole.
+    Malformed { entry: usize },
+    /// 3: the list has a repair or an empty table.
+    NotTaken,
+    /// 100, of the form over bytes alone.
+    Work,
+}
+
+impl RowAnswer {
+    /// Document 01's number of the answer.
+    pub fn number(self) -> u32 {
+        match self {
+            RowAnswer::Done { .. } => 0,
+            RowAnswer::Range => 1,
+            RowAnswer::Malformed { .. } => 2,
+            RowAnswer::NotTaken => 3,
+            RowAnswer::Work => WORK,
+        }
+    }
+
+    /// The verdict: the row is done and nothing of the list was skipped.
+    pub fn is_whole(self) -> bool {
+        matches!(self, RowAnswer::Done { skipped: 0 })
+    }
+
+    fn of(n: ffi::RowNumbers) -> RowAnswer {
+        match n.number {
+            0 => RowAnswer::Done { skipped: n.skipped },
+            1 => RowAnswer::Range,
+            2 => RowAnswer::Malformed { entry: n.entry },
+            3 => RowAnswer::NotTaken,
+            WORK => RowAnswer::Work,
+            other => unreachable!("no answer of a row has the number {other}"),
+        }
+    }
+}
+
+/// What reading a list answers.
+#[derive(Debug, Clone, Copy, PartialEq, Eq)]
+pub enum Reading {
+    /// 0: every entry can be read.
+    Whole,
+    /// 2: malformed, after `entry` entries that were read whole.
+    Malformed { entry: usize },
+}
+
+/// Reads a list, big-endian as in a DNG file.
+pub fn read(list: &[u8]) -> Reading {
+    // The list is lent for the call and only read.
+    let n = unsafe { ffi::rolbhunga_read(list.as_ptr(), list.len()) };
+    match n.number {
+        0 => Reading::Whole,
+        _ => Reading::Malformed { entry: n.entry },
+    }
+}
+
+/// The buffers that a run is lent: the u32 and f32 scratch of the repairs, which hold only zeros after every call, and the skip
+/// buffer.
+pub struct Room<'a> {
+    pub marks: &'a mut [u32],
+    pub values: &'a mut [f32],
+    pub names: &'a mut [u8],
+}
+
+/// A [`Room`] of its own.
+#[derive(Debug, Clone)]
+pub struct Scratch {
+    pub marks: Vec<u32>,
+    pub values: Vec<f32>,
+    pub names: Vec<u8>,
+}
+
+impl Scratch {
+    /// A scratch with so many entries of each kind.
+    pub fn new(marks: usize, values: usize, names: usize) -> Scratch {
+        Scratch { marks: vec![0; marks], values: vec![0.0; values], names: vec![0; names] }
+    }
+
+    /// A scratch that no list outgrows on this frame: the answers 4, 5 and 6 cannot come. The sizes of a frame out of range count
+    /// as 0.
+    pub fn enough(frame: &Frame) -> Scratch {
+        let positions = frame.width.checked_mul(frame.height).filter(|&n| n <= 1 << 32).unwrap_or(0);
+        let values = positions.checked_mul(frame.planes).filter(|_| frame.planes <= 8).unwrap_or(0);
+        Scratch::new(positions, values, MAX_OPCODES)
+    }
+
+    /// The scratch, lent.
+    pub fn room(&mut self) -> Room<'_> {
+        Room { marks: &mut self.marks, values: &mut self.values, names: &mut self.names }
+    }
+}
+
+/// The window of an image that a run changes, and how it does so. Made by [`Frame::new`] for a whole, tightly packed image; the
+/// other numbers are set one by one.
+///
+/// ```
+/// use rolbhunga::Frame;
+///
+/// // Four columns and two rows at (8, 6) of an image of 64 by 48, rows 16 pixels apart, values from 0 to 1.
+/// let frame = Frame::new(4, 2, 3).stride(16).at(8, 6).full(64, 48).period(2).scale(65535.0);
+/// assert_eq!(frame.width, 4);
+/// ```
+#[derive(Debug, Clone, Copy, PartialEq)]
+pub struct Frame {
+    pub width: usize,
+    pub height: usize,
+    pub planes: usize,
+    pub stride: usize,
+    pub x0: usize,
+    pub y0: usize,
+    pub full_width: usize,
+    pub full_height: usize,
+    pub period: usize,
+    pub scale: f32,
+}
+
+impl Frame {
+    /// A whole image of `planes` samples to a pixel, its rows without gaps, period 1 and scale 1.
+    pub fn new(width: usize, height: usize, planes: usize) -> Frame {
+        Frame {
+            width,
+            height,
+            planes,
+            stride: width,
+            x0: 0,
+            y0: 0,
+            full_width: width,
+            full_height: height,
+            period: 1,
+            scale: 1.0,
+        }
+    }
+
+    /// Rows lie `stride` pixels apart.
+    pub fn stride(mut self, stride: usize) -> Frame {
+        self.stride = stride;
+        self
+    }
+
+    /// The window's corner is the image's (x0, y0).
+    pub fn at(mut self, x0: usize, y0: usize) -> Frame {
+        self.x0 = x0;
+        self.y0 = y0;
+        self
+    }
+
+    /// The image that the list describes has this size.
+    pub fn full(mut self, full_width: usize, full_height: usize) -> Frame {
+        self.full_width = full_width;
+        self.full_height = full_height;
+        self
+    }
+
+    /// The distance of the neighbours that a repair takes the mean of: 2 for a Bayer image. 0 counts as 1.
+    pub fn period(mut self, period: usize) -> Frame {
+        self.period = period;
+        self
+    }
+
+    /// What a sample is multiplied by to reach the list's 16-bit values: 1 for stored values, 65535 for values from 0 to 1.
+    pub fn scale(mut self, scale: f32) -> Frame {
+        self.scale = scale;
+        self
+    }
+
+    /// The window of one row of this frame.
+    pub fn row(&self) -> Row {
+        Row {
+            width: self.width,
+            planes: self.planes,
+            x0: self.x0,
+            full_width: self.full_width,
+            full_height: self.full_height,
+            scale: self.scale,
+        }
+    }
+
+    fn window(&self) -> ffi::Window {
+        ffi::Window {
+            width: self.width,
+            height: self.height,
+            planes: self.planes,
+            stride: self.stride,
+            x0: self.x0,
+            y0: self.y0,
+            full_width: self.full_width,
+            full_height: self.full_height,
+        }
+    }
+
+    fn settings(&self) -> ffi::Settings {
+        ffi::Settings { period: self.period, scale: self.scale }
+    }
+
+    /// Runs a list on f32 samples.
+    pub fn run_f32(&self, list: &[u8], samples: &mut [f32], room: &mut Room<'_>) -> Answer {
+        // Every slice is lent for the call alone, and no two of them overlap.
+        Answer::of(unsafe {
+            ffi::rolbhunga_run_f32(
+                list.as_ptr(),
+                list.len(),
+                samples.as_mut_ptr(),
+                samples.len(),
+                self.window(),
+                self.settings(),
+                room.marks.as_mut_ptr(),
+                room.marks.len(),
+                room.values.as_mut_ptr(),
+                room.values.len(),
+                room.names.as_mut_ptr(),
+                room.names.len(),
+            )
+        })
+    }
+
+    /// Runs a list on u16 samples. The scale counts as 1.
+    pub fn run_u16(&self, list: &[u8], samples: &mut [u16], room: &mut Room<'_>) -> Answer {
+        // As for `run_f32`.
+        Answer::of(unsafe {
+            ffi::rolbhunga_run_u16(
+                list.as_ptr(),
+                list.len(),
+                samples.as_mut_ptr(),
+                samples.len(),
+                self.window(),
+                self.period,
+                room.marks.as_mut_ptr(),
+                room.marks.len(),
+                room.values.as_mut_ptr(),
+                room.values.len(),
+                room.names.as_mut_ptr(),
+                room.names.len(),
+            )
+        })
+    }
+
+    /// Runs a list on f32 samples that stand in bytes, little-endian. `work` has an entry for each whole sample and holds only zeros
+    /// afterwards; bytes left over stay. After a run a NaN is the pattern 7fc00000 hex.
+    pub fn bytes_f32(&self, list: &[u8], bytes: &mut [u8], work: &mut [f32], room: &mut Room<'_>) -> Answer {
+        // As for `run_f32`.
+        Answer::of(unsafe {
+            ffi::rolbhunga_bytes_f32(
+                list.as_ptr(),
+                list.len(),
+                bytes.as_mut_ptr(),
+                bytes.len(),
+                self.window(),
+                self.settings(),
+                work.as_mut_ptr(),
+                work.len(),
+                room.marks.as_mut_ptr(),
+                room.marks.len(),
+                room.values.as_mut_ptr(),
+                room.values.len(),
+                room.names.as_mut_ptr(),
+                room.names.len(),
+            )
+        })
+    }
+
+    /// Runs a list on u16 samples that stand in bytes, little-endian. `work` as for [`Frame::bytes_f32`].
+    pub fn bytes_u16(&self, list: &[u8], bytes: &mut [u8], work: &mut [u16], room: &mut Room<'_>) -> Answer {
+        // As for `run_f32`.
+        Answer::of(unsafe {
+            ffi::rolbhunga_bytes_u16(
+                list.as_ptr(),
+                list.len(),
+                bytes.as_mut_ptr(),
+                bytes.len(),
+                self.window(),
+                self.period,
+                work.as_mut_ptr(),
+                work.len(),
+                room.marks.as_mut_ptr(),
+                room.marks.len(),
+                room.values.as_mut_ptr(),
+                room.values.len(),
+                room.names.as_mut_ptr(),
+                room.names.len(),
+            )
+        })
+    }
+}
+
+/// The window of one row: [`Frame::row`] makes it. A row has no height, no stride, no y0 and no period of its own.
+///
+/// ```
+/// use rolbhunga::{Frame, RowAnswer};
+///
+/// let mut row = [1.0, 2.0];
+/// let answer = Frame::new(2, 1, 1).row().run(&[0, 0, 0, 0], &mut row, 0);
+/// assert_eq!(answer, RowAnswer::Done { skipped: 0 });
+/// ```
+#[derive(Debug, Clone, Copy, PartialEq)]
+pub struct Row {
+    pub width: usize,
+    pub planes: usize,
+    pub x0: usize,
+    pub full_width: usize,
+    pub full_height: usize,
+    pub scale: f32,
+}
+
+impl Row {
+    fn window(&self) -> ffi::RowWindow {
+        ffi::RowWindow {
+            width: self.width,
+            planes: self.planes,
+            x0: self.x0,
+            full_width: self.full_width,
+            full_height: self.full_height,
+        }
+    }
+
+    /// Runs a list on the image's row `y`, as the f32 run would. `row` has at most width·planes samples.
+    pub fn run(&self, list: &[u8], row: &mut [f32], y: usize) -> RowAnswer {
+        // Both slices are lent for the call alone.
+        RowAnswer::of(unsafe {
+            ffi::rolbhunga_run_row(
+                list.as_ptr(),
+                list.len(),
+                row.as_mut_ptr(),
+                row.len(),
+                self.window(),
+                y,
+                self.scale,
+            )
+        })
+    }
+
+    /// The same on samples that stand in bytes, little-endian. `work` as for [`Frame::bytes_f32`].
+    pub fn run_bytes(&self, list: &[u8], bytes: &mut [u8], y: usize, work: &mut [f32]) -> RowAnswer {
+        // As for `run`.
+        RowAnswer::of(unsafe {
+            ffi::rolbhunga_bytes_row(
+                list.as_ptr(),
+                list.len(),
+                bytes.as_mut_ptr(),
+                bytes.len(),
+                self.window(),
+                y,
+                self.scale,
+                work.as_mut_ptr(),
+                work.len(),
+            )
+        })
+    }
+}

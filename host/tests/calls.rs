@@ -1,0 +1,140 @@
+//! The wrappers over document 01's bench frames, the refusals, and samples in bytes.
+use rolbhunga::{read, Answer, Frame, Reading, Room, RowAnswer, Scratch};
+
+fn words(w: &[u32]) -> Vec<u8> {
+    w.iter().flat_map(|w| w.to_be_bytes()).collect()
+}
+
+fn list(entries: &[(u32, Vec<u8>)]) -> Vec<u8> {
+    let mut l = words(&[entries.len() as u32]);
+    for (id, body) in entries {
+        l.extend(words(&[*id, 0, 0, body.len() as u32]));
+        l.extend(body);
+    }
+    l
+}
+
+fn constant(c: u32) -> (u32, Vec<u8>) {
+    (4, words(&[c, 0]))
+}
+
+fn table(region: [u32; 8], entries: &[u16]) -> (u32, Vec<u8>) {
+    let mut b = words(&region);
+    b.extend(words(&[entries.len() as u32]));
+    b.extend(entries.iter().flat_map(|e| e.to_be_bytes()));
+    (7, b)
+}
+
+const ALL: [u32; 8] = [0, 0, 9, 9, 0, 1, 1, 1];
+
+fn run_f32(f: Frame, l: &[u8], samples: &mut [f32]) -> Answer {
+    f.run_f32(l, samples, &mut Scratch::enough(&f).room())
+}
+
+#[test]
+fn reading() {
+    assert_eq!(read(&[]), Reading::Malformed { entry: 0 });
+    assert_eq!(read(&[0; 4]), Reading::Whole);
+    assert_eq!(read(&words(&[4097])), Reading::Malformed { entry: 0 });
+    let l = list(&[(2, vec![]), constant(0)]);
+    assert_eq!(read(&l), Reading::Whole);
+    assert_eq!(read(&l[..l.len() - 1]), Reading::Malformed { entry: 1 });
+}
+
+#[test]
+fn means() {
+    let (f, l) = (Frame::new(3, 1, 1), list(&[constant(0)]));
+    let mut s = [10.0, 0.0, 19.0];
+    assert_eq!(run_f32(f, &l, &mut s), Answer::Done { names: 0, repaired: 1, left: 0 });
+    assert_eq!(s, [10.0, 14.5, 19.0]);
+    let mut u = [10, 0, 19];
+    let a = f.run_u16(&l, &mut u, &mut Scratch::enough(&f).room());
+    assert_eq!((a, u), (Answer::Done { names: 0, repaired: 1, left: 0 }, [10, 15, 19]));
+    assert_eq!(run_f32(Frame::new(1, 1, 1), &l, &mut [0.0]), Answer::Done { names: 0, repaired: 0, left: 1 });
+}
+
+#[test]
+fn tables() {
+    let mut s = [0.0, 1.0, 9.0];
+    let l = list(&[table(ALL, &[5, 7])]);
+    assert!(run_f32(Frame::new(3, 1, 1), &l, &mut s).is_whole());
+    assert_eq!(s, [5.0, 7.0, 7.0]);
+}
+
+#[test]
+fn an_empty_table() {
+    let (f, l) = (Frame::new(1, 1, 1), list(&[table(ALL, &[])]));
+    let mut scratch = Scratch::new(0, 0, 1);
+    assert_eq!(f.run_f32(&l, &mut [1.0], &mut scratch.room()), Answer::Done { names: 1, repaired: 0, left: 0 });
+    assert_eq!(scratch.names, [7]);
+    let a = f.run_u16(&l, &mut [1], &mut scratch.room());
+    assert_eq!(a, Answer::Done { names: 0, repaired: 0, left: 0 });
+    assert_eq!(f.row().run(&l, &mut [1.0], 0), RowAnswer::NotTaken);
+}
+
+#[test]
+fn refusals() {
+    let f = Frame::new(3, 1, 1);
+    let l = list(&[(2, vec![]), constant(0)]);
+    let mut s = [10.0, 0.0, 19.0];
+    let old = s;
+    let mut go = |f: Frame, l: &[u8], marks, values, names| {
+        let mut x = Scratch::new(marks, values, names);
+        x.marks.fill(9);
+        x.values.fill(9.0);
+        let a = f.run_f32(l, &mut s, &mut x.room());
+        assert!(x.marks.iter().all(|&m| m == 0) && x.values.iter().all(|&v| v == 0.0));
+        assert_eq!(s, old);
+        a
+    };
+    assert_eq!(go(f.period(65_537), &l, 1, 1, 1), Answer::Range);
+    assert_eq!(go(Frame::new(3, 1, 9), &[], 1, 1, 1), Answer::Range);
+    assert_eq!(go(f, &l[..30], 1, 1, 1), Answer::Malformed { entry: 1 });
+    assert_eq!(go(f, &l, 1, 1, 0), Answer::Names);
+    assert_eq!(go(f, &l, 0, 1, 1), Answer::Marks { opcode: 1 });
+    assert_eq!(go(f, &l, 1, 0, 1), Answer::Values { opcode: 1 });
+    let two = list(&[constant(0), constant(1)]);
+    let a = f.run_u16(&two, &mut [10, 0, 19], &mut Scratch::enough(&f).room());
+    assert_eq!((a, a.number()), (Answer::NotTaken, 3));
+}
+
+#[test]
+fn bytes() {
+    let (f, l) = (Frame::new(3, 1, 1), list(&[constant(0)]));
+    let (mut marks, mut values) = ([3], [3.0]);
+    let mut b = vec![0xab; 13];
+    for (i, v) in [10.0f32, 0.0, 19.0].iter().enumerate() {
+        b[4 * i..4 * i + 4].copy_from_slice(&v.to_le_bytes());
+    }
+    let before = b.clone();
+    let mut room = Room { marks: &mut marks, values: &mut values, names: &mut [] };
+    assert_eq!(f.bytes_f32(&l, &mut b, &mut [1.0; 2], &mut room), Answer::Work);
+    assert_eq!(b, before);
+    let mut work = [1.0; 4];
+    assert_eq!(f.bytes_f32(&l, &mut b, &mut work, &mut room), Answer::Done { names: 0, repaired: 1, left: 0 });
+    assert_eq!(&b[4..8], 14.5f32.to_le_bytes());
+    assert_eq!((b[12], work), (0xab, [0.0; 4]));
+    let mut b = [10, 0, 0, 0, 19, 0, 0xab];
+    let mut work = [5; 3];
+    assert_eq!(f.bytes_u16(&l, &mut b, &mut work, &mut room).number(), 0);
+    assert_eq!((b, work), ([10, 0, 15, 0, 19, 0, 0xab], [0; 3]));
+    let mut b = 2.0f32.to_le_bytes();
+    let scale = list(&[(12, [words(&ALL), words(&[1]), 3.0f32.to_be_bytes().to_vec()].concat())]);
+    let a = Frame::new(1, 1, 1).row().run_bytes(&scale, &mut b, 0, &mut [0.0]);
+    assert_eq!((a, b), (RowAnswer::Done { skipped: 0 }, 6.0f32.to_le_bytes()));
+}
+
+#[test]
+fn rows_are_the_frame() {
+    let l = list(&[table([0, 1, 9, 6, 0, 1, 1, 2], &[5, 7]), (2, vec![])]);
+    let f = Frame::new(4, 2, 1).at(2, 0).full(6, 2);
+    let mut whole = [0.0, 1.0, 2.0, 3.0, 0.0, 0.0, 9.0, 0.0];
+    let mut rows = whole;
+    assert_eq!(run_f32(f, &l, &mut whole), Answer::Done { names: 1, repaired: 0, left: 0 });
+    for (y, row) in rows.chunks_mut(4).enumerate() {
+        assert_eq!(f.row().run(&l, row, y), RowAnswer::Done { skipped: 1 });
+    }
+    assert_eq!(whole, rows);
+    assert_eq!(f.row().run(&l, &mut [0.0; 5], 0), RowAnswer::Range);
+    assert_eq!(f.row().run(&l, &mut [0.0; 4], 16_842_752), RowAnswer::Range);
+}
