@@ -31,7 +31,6 @@ use Rattle.replay.specs.Calls.{
   withSamples,
   withList,
   callIn,
-  Sound,
   soundIn,
   Read,
 }
