@@ -150,7 +150,7 @@ module _ {A : Type 0} (kind : Kind A) (w : Window) (period : ℕ) (room : Room) 
       (valuesFull s k))
       (marksFull s k)
 
-  -- One opcode, over the whole window. One that is skipped has a rule that changes nothing.
+  -- One opcode, over the whole window. One that is never applied, and a table with no entries, change nothing.
   abbrev pub performOn : Class → Opcode → List ℕ → (opcode : ℕ) → List A → (repaired left : ℕ) → Progress A
   performOn table op b k s r l = going (each (onWindow w (length s) (kind .rule op b)) s) r l
   performOn empty op b k s r l = going s r l

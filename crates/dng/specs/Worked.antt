@@ -20,9 +20,10 @@ use Rattle.dng.specs.declared.Opcode.the-variants.{WarpRectilinear, FixV
 use Rattle.dng.specs.declared.Parsed.{Parsed}
 use Rattle.dng.specs.declared.Parsed.the-variants as P
 use Rattle.dng.specs.List.{parsedAt, warpAt, badListAt, countedAt, polynomialAt, gainAt}
-use Rattle.dng.specs.Select.{onRegion}
+use Rattle.dng.specs.Select.{onRegion, active}
 use Rattle.dng.specs.Value.{Frame, mapTable, mapPolynomial, horner, nth, delta, scaled, position, mix, lineAt, gainOf, gained, ruleOf}
-use Rattle.dng.specs.Repair.{pointAt, rectAt, moved, sound, tallyOn, tallyAt}
+use Rattle.dng.specs.Repair.{complete, pointAt, rectAt, moved, sound, tallyOn, tallyAt}
+use Rattle.dng.specs.Run.{f32Kind}
 use Rattle.dng.specs.Frames.{words, whole}
 
 -- the bytes of f64 and of f32 values 1, 2, 3, 4, and of u16 entries
@@ -76,6 +77,9 @@ layouts =
 abbrev plain : Frame
 plain = record { scale = whole 1; fullWidth = 2; fullHeight = 2 }
 
+abbrev doubled : Frame
+doubled = record { scale = whole 2; fullWidth = 2; fullHeight = 2 }
+
 -- a table of 10, 11, 12, 13 after the region and n
 abbrev table4 : List ℕ
 table4 = area ++ (words (4 ∷ []) ++ (0 ∷ 10 ∷ 0 ∷ 11 ∷ 0 ∷ 12 ∷ 0 ∷ 13 ∷ []))
@@ -101,11 +105,15 @@ pub record Values : Type 0 where
   pub table-half : mapTable (whole 1) 4 table4 (fin false 5 (negsuc 0)) ≡ fin false 13 (pos 0)
   pub table-last : mapTable (whole 1) 4 table4 (inf false) ≡ fin false 13 (pos 0)
   pub table-nan : mapTable (whole 1) 4 table4 nan ≡ fin false 5 (pos 1)
+  -- at scale 2 the value 1 stands for 2, and the entry 12 for 6
+  pub table-scale : mapTable (whole 2) 4 table4 (whole 1) ≡ fin false 3 (pos 1)
   -- 1 + 2x at x = 3: the value 3 at scale 65535
   pub polynomial : mapPolynomial (whole 65535) 1 (area ++ (words (1 ∷ []) ++ doubles)) (whole 3) ≡ fin false 7 (pos 0)
   -- row 4 is the second selected row; a missing delta is 0.0, and −0 + 0.0 is +0
   pub delta-second : ruleOf plain (DeltaPerRow second 2) line2 true 4 0 1 (whole 1) ≡ fin false 131071 (pos 0)
   pub delta-missing : ruleOf plain (DeltaPerRow second 2) line2 true 6 0 1 (fin true 0 (pos 0)) ≡ fin false 0 (pos 0)
+  -- 1 + (2 · 65535) / 2
+  pub delta-scale : ruleOf doubled (DeltaPerRow second 2) line2 true 4 0 1 (whole 1) ≡ fin false 1 (pos 16)
   pub delta-outside : ruleOf plain (DeltaPerRow second 2) line2 true 3 0 1 (whole 1) ≡ fin false 1 (pos 0)
   -- the planes are counted from the region's first, and end with the map's last
   pub gain-first : gained plain point2 second 1 1 (record { «spacing_v» = double 0; «spacing_h» = double 0; «origin_v» = double 0; «origin_h» = double 0 }) 2 3 0 1 (whole 5) ≡ fin false 5 (pos 0)
@@ -117,7 +125,7 @@ pub record Values : Type 0 where
 pub values : Values
 unfolding big selects onColumns onRegion narrow roundHeld heldTo mapTable mapPolynomial horner nth delta scaled position mix lineAt gainOf gained ofBits ofFields odd trailingZeros ofInt round units size span climb mul div add sub neg sum lt toUnsigned
 values =
-    record { table-half = refl; table-last = refl; table-nan = refl; polynomial = refl; delta-second = refl; delta-missing = refl; delta-outside = refl; gain-first = refl; gain-second = refl; gain-last = refl; gain-between = refl }
+    record { table-half = refl; table-last = refl; table-nan = refl; table-scale = refl; polynomial = refl; delta-second = refl; delta-missing = refl; delta-scale = refl; delta-outside = refl; gain-first = refl; gain-second = refl; gain-last = refl; gain-between = refl }
 
 -- ---- repairs: three by three, the middle marked; the order of the neighbours shows where a sum is rounded
 
@@ -128,7 +136,22 @@ heavyAt cx cy x y = cond (eqb x cx && eqb y cy) (whole 16777216) (whole 1)
 abbrev middle : ℕ → Bool
 middle q = eqb q 4
 
+-- two by two, rows three pixels apart; and rows that would overlap
+abbrev apart : Window
+apart = record { width = 2; height = 2; planes = 1; stride = 3; x0 = 0; y0 = 0; «full_width» = 2; «full_height» = 2 }
+
+abbrev overlapping : Window
+overlapping = record { width = 2; height = 2; planes = 1; stride = 1; x0 = 0; y0 = 0; «full_width» = 2; «full_height» = 2 }
+
 pub record Repairs : Type 0 where
+  -- the last row needs its width, not its stride
+  pub complete-tight : complete apart 5 ≡ true
+  pub complete-short : complete apart 4 ≡ false
+  pub complete-never : complete overlapping 9 ≡ false
+  -- the constant 4 at scale 2 is 2; a constant is rounded to f32
+  pub constant-scale : f32Kind doubled .isBad 4 (whole 2) ≡ true
+  pub constant-unscaled : f32Kind doubled .isBad 4 (whole 4) ≡ false
+  pub constant-rounded : f32Kind plain .isBad 16777217 (whole 16777216) ≡ true
   -- left comes first: every 1 added to it is lost
   pub left-first : tallyAt 3 3 1 middle (heavyAt 0 1) 1 1 ≡ record { sum = fin false 1 (pos 24); n = 8 }
   -- up-right comes last: the seven before it add up exactly, and the sum is rounded once
@@ -143,6 +166,6 @@ pub record Repairs : Type 0 where
   pub rect-right : rectAt (words (0 ∷ 0 ∷ 1 ∷ 1 ∷ 2 ∷ 3 ∷ 5 ∷ [])) 0 0 2 5 ≡ false
 
 pub repairs : Repairs
-unfolding big pointAt rectAt moved sound tallyOn ofInt round units odd trailingZeros size span climb add sum
+unfolding big complete pointAt rectAt moved sound tallyOn ofInt round units odd trailingZeros size span climb add sum div eq active
 repairs =
-    record { left-first = refl; up-right-last = refl; up-left-fifth = refl; point = refl; point-turned = refl; rect-in = refl; rect-bottom = refl; rect-right = refl }
+    record { complete-tight = refl; complete-short = refl; complete-never = refl; constant-scale = refl; constant-unscaled = refl; constant-rounded = refl; left-first = refl; up-right-last = refl; up-left-fifth = refl; point = refl; point-turned = refl; rect-in = refl; rect-bottom = refl; rect-right = refl }

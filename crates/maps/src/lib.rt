@@ -5,6 +5,7 @@ ghost use Prim.Native.Nat.{suc, _+_, _-_, _*_, _≤_, _<_, min};
 ghost use lib.ListN.{length};
 ghost use lib.Ieee.{binary32, mul};
 ghost use Rattle.whole.specs.Whole.{roundHeld};
+ghost use Rattle.convert.specs.Convert.{wholeIn};
 ghost use Rattle.select.specs.Walks.{walked, Walks};
 ghost use Rattle.dng.specs.Value.{mapTable, mapTable16, tableAt, mapPolynomial, horner, nought};
 ghost use Rattle.maps.specs.Terms.{termAt, Holds};
@@ -72,20 +73,28 @@ fn index_of(n: u32, scale: f32, v: f32) -> u32
     whole::round_held(v * scale, last_of(n))
 }
 
+// The same of a table of up to 2^24 entries, with no branch: `top` is the last one's number as a float, worked out once a row.
+fn index_below(n: u32, top: f32, scale: f32, v: f32) -> u32
+    requires { ⌜ (1 ≤ n) × (n ≤ 16777216) × (top ≡ wholeIn binary32 (n - 1)) ⌝ }
+    ensures { λ r. ⌜ r ≡ roundHeld (n - 1) (mul binary32 v scale) ⌝ }
+{
+    whole::round_below(v * scale, last_of(n), top)
+}
+
 fn table_value(body: &[u8], n: u32, scale: f32, v: f32) -> f32
     ensures { λ r. ⌜ r ≡ mapTable scale n (now (body .entry)) v ⌝ }
 {
     convert::f32_of_u16(entry(body, index_of(n, scale, v))) / scale
 }
 
-fn full_value(body: &[u8], n: u32, scale: f32, v: f32) -> f32
-    requires { ⌜ (1 ≤ n) × (36 + 2 * n ≤ length (now body)) ⌝ }
+fn full_value(body: &[u8], n: u32, top: f32, scale: f32, v: f32) -> f32
+    requires { ⌜ (1 ≤ n) × (n ≤ 16777216) × (36 + 2 * n ≤ length (now body)) × (top ≡ wholeIn binary32 (n - 1)) ⌝ }
     ensures { λ r. ⌜ r ≡ mapTable scale n (now (body .entry)) v ⌝ }
 {
-    convert::f32_of_u16(full_entry(body, index_of(n, scale, v))) / scale
+    convert::f32_of_u16(full_entry(body, index_below(n, top, scale, v))) / scale
 }
 
-// A body that ends before its table does.
+// A body that ends before its table does, or a table of more than 2^24 entries, which no reader lets through.
 fn short_row(row: &mut [f32], k: Walk, body: &[u8], n: u32, scale: f32)
     requires { ⌜ Walks k (length (now row)) ⌝ }
     ensures { λ _. ⌜ now (row .exit) ≡ walked k (λ x p v. mapTable scale n (now (body .entry)) v) (now (row .entry)) ⌝ }
@@ -102,15 +111,16 @@ fn short_row(row: &mut [f32], k: Walk, body: &[u8], n: u32, scale: f32)
 }
 
 fn full_row(row: &mut [f32], k: Walk, body: &[u8], n: u32, scale: f32)
-    requires { ⌜ (Walks k (length (now row))) × (1 ≤ n) × (36 + 2 * n ≤ length (now body)) ⌝ }
+    requires { ⌜ (Walks k (length (now row))) × (1 ≤ n) × (n ≤ 16777216) × (36 + 2 * n ≤ length (now body)) ⌝ }
     ensures { λ _. ⌜ now (row .exit) ≡ walked k (λ x p v. mapTable scale n (now (body .entry)) v) (now (row .entry)) ⌝ }
 {
+    let top = convert::f32_of_u32(last_of(n));
     let stop = stop_of(k, row.len());
     let step = k.pitch * k.planes;
     let mut i = k.col * k.planes + k.plane;
     let mut c = k.col;
     while i < stop {
-        row[i] = full_value(body, n, scale, row[i]);
+        row[i] = full_value(body, n, top, scale, row[i]);
         i += step;
         c += k.pitch;
     }
@@ -121,11 +131,13 @@ pub fn table_row(row: &mut [f32], k: Walk, body: &[u8], n: u32, scale: f32)
     requires { ⌜ (Walks k (length (now row))) × (1 ≤ n) ⌝ }
     ensures { λ _. ⌜ now (row .exit) ≡ walked k (λ x p v. mapTable scale n (now (body .entry)) v) (now (row .entry)) ⌝ }
 {
-    if 36 + 2 * (n as usize) <= body.len() {
-        full_row(row, k, body, n, scale);
-    } else {
-        short_row(row, k, body, n, scale);
+    if n <= 16777216 {
+        if 36 + 2 * (n as usize) <= body.len() {
+            full_row(row, k, body, n, scale);
+            return;
+        }
     }
+    short_row(row, k, body, n, scale);
 }
 
 // ---- tables, u16

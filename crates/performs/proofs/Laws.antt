@@ -23,7 +23,7 @@ use Rattle.dng.specs.Run.{Kind, Room, Progress, going, marksFull, valuesFull, c
 use Rattle.dng.specs.Answer.{inRange}
 use Rattle.list.specs.Count.{countOf}
 use Rattle.list.proofs.Fold.{start, begin, item, stop, end, count-bound}
-use Rattle.windows.proofs.Turns.{window-fits}
+use Rattle.turns.proofs.Turns.{window-fits}
 use Rattle.repair.specs.declared.Fixed.{Fixed}
 use Rattle.repair.specs.declared.Fixed.the-variants as F
 use Rattle.repair.specs.Fixes as Fixes

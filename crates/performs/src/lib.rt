@@ -16,7 +16,7 @@ ghost use Rattle.dng.specs.Value.{ruleOf, rule16Of};
 ghost use Rattle.dng.specs.Run.{f32Kind, u16Kind, going, performAll};
 ghost use Rattle.dng.specs.Answer.{inRange, frameOf};
 ghost use Rattle.dng.specs.Bounds.{bounded};
-ghost use Rattle.windows.specs.Windows.{WindowFits};
+ghost use Rattle.turns.specs.Windows.{WindowFits};
 ghost use Rattle.performs.specs.Performs.{progressOf, Steps, Stepped};
 
 // All opcodes performed, with the positions repaired and left; or stopped at an opcode by too little room for its marks (5) or its new values (6).

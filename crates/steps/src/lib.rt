@@ -175,7 +175,7 @@ fn scale_rows(row: &mut [f32], k: Walk, r: Region, y: u32, body: &[u8], n: u32)
 }
 
 // The plane of a map for a plane of a row, counted from the region's first; past the map's last, the last.
-fn map_plane(plane: usize, first: u32, planes: u32) -> u32
+pub fn map_plane(plane: usize, first: u32, planes: u32) -> u32
     ensures { λ r. ⌜ r ≡ mapPlane plane first planes ⌝ }
 {
     let last = select::larger(planes as usize, 1) - 1;
@@ -258,7 +258,7 @@ fn one_plane(row: &mut [f32], k: Walk, r: Region, t: Task, g: Place, body: &[u8]
     }
 }
 
-fn walk_at(g: Place, r: Region, start: Start, plane: usize) -> Walk
+pub fn walk_at(g: Place, r: Region, start: Start, plane: usize) -> Walk
     ensures { λ k. ⌜ WalkIs g r start plane k ⌝ }
 {
     Walk {
@@ -276,13 +276,13 @@ fn walk_at(g: Place, r: Region, start: Start, plane: usize) -> Walk
 // ---- a row
 
 // Past the last plane that the region and the row have.
-fn planes_end(g: Place, r: Region) -> usize
+pub fn planes_end(g: Place, r: Region) -> usize
     ensures { λ e. ⌜ e ≡ min (r .plane + r .planes) (g .planes) ⌝ }
 {
     select::plane_end(r.plane, r.planes, g.planes as usize)
 }
 
-fn selected(g: Place, r: Region) -> bool
+pub fn selected(g: Place, r: Region) -> bool
     ensures { λ b. ⌜ b ≡ selects (r .top) (r .bottom) (r .«row_pitch») (g .y) ⌝ }
 {
     select::row_selected(r.top, r.bottom, r.row_pitch, g.y as usize)

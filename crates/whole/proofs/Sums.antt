@@ -95,10 +95,10 @@ module _ (m : ℕ) (e : ℤ) (few : m < 2 ^ 24) (low : m * up e < 2 ^ 24 * down 
   in-range : (0 < 2 * down e) × (2 * (m * up e) + down e < 2 ^ 26 * (2 * down e))
   in-range = room (m * up e) (down e) (down-pos e) low
 
-  sum-bits : toBits binary64 (add binary64 (fin false m e) half-up) / 67108864 % 67108864 ≡ (2 * (m * up e) + down e) / (2 * down e)
+  pub sum-bits : toBits binary64 (add binary64 (fin false m e) half-up) / 67108864 % 67108864 ≡ (2 * (m * up e) + down e) / (2 * down e)
   sum-bits = rw (sum-is m e) (cut-bits (2 * (m * up e) + down e) (2 * down e) (in-range .0) (in-range .1) (gap-at m e few))
 
-  sum-no-nan : T (not (isNan (add binary64 (fin false m e) half-up)))
+  pub sum-no-nan : T (not (isNan (add binary64 (fin false m e) half-up)))
   sum-no-nan = rw (sum-is m e) (no-nan _ _ _ _ (cut-value (2 * (m * up e) + down e) (2 * down e) (in-range .0) (in-range .1) (gap-at m e few)))
 
 -- ---- x held from below by 0
@@ -133,7 +133,7 @@ at-zero x p r = record {
   rounds = λ last. r last ∙ sym (zero-min last);
 }
 
-zero-rounds : (n d last : ℕ) → 0 < d → n ≤ 0 → min ((2 * n + d) / (2 * d)) last ≡ 0
+pub zero-rounds : (n d last : ℕ) → 0 < d → n ≤ 0 → min ((2 * n + d) / (2 * d)) last ≡ 0
 zero-rounds n d last p h = ap (λ (z : ℕ). min z last) (div-eq-of-lt (under n d p h)) ∙ zero-min last
   where
     under : (n d : ℕ) → 0 < d → n ≤ 0 → 2 * n + d < 2 * d

@@ -1,9 +1,10 @@
 // From a float to a whole number: rounded half away from zero and held, or rounded down with what is left.
 ghost use mathlib.Core.Path.{_≡_};
+ghost use Prim.Native.Nat.{_<_};
 ghost use lib.IntN.{pos};
 ghost use lib.Dec.{T};
 ghost use mathlib.Core.Bool.{false};
-ghost use lib.Ieee.{fin, lt};
+ghost use lib.Ieee.{fin, lt, binary32, ofInt};
 ghost use Rattle.whole.specs.Whole.{roundHeld, FloorIs};
 
 // An x below 2^24, which no NaN is. A negative x gives 0, as 0.0 does.
@@ -43,6 +44,17 @@ pub fn round_held(x: f32, last: u32) -> u32
     } else {
         round_large(x, last)
     }
+}
+
+// The same where last is below 2^24 and `top` is that number as a float: held before the sum, in floats, so that there is no branch.
+pub fn round_below(x: f32, last: u32, top: f32) -> u32
+    requires { ⌜ (last < 16777216) × (top ≡ ofInt binary32 (pos last)) ⌝ }
+    ensures { λ r. ⌜ r ≡ roundHeld last x ⌝ }
+{
+    let raised = if x > 0.0 { x } else { 0.0 };
+    let kept = if raised < top { raised } else { top };
+    let bits = f64::to_bits(kept as f64 + 67108864.5);
+    (bits / 0x400_0000 % 0x400_0000) as u32
 }
 
 // The same for a u16 sample.

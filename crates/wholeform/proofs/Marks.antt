@@ -178,6 +178,10 @@ module _ (w : Window) (period : ℕ) (bad bad′ : ℕ → Bool) (same : Agree w
   sound-at-same : (q : ℕ) → soundAt w period bad q ≡ soundAt w period bad′ q
   sound-at-same q = sound-on-same (q % w .width) (q / w .width) steps
 
+  pub marked-same : markedIn w bad ≡ markedIn w bad′
+  unfolding markedIn
+  marked-same = count-same (positions w) bad bad′ same
+
   pub repaired-same : repairedIn w period bad ≡ repairedIn w period bad′
   unfolding repairedIn
   repaired-same =

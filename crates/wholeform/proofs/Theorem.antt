@@ -1,7 +1,8 @@
--- Demand 3 for the whole-number form: it equals widen, run at scale 1, round once and hold. Assumes nothing.
+-- Demand 3 for the whole-number form: it equals widen, run at scale 1, round once and hold; on every answer where both have the same scratch.
+-- Assumes nothing.
 use Prim.Native.Nat.{ℕ, _≤_, _<_}
 use mathlib.Core.Path.{_≡_, refl, sym, ap, ap₂, _∙_}
-use mathlib.Core.Bool.{Bool, true, cond}
+use mathlib.Core.Bool.{Bool, true, false, cond}
 use mathlib.Core.List.{List}
 use borrow.Author.Tests.{leb-true, le-leb}
 use lib.Dec.{leb}
@@ -13,12 +14,14 @@ use Rattle.dng.specs.declared.Reading.the-variants as R
 use Rattle.dng.specs.declared.Answer.the-variants as Ans
 use Rattle.dng.specs.List.{Item, readingOf, itemsOf}
 use Rattle.dng.specs.Value.{one}
-use Rattle.dng.specs.Run.{Class, Kind, f32Kind, u16Kind, skipped, skipped16, takes16, namesOf, going, Room, performAll}
-use Rattle.dng.specs.Answer.{Out, inRange, unchanged, finished, ranOn, readOut, runOut, takesAll, frameOf}
-use Rattle.wholeform.specs.WholeForm.{Whole-form, widened, narrowed, atOne}
-use Rattle.wholeform.proofs.Pairs.{pairs-widened, pairs-narrowed}
+use Rattle.dng.specs.Run.{Class, Kind, f32Kind, u16Kind, skipped, skipped16, takes16, namesOf, Progress, going, Room, performAll}
+use Rattle.dng.specs.Answer.{Out, inRange, unchanged, finished, ranOn, readOut, runOut, takesAll, frameOf, u16Out}
+use Rattle.wholeform.specs.WholeForm.{Below, Enough, Whole-form, widened, narrowed, atOne}
+use Rattle.wholeform.specs.Together.{renamed, Together·if, Same-scratch}
+use Rattle.wholeform.proofs.Near.{Near, exact-near}
+use Rattle.wholeform.proofs.Pairs.{Pairs, pairs-weaken, pairs-widened, pairs-narrowed}
 use Rattle.wholeform.proofs.Marks.{and-first, and-second}
-use Rattle.wholeform.proofs.Run.{kind32, runs}
+use Rattle.wholeform.proofs.Run.{kind32, Ends, ended, endedMarks, endedValues, tests-same, tests-enough, runs}
 use Rattle.wholeform.proofs.Names.{names-without}
 
 some-planes : (w : Window) (period : ℕ) → inRange w period ≡ true → 0 < w .planes
@@ -48,11 +51,29 @@ run-is {A} kind takes skip w period room list s names n ranges whole taken roomy
     done : Out A
     done = finished (namesOf skip (itemsOf list)) names (performAll kind w period room list 0 (itemsOf list) (going s 0 0))
 
+-- with room for any repair both go on to the end
+record Both (p : Progress ℕ) (q : Progress Float) : Type 0 where
+  samples16 : List ℕ
+  samples32 : List Float
+  repaired : ℕ
+  left : ℕ
+  is16 : p ≡ going samples16 repaired left
+  is32 : q ≡ going samples32 repaired left
+  pairs : Pairs Near samples16 samples32
+
+both : {w : Window} {room : Room} {p : Progress ℕ} {q : Progress Float} → Ends w room p q → Enough w room → Both p q
+both (ended {s = s} {t = t} {r = r} {l = l} ps) enough =
+    record { samples16 = s; samples32 = t; repaired = r; left = l; is16 = refl; is32 = refl; pairs = ps }
+both (endedMarks short ps) enough = absurd (short enough)
+both (endedValues short ps) enough = absurd (short enough)
+
 pub whole-form : Whole-form
 whole-form w period room room′ list s names names′ h =
     let ends =
-    runs w period room room′ (some-planes w period (h .ranges)) (h .enough) (h .enough′) list (h .bytes) true (itemsOf list) 0
-    s (widened s) 0 0 (h .taken) (pairs-widened s (h .words)) in
+    both
+    (runs w period room room′ (some-planes w period (h .ranges)) (tests-enough w period room room′ (h .enough) (h .enough′)) list (h .bytes) true
+    (itemsOf list) 0 s (widened s) 0 0 (h .taken) (pairs-widened s (h .words)))
+    (h .enough) in
     let out16 : runOut u16Kind takes16 skipped16 w period room list s names
     ≡ finished (namesOf skipped16 (itemsOf list)) names (going (ends .samples16) (ends .repaired) (ends .left)) =
     run-is u16Kind takes16 skipped16 w period room list s names (h .opcodes) (h .ranges) (h .whole) (h .taken) (h .roomy)
@@ -71,3 +92,50 @@ whole-form w period room room′ list s names names′ h =
           ∙ sym (ap (λ (o : Out Float). narrowed (o .samples)) out32);
       named = names-without (itemsOf list);
     }
+
+-- ---- with the same scratch
+
+-- samples that nothing has touched
+untouched : (s : List ℕ) → Below 65536 s → s ≡ narrowed (widened s)
+untouched s h = pairs-narrowed s (widened s) (pairs-weaken (λ a v x. exact-near x) (pairs-widened s h))
+
+module _ (w : Window) (period : ℕ) (room : Room) (list s names names′ : List ℕ) (h : Together·if list s names names′) where
+  abbrev names16 : List ℕ
+  names16 = namesOf skipped16 (itemsOf list)
+
+  abbrev names32 : List ℕ
+  names32 = namesOf skipped (itemsOf list)
+
+  -- two outcomes that agree
+  abbrev Alike : Out ℕ → Out Float → Type 0
+  Alike o o′ = (o′ .answer ≡ renamed (length names32) (o .answer)) × (o .samples ≡ narrowed (o′ .samples))
+
+  alike-ends : {p : Progress ℕ} {q : Progress Float} → Ends w room p q → Alike (finished names16 names p) (finished names32 names′ q)
+  alike-ends (ended {s = x} {t = y} ps) = (refl, pairs-narrowed x y ps)
+  alike-ends (endedMarks {s = x} {t = y} short ps) = (refl, pairs-narrowed x y ps)
+  alike-ends (endedValues {s = x} {t = y} short ps) = (refl, pairs-narrowed x y ps)
+
+  alike-ran : inRange w period ≡ true
+      → Alike (ranOn u16Kind takes16 skipped16 w period room list s names) (ranOn (kind32 w) takesAll skipped w period room list (widened s) names′)
+  unfolding ranOn
+  alike-ran ranges =
+      rw (h .taken, le-leb (length names16) (length names) (h .roomy), le-leb (length names32) (length names′) (h .roomy′))
+      (alike-ends
+      (runs w period room room (some-planes w period ranges) (tests-same w period room) list (h .bytes) true (itemsOf list) 0 s (widened s) 0 0 (h .taken)
+      (pairs-widened s (h .words))))
+
+  alike : Alike (u16Out w period room list s names) (runOut (kind32 w) takesAll skipped w period room list (widened s) names′)
+  unfolding runOut
+  alike = go (inRange w period) (readingOf list) refl
+    where
+      go : (i : Bool) (r : Reading) → inRange w period ≡ i
+          → Alike (cond i (readOut u16Kind takes16 skipped16 w period room list s names r) (unchanged Ans.Range s names))
+          (cond i (readOut (kind32 w) takesAll skipped w period room list (widened s) names′ r) (unchanged Ans.Range (widened s) names′))
+      go true (R.Whole n) i = alike-ran i
+      go true (R.Malformed k) i = (refl, untouched s (h .words))
+      go false r i = (refl, untouched s (h .words))
+
+pub same-scratch : Same-scratch
+same-scratch w period room list s names names′ h =
+    let a = alike w period room list s names names′ h in
+    record { answers = a .0; samples = a .1 }

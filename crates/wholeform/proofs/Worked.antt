@@ -14,7 +14,8 @@ use Rattle.dng.specs.List.{readingOf, itemsOf, counted, readFrom, stepAt, nextA
 use Rattle.dng.specs.Run.{Room, namesOf, takes16From, takes16On}
 use Rattle.dng.specs.Answer.{inRange}
 use Rattle.wholeform.specs.WholeForm.{Below, WholeForm, WholeForm·if}
-use Rattle.wholeform.proofs.Theorem.{whole-form}
+use Rattle.wholeform.specs.Together.{Together, Together·if}
+use Rattle.wholeform.proofs.Theorem.{whole-form, same-scratch}
 
 abbrev all : ℕ → List ℕ → Bool
 all n [] = true
@@ -69,3 +70,9 @@ met =
 
 pub worked : WholeForm window 1 room room list samples (0 ∷ []) (0 ∷ 0 ∷ [])
 worked = whole-form window 1 room room list samples (0 ∷ []) (0 ∷ 0 ∷ []) met
+
+-- the same with no scratch at all, where both runs refuse the repair
+pub worked-together : Together window 1 (record { marks = 0; values = 0 }) list samples (0 ∷ []) (0 ∷ 0 ∷ [])
+worked-together =
+    same-scratch window 1 (record { marks = 0; values = 0 }) list samples (0 ∷ []) (0 ∷ 0 ∷ [])
+    (record { bytes = met .bytes; words = met .words; taken = met .taken; roomy = met .roomy; roomy′ = met .roomy′ })

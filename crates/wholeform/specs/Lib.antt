@@ -1,1 +1,2 @@
 pub mod WholeForm
+pub mod Together

@@ -1,7 +1,7 @@
-// One opcode over a whole window. Each row is lent from its own start, as a part of the samples.
+// One opcode over a whole window. Each row is lent from its own start, as a part of the samples. A gain map goes by blocks of columns.
 ghost use mathlib.Core.Path.{_≡_};
 ghost use mathlib.Core.Bool.{true};
-ghost use Prim.Native.Nat.{_*_, _<_, min};
+ghost use Prim.Native.Nat.{min};
 ghost use lib.ListN.{length};
 ghost use Rattle.points.specs.Points.{each};
 ghost use Rattle.dng.specs.Select.{onWindow};
@@ -9,45 +9,18 @@ ghost use Rattle.dng.specs.Bounds.{bounded};
 ghost use Rattle.dng.specs.Value.{ruleOf, rule16Of};
 ghost use Rattle.dng.specs.Answer.{frameOf};
 ghost use Rattle.steps.specs.Ready.{Ready};
-ghost use Rattle.windows.specs.Windows.{WindowFits, Ordered, placeOf};
+ghost use Rattle.turns.specs.Windows.{WindowFits, Ordered};
+ghost use Rattle.windows.specs.Gains.{GainIs};
+use dng::Grid;
 use dng::Opcode;
+use dng::Region;
 use dng::Window;
-use steps::Place;
 use steps::Prepared;
 
 fn smaller(a: usize, b: usize) -> usize
     ensures { λ r. ⌜ r ≡ min a b ⌝ }
 {
     if a < b { a } else { b }
-}
-
-// How many samples a row has, and how many lie from one row's start to the next.
-fn row_width(w: Window) -> usize
-    requires { ⌜ WindowFits w ⌝ }
-    ensures { λ r. ⌜ r ≡ w .width * w .planes ⌝ }
-{
-    w.width * w.planes
-}
-
-fn row_stride(w: Window) -> usize
-    requires { ⌜ WindowFits w ⌝ }
-    ensures { λ r. ⌜ r ≡ w .stride * w .planes ⌝ }
-{
-    w.stride * w.planes
-}
-
-// Where row y of the window lies in the image.
-fn place_at(w: Window, y: usize) -> Place
-    requires { ⌜ WindowFits w × (y < w .height) ⌝ }
-    ensures { λ g. ⌜ g ≡ placeOf w y ⌝ }
-{
-    Place {
-        x0: w.x0 as u32,
-        planes: w.planes as u32,
-        y: (w.y0 + y) as u32,
-        full_width: w.full_width as u32,
-        full_height: w.full_height as u32,
-    }
 }
 
 // Data may end early: the rows end where one would start past it, and the last may be shorter than the others.
@@ -60,8 +33,8 @@ fn rows(samples: &mut [f32], w: Window, op: Opcode, ready: Prepared, body: &[u8]
         ≡ each (onWindow w (length (now (samples .entry))) (ruleOf (frameOf w scale) op (now (body .entry)))) (now (samples .entry)) ⌝ }
 {
     let n = samples.len();
-    let width = row_width(w);
-    let step = row_stride(w);
+    let width = turns::row_width(w);
+    let step = turns::row_stride(w);
     let mut y = 0;
     let mut at = 0;
     while y < w.height {
@@ -71,7 +44,7 @@ fn rows(samples: &mut [f32], w: Window, op: Opcode, ready: Prepared, body: &[u8]
         let end = smaller(at + width, n);
         steps::row_step(
             &mut samples[at..end],
-            place_at(w, y),
+            turns::place_at(w, y),
             op,
             ready,
             body,
@@ -79,6 +52,83 @@ fn rows(samples: &mut [f32], w: Window, op: Opcode, ready: Prepared, body: &[u8]
         );
         at += step;
         y += 1;
+    }
+}
+
+fn by_rows(samples: &mut [f32], w: Window, op: Opcode, body: &[u8], scale: f32)
+    requires { ⌜ WindowFits w × Ordered w × (bounded op ≡ true) ⌝ }
+    ensures { λ _.
+        ⌜ now (samples .exit)
+        ≡ each (onWindow w (length (now (samples .entry))) (ruleOf (frameOf w scale) op (now (body .entry)))) (now (samples .entry)) ⌝ }
+{
+    let ready = steps::prepare(op, w.x0 as u32, w.full_width as u32, w.full_height as u32);
+    rows(samples, w, op, ready, body, scale);
+}
+
+// A gain map, or any other opcode.
+enum Gain {
+    Map {
+        region: Region,
+        points_v: u32,
+        points_h: u32,
+        grid: Grid,
+        map_planes: u32,
+    },
+    Other,
+}
+
+fn gain_of(op: Opcode) -> Gain
+    ensures { λ r. ⌜ GainIs op r ⌝ }
+{
+    match op {
+        Opcode::GainMap {
+            region,
+            points_v,
+            points_h,
+            grid,
+            map_planes,
+        } => Gain::Map {
+            region,
+            points_v,
+            points_h,
+            grid,
+            map_planes,
+        },
+        _ => Gain::Other,
+    }
+}
+
+// The rows of a gain map share the positions of their columns. A single row has nothing to share.
+fn by_kind(samples: &mut [f32], w: Window, op: Opcode, body: &[u8], scale: f32)
+    requires { ⌜ WindowFits w × Ordered w × (bounded op ≡ true) ⌝ }
+    ensures { λ _.
+        ⌜ now (samples .exit)
+        ≡ each (onWindow w (length (now (samples .entry))) (ruleOf (frameOf w scale) op (now (body .entry)))) (now (samples .entry)) ⌝ }
+{
+    if w.height < 2 {
+        by_rows(samples, w, op, body, scale);
+        return;
+    }
+    match gain_of(op) {
+        Gain::Map {
+            region,
+            points_v,
+            points_h,
+            grid,
+            map_planes,
+        } => {
+            gainwindow::gain_window(
+                samples,
+                w,
+                region,
+                body,
+                points_v,
+                points_h,
+                grid,
+                map_planes,
+            )
+        }
+        Gain::Other => by_rows(samples, w, op, body, scale),
     }
 }
 
@@ -95,8 +145,7 @@ pub fn window_step(samples: &mut [f32], w: Window, op: Opcode, body: &[u8], scal
     if w.stride < w.width {
         return;
     }
-    let ready = steps::prepare(op, w.x0 as u32, w.full_width as u32, w.full_height as u32);
-    rows(samples, w, op, ready, body, scale);
+    by_kind(samples, w, op, body, scale);
 }
 
 // ---- whole numbers
@@ -108,8 +157,8 @@ fn rows16(samples: &mut [u16], w: Window, op: Opcode, ready: Prepared, body: &[u
         ≡ each (onWindow w (length (now (samples .entry))) (rule16Of op (now (body .entry)))) (now (samples .entry)) ⌝ }
 {
     let n = samples.len();
-    let width = row_width(w);
-    let step = row_stride(w);
+    let width = turns::row_width(w);
+    let step = turns::row_stride(w);
     let mut y = 0;
     let mut at = 0;
     while y < w.height {
@@ -117,7 +166,13 @@ fn rows16(samples: &mut [u16], w: Window, op: Opcode, ready: Prepared, body: &[u
             return;
         }
         let end = smaller(at + width, n);
-        steps::row_step16(&mut samples[at..end], place_at(w, y), op, ready, body);
+        steps::row_step16(
+            &mut samples[at..end],
+            turns::place_at(w, y),
+            op,
+            ready,
+            body,
+        );
         at += step;
         y += 1;
     }

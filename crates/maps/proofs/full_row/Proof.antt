@@ -1,27 +1,28 @@
 -- `full_row` meets its contract: each turn is one step of the walk. Assumes nothing.
-use Prim.Native.Nat.{_-_}
-use mathlib.Core.Path.{refl}
+use Prim.Native.Nat.{ℕ, _-_}
+use mathlib.Core.Path.{_≡_, refl, ap, _∙_}
 use native.Mathlib.Omega.{arith}
 use borrow.Author.Needs.{needs}
 use lib.ListN.{length}
-use lib.Ieee.{nan}
+use lib.Ieee.{nan, binary32}
 use Rattle.points.proofs.Walk.{Upto, upto-begin, upto-next-by, upto-end, upto-le}
 use Rattle.select.specs.Walks.{walked, Walks}
+use Rattle.convert.specs.Convert.{wholeIn}
 use Rattle.dng.specs.Value.{mapTable}
 use Rattle.maps.proofs.Sizes.{at-least, begin-small, step-small, step-goes}
 use Rattle.maps.proofs.full_row.Statement.{statement}
 use Rattle.maps.proofs.full_row.Tie as tie
 
 abbrev Inv-loop : tie.InvT-loop
-Inv-loop row₀ k body n scale stop step i₀ c₀ row i c =
+Inv-loop row₀ k body n scale top stop step i₀ c₀ row i c =
     Upto (k .left) (k .right) (k .pitch) (k .plane) (k .x0) (k .planes) (λ x p v. mapTable scale n body v) row₀ row c i
 
 abbrev μ-loop : tie.MeasureT-loop
-μ-loop row₀ k body n scale stop step i₀ c₀ row i c = stop - i
+μ-loop row₀ k body n scale top stop step i₀ c₀ row i c = stop - i
 
 -- where the function began, from where the walk's end is worked out, and what is known of the walk
 abbrev begun : tie.After-stop-of Inv-loop μ-loop → tie.Start Inv-loop μ-loop
-begun c = c .before .before .before
+begun c = c .before .before .before .before .before
 
 walk : (c : tie.After-stop-of Inv-loop μ-loop) → Walks (begun c .args .k) (length (begun c .args .row .now))
 walk c = begun c .pre .0
@@ -30,8 +31,18 @@ walk c = begun c .pre .0
 abbrev ended : tie.At-loop Inv-loop μ-loop → tie.After-stop-of Inv-loop μ-loop
 ended a = a .before .before .before .before
 
+last-of-requires : tie.Need-last-of-requires Inv-loop μ-loop
+last-of-requires c κs = search needs
+
+f32-of-u32-requires : tie.Need-f32-of-u32-requires Inv-loop μ-loop
+f32-of-u32-requires c κs = search needs
+
+-- the last entry's number as a float
+top-is : (c : tie.After-f32-of-u32 Inv-loop μ-loop) → c .f32-of-u32 .result ≡ wholeIn binary32 (c .before .before .before .before .args .n - 1)
+top-is c = c .f32-of-u32 .ensures ∙ ap (λ (i : ℕ). wholeIn binary32 i) (c .before .last-of .ensures)
+
 stop-of-requires : tie.Need-stop-of-requires Inv-loop μ-loop
-stop-of-requires c κs = c .before .before .pre .0
+stop-of-requires c κs = c .before .before .before .before .pre .0
 
 mul-step : tie.Need-mul-step Inv-loop μ-loop
 mul-step c = omega (arith, step-small (walk (c .before)))
@@ -52,7 +63,10 @@ slice-read-full-value : tie.Need-slice-read-full-value Inv-loop μ-loop
 slice-read-full-value c = omega arith
 
 full-value-requires : tie.Need-full-value-requires Inv-loop μ-loop
-full-value-requires c κs = search needs
+full-value-requires c κs =
+    let e = ended (c .before .before) in
+    let p = begun e .pre in
+    (p .1, p .2, p .3, top-is (e .before))
 
 mul-row : tie.Need-mul-row Inv-loop μ-loop
 mul-row c = omega arith
@@ -91,6 +105,8 @@ full-row-spec =
     (tie.spec
     Inv-loop
     μ-loop
+    last-of-requires
+    f32-of-u32-requires
     stop-of-requires
     mul-step
     mul-i

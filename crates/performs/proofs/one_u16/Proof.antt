@@ -5,7 +5,7 @@ use lib.ListN.{length}
 use Rattle.dng.specs.List.{bodyOf}
 use Rattle.dng.specs.Run as Run
 use Rattle.classes.proofs.Laws.{told}
-use Rattle.windows.proofs.Turns.{window-fits}
+use Rattle.turns.proofs.Turns.{window-fits}
 use Rattle.performs.proofs.Laws.{passed, stepped, repaired}
 use borrow.Author.Needs.{needs}
 use Rattle.performs.proofs.one_u16.Statement.{statement}

@@ -7,7 +7,7 @@ use Rattle.dng.specs.Answer.{frameOf}
 use Rattle.dng.specs.Value.{ruleOf}
 use Rattle.steps.specs.declared.Place.{Place}
 use Rattle.steps.specs.Ready.{Ready}
-use Rattle.windows.proofs.Turns.{frameIn, wide-fits, step-fits, start-fits, Rows, rows-start, part-fits, rows-turn, rows-all, rows-short}
+use Rattle.turns.proofs.Turns.{frameIn, wide-fits, step-fits, start-fits, Rows, rows-start, part-fits, rows-turn, rows-all, rows-short}
 use Rattle.windows.proofs.rows.Statement.{statement}
 use Rattle.windows.proofs.rows.Tie as tie
 

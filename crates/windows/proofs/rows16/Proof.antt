@@ -6,7 +6,7 @@ use borrow.Author.Needs.{needs}
 use Rattle.dng.specs.Value.{rule16Of}
 use Rattle.steps.specs.declared.Place.{Place}
 use Rattle.steps.specs.Ready.{Ready}
-use Rattle.windows.proofs.Turns.{wide-fits, step-fits, start-fits, Rows, rows-start, part-fits, rows-turn, rows-all, rows-short}
+use Rattle.turns.proofs.Turns.{wide-fits, step-fits, start-fits, Rows, rows-start, part-fits, rows-turn, rows-all, rows-short}
 use Rattle.windows.proofs.rows16.Statement.{statement}
 use Rattle.windows.proofs.rows16.Tie as tie
 

@@ -1,6 +1,6 @@
 -- `window_step16` meets its contract: prepared once, then row by row; or left where no row is to be done. Assumes nothing.
 use borrow.Author.Needs.{needs}
-use Rattle.windows.proofs.Turns.{unordered-width, unordered-stride}
+use Rattle.turns.proofs.Turns.{unordered-width, unordered-stride}
 use Rattle.windows.proofs.window_step16.Statement.{statement}
 use Rattle.windows.proofs.window_step16.Tie as tie
 

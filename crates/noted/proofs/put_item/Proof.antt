@@ -1,0 +1,78 @@
+-- `noted::put_item` meets its contract, by whether the name occurs more than once. Assumes nothing.
+use native.Mathlib.Omega.{arith}
+use denote.Ref.{now}
+use Rattle.texts.proofs.Laws.{appended-as, appended-then}
+use Rattle.noted.proofs.Names.{name-in-item, item-once, item-times, item-length}
+use borrow.Author.Needs.{needs}
+use Rattle.noted.proofs.put_item.Statement.{statement}
+use Rattle.noted.proofs.put_item.Tie as tie
+
+put-name-requires : tie.Need-put-name-requires
+put-name-requires c κs = let a = c .before .before .before .args in omega (arith, name-in-item (now (a .codes)) (a .code))
+
+count-requires : tie.Need-count-requires
+count-requires c κs = search needs
+
+slice-aggregate-put : tie.Need-slice-aggregate-put
+slice-aggregate-put c = search needs
+
+put-requires : tie.Need-put-requires
+put-requires c κs =
+    let b6 = c .before .before .before .before .before .before in
+    let a = b6 .before .before .before .before .args in
+    omega (
+      arith,
+      b6 .put-name .kept .0,
+      b6 .put-name .ensures .ends,
+      b6 .before .before .before .before .pre,
+      item-length (now (a .codes)) (a .code) (c .before .before .before .count .ensures) (omega arith),
+    )
+
+put-number-requires : tie.Need-put-number-requires
+put-number-requires c κs =
+    let b3 = c .before .before .before in
+    let b10 = b3 .before .before .before .before .before .before .before in
+    let a = b10 .before .before .before .before .args in
+    omega (
+      arith,
+      b3 .put .kept .0,
+      b3 .put .ensures .ends,
+      b10 .put-name .kept .0,
+      b10 .put-name .ensures .ends,
+      b10 .before .before .before .before .pre,
+      item-length (now (a .codes)) (a .code) (b3 .before .before .before .before .count .ensures) (omega arith),
+    )
+
+same-length : tie.Need-same-length
+same-length c = search needs
+
+returns : tie.Need-returns
+returns c =
+    let b6 = c .before .before .before .before .before .before in
+    let b13 = b6 .before .before .before .before .before .before .before in
+    let a = b13 .before .before .before .before .args in
+    appended-as (item-times (now (a .codes)) (a .code) (b6 .before .before .before .before .count .ensures) (omega arith))
+    (appended-then (appended-then (b13 .put-name .ensures) (b6 .put .ensures)) (c .before .before .put-number .ensures))
+
+same-length-2 : tie.Need-same-length-2
+same-length-2 c = search needs
+
+returns-2 : tie.Need-returns-2
+returns-2 c =
+    let b4 = c .before .before .before .before in
+    let a = b4 .before .before .before .before .args in
+    appended-as (item-once (now (a .codes)) (a .code) (c .before .count .ensures) (omega arith)) (b4 .put-name .ensures)
+
+pub put-item-spec : {M : Type 1} → statement M
+put-item-spec =
+    tie.close
+    (tie.spec
+    put-name-requires
+    count-requires
+    slice-aggregate-put
+    put-requires
+    put-number-requires
+    same-length
+    returns
+    same-length-2
+    returns-2)

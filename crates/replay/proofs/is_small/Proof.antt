@@ -1,0 +1,16 @@
+-- `replay::is_small` meets its contract: it is the tests of the definition. Assumes nothing.
+use mathlib.Core.Path.{refl}
+use Rattle.replay.specs.Calls.{smallOf}
+use borrow.Author.Needs.{needs}
+use Rattle.replay.proofs.is_small.Statement.{statement}
+use Rattle.replay.proofs.is_small.Tie as tie
+
+sub-result : tie.Need-sub-result
+sub-result c = search needs
+
+returns : tie.Need-returns
+unfolding smallOf
+returns c = refl
+
+pub is-small-spec : {M : Type 1} → statement M
+is-small-spec = tie.close (tie.spec sub-result returns)

@@ -1,0 +1,44 @@
+-- `replay::put_pair` meets its contract. Assumes nothing.
+use Prim.Native.Nat.{ℕ}
+use mathlib.Core.Path.{ap₂, _∙_}
+use mathlib.Core.List.{[], _∷_, _++_}
+use denote.Ref.{now}
+use native.Mathlib.Omega.{arith}
+use lib.ListN.{take, length-set}
+use Rattle.replay.proofs.Laws.{pair-put}
+use borrow.Author.Needs.{needs}
+use Rattle.replay.proofs.put_pair.Statement.{statement}
+use Rattle.replay.proofs.put_pair.Tie as tie
+
+digit-requires : tie.Need-digit-requires
+digit-requires c κs = search needs
+
+slice-write-text : tie.Need-slice-write-text
+slice-write-text c = search needs
+
+digit-requires-2 : tie.Need-digit-requires-2
+digit-requires-2 c κs = search needs
+
+add-text : tie.Need-add-text
+add-text c = search needs
+
+slice-write-text-2 : tie.Need-slice-write-text-2
+slice-write-text-2 c = simp length-set (omega arith)
+
+same-length : tie.Need-same-length
+same-length c = search needs
+
+returns : tie.Need-returns
+returns c = pair-put _ _ _ _ (c .before .before .before .pre) ∙ ap₂ (λ (x y : ℕ). take (c .before .before .before .args .at) (now (c .before .before .before .args .text)) ++ (x ∷ y ∷ [])) (c .before .digit .ensures) (c .digit2 .ensures)
+
+pub put-pair-spec : {M : Type 1} → statement M
+put-pair-spec =
+    tie.close
+    (tie.spec
+    digit-requires
+    slice-write-text
+    digit-requires-2
+    add-text
+    slice-write-text-2
+    same-length
+    returns)
