@@ -97,7 +97,7 @@ pub fn write(folder: &str, seed: u64) {
     let mut seen: BTreeMap<String, usize> = BTreeMap::new();
     let mut number = 0;
     while number < 40_000 && cases.len() < 120_000 {
-        let (c, o) = made(seed, number);
+        let (c, o) = made(seed, number, true);
         number += 1;
         if !fits(&c) {
             continue;

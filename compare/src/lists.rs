@@ -366,3 +366,24 @@ pub fn damage(r: &mut Rng, l: &mut Vec<u8>) {
         }
     }
 }
+
+// Polynomials that show what chance hides: zeros alone, of either sign, show the sign of each sum; a line that is 0 at one of the common
+// samples shows a step that is not rounded.
+pub fn sharpen(r: &mut Rng, l: &mut [u8]) {
+    for at in starts(l) {
+        let (id, body) = (u32::from_be_bytes([l[at], l[at + 1], l[at + 2], l[at + 3]]), at + 16);
+        if id != 8 || l.len() < body + 36 + 16 {
+            continue;
+        }
+        let mut coefficients = [r.pick(&[0, 1 << 63]), r.pick(&[0, 1 << 63])];
+        let degree = r.below(2);
+        if degree == 1 && r.once(2) {
+            let x = ((1 + r.below(4)) as f32 / 65535.0) as f64;
+            let c = f64::from_bits(0x3ff0 << 48 | r.next() >> 12);
+            coefficients = [(-(c * x)).to_bits(), c.to_bits()];
+        }
+        l[body + 32..body + 36].copy_from_slice(&(degree as u32).to_be_bytes());
+        l[body + 36..body + 44].copy_from_slice(&coefficients[0].to_be_bytes());
+        l[body + 44..body + 52].copy_from_slice(&coefficients[1].to_be_bytes());
+    }
+}

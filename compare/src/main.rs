@@ -17,9 +17,14 @@ use std::env;
 use std::process::exit;
 use std::thread;
 
-fn made(seed: u64, number: u64) -> (Case, Oracle) {
+// The fixed list of calls is made of plain cases; a third of the others are sharpened, by numbers of their own.
+fn made(seed: u64, number: u64, plain: bool) -> (Case, Oracle) {
     let mut r = Rng::new(seed, number);
     let mut c = Case::any(&mut r);
+    let mut own = Rng::new(!seed, number);
+    if !plain && own.once(3) {
+        lists::sharpen(&mut own, &mut c.list);
+    }
     let o = Oracle::of(&c);
     c.set_lengths(&mut r, &o);
     (c, o)
@@ -40,7 +45,7 @@ fn sweep(seed: u64, from: u64, to: u64, step: u64) -> (Counts, u64) {
     let (mut n, mut wrong) = (Counts::new(), 0);
     let mut k = from;
     while k < to {
-        let (c, o) = made(seed, k);
+        let (c, o) = made(seed, k, false);
         check::count(&c, &o, &mut n);
         if let Err(why) = check::check(&c, &o) {
             wrong += 1;
