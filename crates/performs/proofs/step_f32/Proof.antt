@@ -1,0 +1,27 @@
+-- `performs::step_f32` meets its contract: the window's own, with the body as the entry has it. Assumes nothing.
+use mathlib.Core.List.{List}
+use Prim.Native.Nat.{ℕ}
+use denote.Ref.{now}
+use Rattle.dng.specs.Value.{ruleOf}
+use Rattle.dng.specs.Answer.{frameOf}
+use Rattle.performs.proofs.Laws.{lent}
+use borrow.Author.Needs.{needs}
+use Rattle.performs.proofs.step_f32.Statement.{statement}
+use Rattle.performs.proofs.step_f32.Tie as tie
+
+body-requires : tie.Need-body-requires
+body-requires c κs = search needs
+
+window-step-requires : tie.Need-window-step-requires
+window-step-requires c κs = search needs
+
+same-length : tie.Need-same-length
+same-length c = search needs
+
+returns : tie.Need-returns
+returns c =
+    let a = c .before .before .before .before .before .before .before .args in
+    lent (a .w) (λ (l : List ℕ). ruleOf (frameOf (a .w) (a .scale)) (a .op) l) (now (a .samples)) (c .before .before .before .body .ensures) (c .before .before .window-step .ensures)
+
+pub step-f32-spec : {M : Type 1} → statement M
+step-f32-spec = tie.close (tie.spec body-requires window-step-requires same-length returns)

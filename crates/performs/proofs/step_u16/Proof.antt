@@ -1,0 +1,26 @@
+-- `performs::step_u16` meets its contract: the window's own, with the body as the entry has it. Assumes nothing.
+use mathlib.Core.List.{List}
+use Prim.Native.Nat.{ℕ}
+use denote.Ref.{now}
+use Rattle.dng.specs.Value.{rule16Of}
+use Rattle.performs.proofs.Laws.{lent}
+use borrow.Author.Needs.{needs}
+use Rattle.performs.proofs.step_u16.Statement.{statement}
+use Rattle.performs.proofs.step_u16.Tie as tie
+
+body-requires : tie.Need-body-requires
+body-requires c κs = search needs
+
+window-step16-requires : tie.Need-window-step16-requires
+window-step16-requires c κs = search needs
+
+same-length : tie.Need-same-length
+same-length c = search needs
+
+returns : tie.Need-returns
+returns c =
+    let a = c .before .before .before .before .before .before .before .args in
+    lent (a .w) (λ (l : List ℕ). rule16Of (a .op) l) (now (a .samples)) (c .before .before .before .body .ensures) (c .before .before .window-step16 .ensures)
+
+pub step-u16-spec : {M : Type 1} → statement M
+step-u16-spec = tie.close (tie.spec body-requires window-step16-requires same-length returns)

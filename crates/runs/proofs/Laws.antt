@@ -1,0 +1,110 @@
+-- What a plan makes of a run, over any sample kind, which lists a form takes and which opcodes it skips. Assumes nothing.
+use mathlib.Core.Path.{_≡_, refl, sym, ap, subst, _∙_}
+use mathlib.Core.Bool.{Bool, true, false, cond}
+use mathlib.Core.List.{List, [], _∷_, _++_, append-nil}
+use Prim.Native.Nat.{ℕ, zero, suc, _+_, _≤_, _<_}
+use native.Mathlib.Nat.{not-suc-le-zero, le-of-suc-le-suc}
+use native.Mathlib.Numerals.{add-one}
+use native.Mathlib.Omega.{arith}
+use lib.Ieee.{Float}
+use lib.ListN.{length, set, drop, replicate, drop-of-length-le}
+use Rattle.dng.specs.declared.Window.{Window}
+use Rattle.dng.specs.declared.Answer.{Answer}
+use Rattle.dng.specs.List.{Item, itemsOf}
+use Rattle.dng.specs.Run.{Kind, Class, namesOf, Progress, going, Room, performAll}
+use Rattle.dng.specs.Answer.{inRange, Out, finished, runOut, Ran}
+use Rattle.names.specs.Names.{writtenIn}
+use Rattle.names.proofs.Laws.{with-room}
+use Rattle.settles.specs.declared.Plan.{Plan}
+use Rattle.settles.specs.declared.Plan.the-variants as Go
+use Rattle.settles.specs.Plans.{planOf}
+use Rattle.settles.proofs.Laws.{Settled, refuses, performs, settled}
+use Rattle.performs.specs.declared.Performed.{Performed}
+use Rattle.performs.specs.declared.Performed.the-variants as P
+use Rattle.performs.specs.Performs.{progressOf}
+use Rattle.runs.specs.Runs.{isDone, answerOf, Is, Clear}
+
+-- the answer, the samples and the names of an output that is known
+is : {A : Type 0} {o : Out A} (p : Out A) → o ≡ p → Is o (p .answer) (p .samples) (p .names)
+is p e =
+    record {
+      answered = sym (ap (λ (x : Out _). x .answer) e);
+      left = sym (ap (λ (x : Out _). x .samples) e);
+      named = sym (ap (λ (x : Out _). x .names) e);
+    }
+
+-- written once all is performed
+pub when-done : (l names : List ℕ) {done : Bool} {names′ : List ℕ} → done ≡ true → names′ ≡ writtenIn l names → names′ ≡ cond done (writtenIn l names) names
+when-done l names b h = h ∙ sym (ap (λ (k : Bool). cond k (writtenIn l names) names) b)
+
+module _ {A : Type 0} (kind : Kind A) (takes : List Item → Bool) (skip : Class → Bool) (w : Window) (period : ℕ) (room : Room)
+    (list : List ℕ) (s : List A) (names : List ℕ) {p : Plan} (plan : p ≡ planOf takes skip list w period (length names)) where
+  -- a refusal leaves everything
+  pub refused : {a : Answer} → p ≡ Go.Refuse a → Is (runOut kind takes skip w period room list s names) a s names
+  refused q = is _ (refuses kind takes skip w period room list s names (sym plan ∙ q))
+
+  module _ {n : ℕ} (q : p ≡ Go.Go n) where
+    known : Settled takes skip list w period (length names) n
+    known = settled takes skip list w period (length names) (sym plan ∙ q)
+
+    pub goes : inRange w period ≡ true
+    goes = known .in-range
+
+    -- all performed and then named, or stopped and not named
+    pub ended :
+        (d : Performed) {done : Bool} {r : Answer} {s′ : List A} {names′ : List ℕ}
+        → progressOf d s′ ≡ performAll kind w period room list 0 (itemsOf list) (going s 0 0)
+        → done ≡ isDone d → names′ ≡ cond done (writtenIn (namesOf skip (itemsOf list)) names) names → r ≡ answerOf d n
+        → Is (runOut kind takes skip w period room list s names) r s′ names′
+    ended d {s′ = s′} {names′} e b h a =
+        go d (performs kind takes skip w period room list s names (sym plan ∙ q) ∙ ap (finished (namesOf skip (itemsOf list)) names) (sym e))
+        (h ∙ ap (λ (k : Bool). cond k (writtenIn (namesOf skip (itemsOf list)) names) names) b) a
+      where
+        fits : length (namesOf skip (itemsOf list)) ≤ length names
+        fits = rw (sym (known .many)) (known .fits)
+
+        go :
+            (d : Performed) {r : Answer}
+            → runOut kind takes skip w period room list s names ≡ finished (namesOf skip (itemsOf list)) names (progressOf d s′)
+            → names′ ≡ cond (isDone d) (writtenIn (namesOf skip (itemsOf list)) names) names → r ≡ answerOf d n
+            → Is (runOut kind takes skip w period room list s names) r s′ names′
+        go (P.All x y) o h a =
+            let i = is _ o in
+            record {
+              answered = a ∙ ap (λ (m : ℕ). answerOf (P.All x y) m) (known .many) ∙ i .answered;
+              left = i .left;
+              named = h ∙ with-room (namesOf skip (itemsOf list)) names fits ∙ i .named;
+            }
+        go (P.Marks k) o h a = let i = is _ o in record { answered = a ∙ i .answered; left = i .left; named = h ∙ i .named }
+        go (P.Values k) o h a = let i = is _ o in record { answered = a ∙ i .answered; left = i .left; named = h ∙ i .named }
+
+-- the scratch cleared after it, which kept its lengths
+pub ran :
+    {A : Type 0} {o : Out A} {r : Answer} {s : List A} {names : List ℕ} (m v : ℕ) {m′ v′ : ℕ} {marks : List ℕ} {values : List Float}
+    → m′ ≡ m → v′ ≡ v → Is o r s names → Clear m′ v′ marks values
+    → Ran o (record { marks = m; values = v }) r s names marks values
+ran m v e f i c =
+    record {
+      answered = i .answered;
+      left = i .left;
+      named = i .named;
+      marksClear = rw (sym e) (c .marksClear);
+      valuesClear = rw (sym f) (c .valuesClear);
+    }
+
+-- ---- a loop that fills a list from the front: after i turns the first i entries are x, the others as they came
+
+module _ {A : Type 0} (x : A) where
+  fill-suc : (i : ℕ) (d : List A) → i < length d → set (replicate i x ++ drop i d) i x ≡ replicate (suc i) x ++ drop (suc i) d
+  fill-suc i [] h = absurd (not-suc-le-zero h)
+  fill-suc zero (y ∷ d) h = refl
+  fill-suc (suc i) (y ∷ d) h = ap (λ (t : List A). x ∷ t) (fill-suc i d (le-of-suc-le-suc h))
+
+  pub fill-more : (i : ℕ) (d : List A) → i < length d → set (replicate i x ++ drop i d) i x ≡ replicate (i + 1) x ++ drop (i + 1) d
+  fill-more i d h =
+      subst (λ (k : ℕ). set (replicate i x ++ drop i d) i x ≡ replicate k x ++ drop k d) (sym (add-one i)) (fill-suc i d h)
+
+  pub fill-all : (i : ℕ) (d : List A) → i ≤ length d → length d ≤ i → replicate i x ++ drop i d ≡ replicate (length d) x
+  fill-all i d h k =
+      let e : i ≡ length d = omega arith in
+      rw (drop-of-length-le d k, append-nil) (ap (λ (n : ℕ). replicate n x) e)

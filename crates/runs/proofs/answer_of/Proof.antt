@@ -1,0 +1,29 @@
+-- `runs::answer_of` meets its contract, by what was told of the opcodes. Assumes nothing.
+use mathlib.Core.Path.{sym, ap}
+use Rattle.performs.specs.declared.Performed.{Performed}
+use Rattle.runs.specs.Runs.{answerOf}
+use borrow.Author.Needs.{needs}
+use Rattle.runs.proofs.answer_of.Statement.{statement}
+use Rattle.runs.proofs.answer_of.Tie as tie
+
+enum-known-p : tie.Need-enum-known-p
+enum-known-p c = search needs
+
+enum-known-p-2 : tie.Need-enum-known-p-2
+enum-known-p-2 c = search needs
+
+enum-known-p-3 : tie.Need-enum-known-p-3
+enum-known-p-3 c = search needs
+
+returns : tie.Need-returns
+returns c = sym (ap (λ (p : Performed). answerOf p (c .before .before .before .args .n)) (c .before .p .given .1))
+
+returns-2 : tie.Need-returns-2
+returns-2 c = sym (ap (λ (p : Performed). answerOf p (c .before .before .before .args .n)) (c .before .p2 .given .1))
+
+returns-3 : tie.Need-returns-3
+returns-3 c = sym (ap (λ (p : Performed). answerOf p (c .before .before .before .args .n)) (c .before .p3 .given .1))
+
+pub answer-of-spec : {M : Type 1} → statement M
+answer-of-spec =
+    tie.close (tie.spec enum-known-p enum-known-p-2 enum-known-p-3 returns returns-2 returns-3)

@@ -1,0 +1,178 @@
+// A list on a window's samples: the whole-window runs as a caller knows them, f32 and u16. Document 01, 'What comes back'.
+use dng::Answer;
+use dng::Settings;
+use dng::Window;
+use performs::Performed;
+use settles::Plan;
+ghost use mathlib.Core.Path.{_≡_};
+ghost use mathlib.Core.Bool.{cond};
+ghost use lib.ListN.{length, replicate};
+ghost use Rattle.dng.specs.List.{itemsOf};
+ghost use Rattle.dng.specs.Value.{nought};
+ghost use Rattle.dng.specs.Run.{skipped, skipped16, namesOf};
+ghost use Rattle.dng.specs.Answer.{f32Out, u16Out, Ran};
+ghost use Rattle.names.specs.Names.{writtenIn};
+ghost use Rattle.runs.specs.Runs.{isDone, answerOf, Is, Clear};
+
+// ---- the end of a run
+
+// Whether every opcode was performed.
+fn is_done(p: Performed) -> bool
+    ensures { λ r. ⌜ r ≡ isDone p ⌝ }
+{
+    match p {
+        Performed::All { .. } => true,
+        Performed::Marks { .. } => false,
+        Performed::Values { .. } => false,
+    }
+}
+
+// What a run answers that was not refused before its first opcode; it has n names.
+fn answer_of(p: Performed, n: usize) -> Answer
+    ensures { λ r. ⌜ r ≡ answerOf p n ⌝ }
+{
+    match p {
+        Performed::All { repaired, left } => Answer::Done {
+            names: n,
+            repaired,
+            left,
+        },
+        Performed::Marks { opcode } => Answer::Marks { opcode },
+        Performed::Values { opcode } => Answer::Values { opcode },
+    }
+}
+
+fn clear_f32(values: &mut [f32])
+    ensures { λ _. ⌜ now (values .exit) ≡ replicate (length (now (values .entry))) nought ⌝ }
+{
+    let mut i = 0;
+    while i < values.len() {
+        values[i] = 0.0;
+        i += 1;
+    }
+}
+
+// Both scratch buffers, whatever a run answers.
+fn clear(marks: &mut [u32], values: &mut [f32])
+    ensures { λ _. ⌜ Clear (length (now (marks .entry))) (length (now (values .entry))) (now (marks .exit)) (now (values .exit)) ⌝ }
+{
+    sorts::clear(marks);
+    clear_f32(values);
+}
+
+// ---- f32
+
+// The names, once all is performed.
+fn name_f32(list: &[u8], names: &mut [u8], done: bool)
+    ensures { λ _.
+        ⌜ now (names .exit)
+        ≡ cond done (writtenIn (namesOf skipped (itemsOf (now (list .entry)))) (now (names .entry))) (now (names .entry)) ⌝ }
+{
+    if done {
+        names::write_names(list, names);
+    }
+}
+
+// 1 to 4, then opcode by opcode 5 before 6, then the names. The scratch is left as it is then.
+fn attempt_f32(
+    list: &[u8],
+    samples: &mut [f32],
+    w: Window,
+    set: Settings,
+    marks: &mut [u32],
+    values: &mut [f32],
+    names: &mut [u8],
+) -> Answer
+    ensures { λ r.
+        ⌜ Is (f32Out w set (record { marks = length (now (marks .entry)); values = length (now (values .entry)) })
+        (now (list .entry)) (now (samples .entry)) (now (names .entry)))
+        r (now (samples .exit)) (now (names .exit)) ⌝ }
+{
+    match settles::settle_f32(list, w, set.period, names.len()) {
+        Plan::Refuse { answer } => answer,
+        Plan::Go { names: n } => {
+            let p = performs::perform_f32(list, samples, w, set, marks, values);
+            name_f32(list, names, is_done(p));
+            answer_of(p, n)
+        }
+    }
+}
+
+// Runs a list on f32 samples. Both scratch buffers hold only zeros afterwards.
+pub fn run_f32(
+    list: &[u8],
+    samples: &mut [f32],
+    w: Window,
+    set: Settings,
+    marks: &mut [u32],
+    values: &mut [f32],
+    names: &mut [u8],
+) -> Answer
+    ensures { λ r.
+        ⌜ Ran (f32Out w set (record { marks = length (now (marks .entry)); values = length (now (values .entry)) })
+        (now (list .entry)) (now (samples .entry)) (now (names .entry)))
+        (record { marks = length (now (marks .entry)); values = length (now (values .entry)) })
+        r (now (samples .exit)) (now (names .exit)) (now (marks .exit)) (now (values .exit)) ⌝ }
+{
+    let r = attempt_f32(list, samples, w, set, &mut *marks, &mut *values, names);
+    clear(marks, values);
+    r
+}
+
+// ---- u16: the whole-number form, which has no scale
+
+// The names of this form, once all is performed.
+fn name_u16(list: &[u8], names: &mut [u8], done: bool)
+    ensures { λ _.
+        ⌜ now (names .exit)
+        ≡ cond done (writtenIn (namesOf skipped16 (itemsOf (now (list .entry)))) (now (names .entry))) (now (names .entry)) ⌝ }
+{
+    if done {
+        names::write_names16(list, names);
+    }
+}
+
+fn attempt_u16(
+    list: &[u8],
+    samples: &mut [u16],
+    w: Window,
+    period: usize,
+    marks: &mut [u32],
+    values: &mut [f32],
+    names: &mut [u8],
+) -> Answer
+    ensures { λ r.
+        ⌜ Is (u16Out w period (record { marks = length (now (marks .entry)); values = length (now (values .entry)) })
+        (now (list .entry)) (now (samples .entry)) (now (names .entry)))
+        r (now (samples .exit)) (now (names .exit)) ⌝ }
+{
+    match settles::settle_u16(list, w, period, names.len()) {
+        Plan::Refuse { answer } => answer,
+        Plan::Go { names: n } => {
+            let p = performs::perform_u16(list, samples, w, period, marks, values);
+            name_u16(list, names, is_done(p));
+            answer_of(p, n)
+        }
+    }
+}
+
+// Runs a list on u16 samples, by this form's rules. The scratch as in the f32 run.
+pub fn run_u16(
+    list: &[u8],
+    samples: &mut [u16],
+    w: Window,
+    period: usize,
+    marks: &mut [u32],
+    values: &mut [f32],
+    names: &mut [u8],
+) -> Answer
+    ensures { λ r.
+        ⌜ Ran (u16Out w period (record { marks = length (now (marks .entry)); values = length (now (values .entry)) })
+        (now (list .entry)) (now (samples .entry)) (now (names .entry)))
+        (record { marks = length (now (marks .entry)); values = length (now (values .entry)) })
+        r (now (samples .exit)) (now (names .exit)) (now (marks .exit)) (now (values .exit)) ⌝ }
+{
+    let r = attempt_u16(list, samples, w, period, &mut *marks, &mut *values, names);
+    clear(marks, values);
+    r
+}
