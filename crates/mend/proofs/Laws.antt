@@ -25,7 +25,7 @@ use Rattle.wholeform.specs.WholeForm.{widened, narrowed, atOne}
 use Rattle.wholeform.proofs.Pairs.{getD-map-in}
 use Rattle.mend.specs.declared.Mended.{Mended}
 use Rattle.mend.specs.declared.Mended.the-variants.{Whole, Widened, NoRoom}
-use Rattle.mend.specs.Mend.{notTaken, MendOut, wholeOut, roundedOut, mendOut, Rounded, Mends}
+use Rattle.mend.specs.Mend.{notTaken, early, MendOut, wholeOut, roundedOut, mendOut, Rounded, Mends}
 
 -- ---- turned
 
@@ -41,19 +41,27 @@ module _ {A B : Type 0} (F : A → B) (d : A) where
       let m : k < length l = subst (λ (n : ℕ). k < n) (length-each _ l) h in
       getD-each _ l k e m ∙ between-in 0 i (turned s) k _ (omega arith) (omega arith) ∙ sym (getD-map-in F s k d e (omega arith)))
 
--- ---- a run that does not take its list leaves all as it was
+-- ---- a run that is refused before its first opcode leaves all as it was
+
+not-taken-early : (a : Answer) → notTaken a ≡ true → early a ≡ true
+not-taken-early (Ans.Done n r l) h = h
+not-taken-early Ans.Range h = refl
+not-taken-early (Ans.Malformed k) h = refl
+not-taken-early Ans.NotTaken h = refl
+not-taken-early Ans.Names h = refl
+not-taken-early (Ans.Marks k) h = h
+not-taken-early (Ans.Values k) h = h
 
 never : {C : Type 0} → false ≡ true → C
 never z = let n : _≡_ {A = ℕ} 0 1 = ap (λ (b : Bool). cond b 1 0) z in absurd (omega arith)
 
 module _ {A : Type 0} (s : List A) (names : List ℕ) where
-  record Same (o : Out A) : Type 0 where
-    samples-same : o .samples ≡ s
-    names-same : o .names ≡ names
+  pub record Same (o : Out A) : Type 0 where
+    pub samples-same : o .samples ≡ s
+    pub names-same : o .names ≡ names
 
-  -- where the answer is 3
-  abbrev Keeps : Out A → Type 0
-  Keeps o = notTaken (o .answer) ≡ true → Same o
+  abbrev pub Keeps : Out A → Type 0
+  Keeps o = early (o .answer) ≡ true → Same o
 
   as-it-was : (a : Answer) → Keeps (unchanged a s names)
   as-it-was a h = record { samples-same = refl; names-same = refl }
@@ -80,7 +88,7 @@ module _ {A : Type 0} (s : List A) (names : List ℕ) where
     read-keeps (R.Whole n) = ran-keeps
     read-keeps (R.Malformed k) = as-it-was (Ans.Malformed k)
 
-    run-keeps : Keeps (runOut kind takes skip w period room list s names)
+    pub run-keeps : Keeps (runOut kind takes skip w period room list s names)
     unfolding runOut
     run-keeps = either (inRange w period) _ _ (read-keeps (readingOf list)) (as-it-was Ans.Range)
 
@@ -124,7 +132,7 @@ module _ (w : Window) (period wide : ℕ) (room : Room) (list s names : List ℕ
       })
 
   kept : t ≡ true → Same s names (u16Out w period room list s names)
-  kept f = run-keeps s names u16Kind takes16 skipped16 w period room list (told ∙ f)
+  kept f = run-keeps s names u16Kind takes16 skipped16 w period room list (not-taken-early (u16Out w period room list s names .answer) (told ∙ f))
 
   same-samples : t ≡ true → s′ ≡ s
   same-samples f = ran .left ∙ kept f .samples-same

@@ -28,6 +28,21 @@ notTaken Ans.Names = false
 notTaken (Ans.Marks k) = false
 notTaken (Ans.Values k) = false
 
+-- the refusals that come before the first opcode
+abbrev pub early : Answer → Bool
+early (Ans.Done n r l) = false
+early Ans.Range = true
+early (Ans.Malformed k) = true
+early Ans.NotTaken = true
+early Ans.Names = true
+early (Ans.Marks k) = false
+early (Ans.Values k) = false
+
+abbrev pub earlyMended : Mended → Bool
+earlyMended (Whole a) = early a
+earlyMended (Widened a) = early a
+earlyMended NoRoom = true
+
 -- the paper's number and values; too little room for the samples as f32 is 80, which no run and no reading answers
 abbrev pub numbersOf : Mended → Numbers
 numbersOf (Whole a) = paper a
