@@ -3,10 +3,11 @@ use Prim.Native.Nat.{ℕ, suc, _+_, _-_, _*_, _/_, _%_, _≤_, _<_, min}
 use mathlib.Core.Path.{_≡_, refl, sym, ap, subst, _∙_}
 use mathlib.Core.Bool.{Bool, true, false, cond, _&&_, and-false}
 use mathlib.Core.List.{List, [], _∷_}
+use native.Mathlib.Nat.{mul-le-mul}
 use native.Mathlib.Numerals.{add-one}
 use native.Mathlib.Omega.{arith}
 use borrow.Author.Tests.{leb-true, le-leb, lt-leb, lt-ltb, le-ltb, eq-eqb, ne-eqb}
-use lib.Dec.{leb, ltb}
+use lib.Dec.{leb, ltb, eqb}
 use lib.ListN.{length, getD, drop, set, drop-of-length-le, List·getD-eq-default}
 use lib.Seq.{drop-cons}
 use Rattle.points.specs.Points.{each, between}
@@ -17,7 +18,9 @@ use Rattle.texts.proofs.Digits.{decimal-short}
 use Rattle.pgm.specs.declared.Found.{Found}
 use Rattle.pgm.specs.declared.Found.the-variants.{Header, Broken}
 use Rattle.pgm.specs.declared.Field.{Field}
-use Rattle.pgm.specs.Pgm.{white, goesOn, inside, blanks, past, isDigit, digitsIn, decimalFrom, numberAt, Held, sound, p5, fieldAt, isHeader, headerOn, headerOf, byteAt, over}
+use Rattle.pgm.specs.declared.Frame.the-variants.{Whole, Short}
+use Rattle.pgm.specs.declared.Word.the-variants.{Number, Other}
+use Rattle.pgm.specs.Pgm.{white, goesOn, inside, blanks, past, isDigit, digitsIn, decimalFrom, numberAt, Held, sound, p5, fieldAt, isHeader, headerOn, headerOf, rasterLen, sizedOn, InSizes, isNumber, wordOf, byteAt, over}
 
 -- ---- white space and comments
 
@@ -198,6 +201,70 @@ module _ (s : List ℕ) (w h m : Field) {a b c d e : Bool}
 
   pub header-no : (a && (b && (c && (d && e)))) ≡ false → Broken ≡ headerOf s
   header-no t = sym (ap on-ok (sym is-ok ∙ t)) ∙ header-is s w h m hw hh hm
+
+-- ---- a frame in a file
+
+sound-high : (at : ℕ) (f : Field) (low high : ℕ) → sound at f low high ≡ true → f .value ≤ high
+unfolding sound
+sound-high at f low high h =
+    leb-true (f .value) high (last-of-four (ltb at (f .from)) (ltb (f .from) (f .end)) (leb low (f .value)) (leb (f .value) high) h)
+
+in-sizes-on : (s : List ℕ) (w h m : Field) (width height maxval at : ℕ) (t : Bool) → isHeader s w h m ≡ t
+    → cond t (Header (w .value) (h .value) (m .value) (m .end + 1)) Broken ≡ Header width height maxval at → InSizes width height at (length s)
+in-sizes-on s w h m width height maxval at true e q =
+    let o = five (p5 s) (sound 2 w 0 65536) (sound (w .end) h 0 65536) (sound (h .end) m 1 65535) (white (getD s (m .end) 0)) e in
+    let e₁ : w .value ≡ width = cc in
+    let e₂ : h .value ≡ height = cc in
+    let e₃ : m .end + 1 ≡ at = cc in
+    record {
+      narrow = omega (arith, sound-high 2 w 0 65536 (o .second));
+      low = omega (arith, sound-high (w .end) h 0 65536 (o .third));
+      inside-it = omega (arith, white-in s (m .end) (o .fifth));
+    }
+in-sizes-on s w h m width height maxval at false e q = let z : _≡_ {A = ℕ} 0 1 = cc in absurd (omega arith)
+
+pub in-sizes : (s : List ℕ) (width height maxval at : ℕ) → headerOf s ≡ Header width height maxval at → InSizes width height at (length s)
+unfolding headerOf
+in-sizes s width height maxval at q = in-sizes-on s _ _ _ width height maxval at (isHeader s _ _ _) refl q
+
+pub area : (w h : ℕ) → w ≤ 65536 → h ≤ 65536 → w * h ≤ 4294967296
+area w h p q = mul-le-mul p q
+
+-- the two ways on from a number of samples that there is room for
+module _ (most len w h m at n : ℕ) {b : ℕ} (room : n ≤ most) (is : b ≡ rasterLen n m) where
+  pub too-short : len - at < b → Short ≡ sizedOn most len w h m at n
+  unfolding sizedOn
+  too-short q = simp (le-leb n most room, sym is, lt-leb b (len - at) q)
+
+  pub all-there : b ≤ len - at → Whole w h m n at (at + b) ≡ sizedOn most len w h m at n
+  unfolding sizedOn
+  all-there q = simp (le-leb n most room, sym is, le-leb b (len - at) q)
+
+-- ---- a number by itself
+
+leb-held : (v : ℕ) → leb (min 65537 v) 65536 ≡ leb v 65536
+leb-held v =
+    below-or v 65537 (λ h. let e : min 65537 v ≡ v = omega arith in ap (λ (n : ℕ). leb n 65536) e)
+    (λ h. lt-leb (min 65537 v) 65536 (omega arith) ∙ sym (lt-leb v 65536 (omega arith)))
+
+last-of-three : (a b c : Bool) → (a && (b && c)) ≡ true → c ≡ true
+last-of-three true true c h = h
+last-of-three true false c h = cc
+last-of-three false b c h = cc
+
+number-same : (s : List ℕ) (f : Field) → Held s 0 f → isNumber s f ≡ isNumber s (numberAt s 0)
+number-same s f n = simp (n .ends, n .held, leb-held (numberAt s 0 .value))
+
+pub a-number : (s : List ℕ) (f : Field) → Held s 0 f → isNumber s f ≡ true → Number (f .value) ≡ wordOf s
+unfolding wordOf
+a-number s f n h =
+    let v = leb-true (f .value) 65536 (last-of-three (ltb 0 (f .end)) (eqb (f .end) (length s)) (leb (f .value) 65536) h) in
+    let e : f .value ≡ numberAt s 0 .value = omega (arith, n .held, v) in
+    ap Number e ∙ sym (ap (λ (b : Bool). cond b (Number (numberAt s 0 .value)) Other) (sym (number-same s f n) ∙ h))
+
+pub no-number : (s : List ℕ) (f : Field) → Held s 0 f → isNumber s f ≡ false → Other ≡ wordOf s
+unfolding wordOf
+no-number s f n h = sym (ap (λ (b : Bool). cond b (Number (numberAt s 0 .value)) Other) (sym (number-same s f n) ∙ h))
 
 -- ---- the raster
 

@@ -14,6 +14,11 @@ use Rattle.texts.specs.Appended.{Appended}
 use Rattle.pgm.specs.declared.Found.{Found}
 use Rattle.pgm.specs.declared.Found.the-variants.{Header, Broken}
 use Rattle.pgm.specs.declared.Field.{Field}
+use Rattle.pgm.specs.declared.Frame.{Frame}
+use Rattle.pgm.specs.declared.Frame.the-variants.{Whole, Short, TooLarge}
+use Rattle.pgm.specs.declared.Frame.the-variants as Frames
+use Rattle.pgm.specs.declared.Word.{Word}
+use Rattle.pgm.specs.declared.Word.the-variants.{Number, Other}
 
 -- ---- white space and comments
 
@@ -91,6 +96,38 @@ headerOn s w h m = cond (isHeader s w h m) (Header (w .value) (h .value) (m .val
 
 unfoldable pub headerOf : List ℕ → Found
 headerOf s = headerOn s (fieldAt s 2) (fieldAt s (fieldAt s 2 .end)) (fieldAt s (fieldAt s (fieldAt s 2 .end) .end))
+
+-- ---- a frame in a file
+
+-- how many bytes n samples are
+unfoldable pub rasterLen : (n maxval : ℕ) → ℕ
+rasterLen n maxval = cond (ltb maxval 256) n (2 * n)
+
+-- most: how many samples there is room for; len: how many bytes the file has
+unfoldable pub sizedOn : (most len w h m at n : ℕ) → Frame
+sizedOn most len w h m at n =
+    cond (leb n most) (cond (leb (rasterLen n m) (len - at)) (Whole w h m n at (at + rasterLen n m)) Short) TooLarge
+
+abbrev pub frameOn : (most len : ℕ) → Found → Frame
+frameOn most len (Header w h m at) = sizedOn most len w h m at (w * h)
+frameOn most len Broken = Frames.Broken
+
+unfoldable pub frameOf : List ℕ → (most : ℕ) → Frame
+frameOf s most = frameOn most (length s) (headerOf s)
+
+-- what every header keeps to
+pub record InSizes (w h at len : ℕ) : Type 0 where
+  pub narrow : w ≤ 65536
+  pub low : h ≤ 65536
+  pub inside-it : at ≤ len
+
+-- ---- a number by itself
+
+abbrev pub isNumber : List ℕ → Field → Bool
+isNumber s f = ltb 0 (f .end) && (eqb (f .end) (length s) && leb (f .value) 65536)
+
+unfoldable pub wordOf : List ℕ → Word
+wordOf s = cond (isNumber s (numberAt s 0)) (Number (numberAt s 0 .value)) Other
 
 -- ---- the raster
 

@@ -6,7 +6,7 @@ ghost use Prim.Native.Nat.{_+_, _-_, _*_, _/_, _%_, _≤_, _<_, min};
 ghost use lib.Dec.{ltb};
 ghost use lib.ListN.{length, getD};
 ghost use Rattle.points.specs.Points.{each};
-ghost use Rattle.pgm.specs.Pgm.{white, lineEnd, goesOn, inside, past, isDigit, Held, sound, p5, headerOf, sampleAt, byteAt, over, Encoded, headerText, Put};
+ghost use Rattle.pgm.specs.Pgm.{white, lineEnd, goesOn, inside, past, isDigit, Held, sound, p5, headerOf, rasterLen, InSizes, frameOn, frameOf, wordOf, sampleAt, byteAt, over, Encoded, headerText, Put};
 ghost use Rattle.texts.specs.Appended.{Appended};
 
 // What stands at the start of a file.
@@ -179,6 +179,96 @@ pub fn header(bytes: &[u8]) -> Found
         }
     } else {
         Found::Broken
+    }
+}
+
+// ---- a frame in a file
+
+// A header, with room for its samples and a raster that is all there; or why not.
+pub enum Frame {
+    Whole {
+        width: usize,
+        height: usize,
+        maxval: usize,
+        samples: usize,
+        at: usize,
+        end: usize,
+    },
+    Broken,
+    TooLarge,
+    Short,
+}
+
+// How many bytes n samples are.
+fn raster_len(n: usize, maxval: usize) -> usize
+    requires { ⌜ n ≤ 4294967296 ⌝ }
+    ensures { λ r. ⌜ r ≡ rasterLen n maxval ⌝ }
+{
+    if maxval < 256 { n } else { 2 * n }
+}
+
+// The frame of a header, in a file of len bytes.
+fn sized(
+    width: usize,
+    height: usize,
+    maxval: usize,
+    at: usize,
+    len: usize,
+    most: usize,
+) -> Frame
+    requires { ⌜ InSizes width height at len ⌝ }
+    ensures { λ r. ⌜ r ≡ frameOn most len (Found.Header width height maxval at) ⌝ }
+{
+    let samples = width * height;
+    if most < samples {
+        return Frame::TooLarge;
+    }
+    let bytes = raster_len(samples, maxval);
+    if len - at < bytes {
+        return Frame::Short;
+    }
+    Frame::Whole {
+        width,
+        height,
+        maxval,
+        samples,
+        at,
+        end: at + bytes,
+    }
+}
+
+// The frame at the start of a file, of at most `most` samples.
+pub fn read_frame(bytes: &[u8], most: usize) -> Frame
+    ensures { λ r. ⌜ r ≡ frameOf (now (bytes .entry)) most ⌝ }
+{
+    match header(bytes) {
+        Found::Header {
+            width,
+            height,
+            maxval,
+            at,
+        } => sized(width, height, maxval, at, bytes.len(), most),
+        Found::Broken => Frame::Broken,
+    }
+}
+
+// ---- a number by itself
+
+// What a word says: a number from 0 to 65,536, or something else.
+pub enum Word {
+    Number { value: usize },
+    Other,
+}
+
+pub fn read_number(bytes: &[u8]) -> Word
+    ensures { λ r. ⌜ r ≡ wordOf (now (bytes .entry)) ⌝ }
+{
+    let f = number(bytes, 0);
+    let value = f.value;
+    if (0 < f.end) & ((f.end == bytes.len()) & (value <= 65536)) {
+        Word::Number { value }
+    } else {
+        Word::Other
     }
 }
 
