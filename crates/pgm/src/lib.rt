@@ -208,14 +208,7 @@ fn raster_len(n: usize, maxval: usize) -> usize
 }
 
 // The frame of a header, in a file of len bytes.
-fn sized(
-    width: usize,
-    height: usize,
-    maxval: usize,
-    at: usize,
-    len: usize,
-    most: usize,
-) -> Frame
+fn sized(width: usize, height: usize, maxval: usize, at: usize, len: usize, most: usize) -> Frame
     requires { ⌜ InSizes width height at len ⌝ }
     ensures { λ r. ⌜ r ≡ frameOn most len (Found.Header width height maxval at) ⌝ }
 {
