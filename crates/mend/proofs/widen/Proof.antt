@@ -1,0 +1,79 @@
+-- `mend::widen` meets its contract. Assumes nothing.
+use Prim.Native.Nat.{_+_, _-_, _≤_}
+use mathlib.Core.Path.{_≡_, refl, sym, _∙_}
+use borrow.Author.Needs.{needs}
+use native.Mathlib.Omega.{arith}
+use lib.Ieee.{Float, binary32, nan}
+use lib.ListN.{length, length-set}
+use Rattle.points.specs.Points.{each, between}
+use Rattle.points.proofs.Parts.{each-between-empty, store}
+use Rattle.convert.specs.Convert.{wholeIn}
+use Rattle.mend.proofs.Laws.{turned, all-turned}
+use Rattle.mend.proofs.widen.Statement.{statement}
+use Rattle.mend.proofs.widen.Tie as tie
+
+abbrev Inv-loop : tie.InvT-loop
+Inv-loop samples wide₀ i₀ wide i =
+    (wide ≡ each (between 0 i (turned (wholeIn binary32) 0 samples)) wide₀) × (length wide ≡ length wide₀) × (i ≤ length samples)
+
+abbrev μ-loop : tie.MeasureT-loop
+μ-loop samples wide₀ i₀ wide i = length samples - i
+
+loop-holds : tie.Need-loop-holds Inv-loop μ-loop
+loop-holds c = (sym (each-between-empty 0 0 _ _ (omega arith)), refl, omega arith)
+
+mul-f32-of-u16 : tie.Need-mul-f32-of-u16 Inv-loop μ-loop
+mul-f32-of-u16 c = search needs
+
+shared-slice-read-f32-of-u16 : tie.Need-shared-slice-read-f32-of-u16 Inv-loop μ-loop
+shared-slice-read-f32-of-u16 c = search needs
+
+f32-of-u16-requires : tie.Need-f32-of-u16-requires Inv-loop μ-loop
+f32-of-u16-requires c κs = search needs
+
+mul-wide : tie.Need-mul-wide Inv-loop μ-loop
+mul-wide c = search needs
+
+slice-write-wide : tie.Need-slice-write-wide Inv-loop μ-loop
+slice-write-wide c = search needs
+
+add-i : tie.Need-add-i Inv-loop μ-loop
+add-i c = search needs
+
+loop-less : tie.Need-loop-less Inv-loop μ-loop
+loop-less c = search needs
+
+loop-again : tie.Need-loop-again Inv-loop μ-loop
+loop-again c =
+    let at = c .before .before .before .loop in (
+      store nan _ 0 (at .i) _ _ _ (at .inv .0) (c .f32-of-u16 .ensures) (omega arith) (omega arith),
+      simp length-set (at .inv .1),
+      omega arith,
+    )
+
+same-length : tie.Need-same-length Inv-loop μ-loop
+same-length c = c .before .loop .inv .1
+
+returns : tie.Need-returns Inv-loop μ-loop
+returns c =
+    let at = c .before .loop in
+    let b4 = c .before .before .before .before in
+    at .inv .0 ∙ all-turned (wholeIn binary32) 0 nan (b4 .args .samples .now) (b4 .args .wide .now) _ (b4 .pre) (c .loop-test .left)
+
+pub widen-spec : {M : Type 1} → statement M
+widen-spec =
+    tie.close
+    (tie.spec
+    Inv-loop
+    μ-loop
+    loop-holds
+    mul-f32-of-u16
+    shared-slice-read-f32-of-u16
+    f32-of-u16-requires
+    mul-wide
+    slice-write-wide
+    add-i
+    loop-less
+    loop-again
+    same-length
+    returns)

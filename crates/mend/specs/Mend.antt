@@ -1,0 +1,95 @@
+-- What mending a frame of whole numbers gives: the whole-number run's result where that run takes the list; otherwise the samples as f32, the
+-- f32 run at scale 1, and each sample rounded to whole, half away from zero, and held to 0..65535.
+use Prim.Native.Nat.{ℕ}
+use mathlib.Core.Bool.{Bool, true, false, cond}
+use mathlib.Core.List.{List}
+use mathlib.Core.Path.{_≡_}
+use lib.Dec.{leb}
+use lib.Ieee.{Float}
+use lib.ListN.{length, replicate}
+use Rattle.dng.specs.declared.Window.{Window}
+use Rattle.dng.specs.declared.Numbers.{Numbers}
+use Rattle.dng.specs.declared.Answer.{Answer}
+use Rattle.dng.specs.declared.Answer.the-variants as Ans
+use Rattle.dng.specs.Value.{nought}
+use Rattle.dng.specs.Run.{Room}
+use Rattle.dng.specs.Answer.{Out, f32Out, u16Out, numbersOf as paper, wholeFrame}
+use Rattle.wholeform.specs.WholeForm.{widened, narrowed, atOne}
+use Rattle.mend.specs.declared.Mended.{Mended}
+use Rattle.mend.specs.declared.Mended.the-variants.{Whole, Widened, NoRoom}
+
+-- the refusal 3 of the whole-number run: the ranges and the list are in order, and the form does not take the list
+abbrev pub notTaken : Answer → Bool
+notTaken (Ans.Done n r l) = false
+notTaken Ans.Range = false
+notTaken (Ans.Malformed k) = false
+notTaken Ans.NotTaken = true
+notTaken Ans.Names = false
+notTaken (Ans.Marks k) = false
+notTaken (Ans.Values k) = false
+
+-- the refusals that come before the first opcode
+abbrev pub early : Answer → Bool
+early (Ans.Done n r l) = false
+early Ans.Range = true
+early (Ans.Malformed k) = true
+early Ans.NotTaken = true
+early Ans.Names = true
+early (Ans.Marks k) = false
+early (Ans.Values k) = false
+
+abbrev pub earlyMended : Mended → Bool
+earlyMended (Whole a) = early a
+earlyMended (Widened a) = early a
+earlyMended NoRoom = true
+
+-- the paper's number and values; too little room for the samples as f32 is 80, which no run and no reading answers
+abbrev pub numbersOf : Mended → Numbers
+numbersOf (Whole a) = paper a
+numbersOf (Widened a) = paper a
+numbersOf NoRoom = record { number = 80; entry = 0; opcode = 0; names = 0; repaired = 0; left = 0 }
+
+-- the verdict: a frame is whole when a run answers 0 and skips nothing
+abbrev pub wholeMended : Mended → Bool
+wholeMended (Whole a) = wholeFrame a
+wholeMended (Widened a) = wholeFrame a
+wholeMended NoRoom = false
+
+pub record MendOut : Type 0 where
+  pub answer : Mended
+  pub samples : List ℕ
+  pub names : List ℕ
+
+abbrev pub wholeOut : Out ℕ → MendOut
+wholeOut o = record { answer = Whole (o .answer); samples = o .samples; names = o .names }
+
+abbrev pub roundedOut : Out Float → MendOut
+roundedOut o = record { answer = Widened (o .answer); samples = narrowed (o .samples); names = o .names }
+
+-- room: the lengths of the scratch; wide: how many samples there is room for as f32
+unfoldable pub mendOut : Window → (period : ℕ) → Room → (wide : ℕ) → (list samples names : List ℕ) → MendOut
+mendOut w period room wide list s names =
+    cond (notTaken (u16Out w period room list s names .answer))
+    (cond (leb (length s) wide) (roundedOut (f32Out w (atOne period) room list (widened s) names))
+    (record { answer = NoRoom; samples = s; names = names }))
+    (wholeOut (u16Out w period room list s names))
+
+-- the f32 run with what it left rounded back
+pub record Rounded (o : Out Float) (room : Room) (r : Answer) (samples names marks : List ℕ) (values : List Float) : Type 0 where
+  pub answered : r ≡ o .answer
+  pub left : samples ≡ narrowed (o .samples)
+  pub named : names ≡ o .names
+  pub marksClear : marks ≡ replicate (room .marks) 0
+  pub valuesClear : values ≡ replicate (room .values) nought
+
+pub record Mends (o : MendOut) (room : Room) (r : Mended) (samples names marks : List ℕ) (values : List Float) : Type 0 where
+  pub answered : r ≡ o .answer
+  pub left : samples ≡ o .samples
+  pub named : names ≡ o .names
+  pub marksClear : marks ≡ replicate (room .marks) 0
+  pub valuesClear : values ≡ replicate (room .values) nought
+
+-- What mending promises of its result r and of what it leaves; the three lent buffers hold zeros alone.
+pub record MendsClear (o : MendOut) (room : Room) (n : ℕ) (r : Mended) (samples : List ℕ) (wide : List Float) (names marks : List ℕ) (values : List Float) : Type 0 where
+  pub mended : Mends o room r samples names marks values
+  pub wideClear : wide ≡ replicate n nought

@@ -1,0 +1,68 @@
+-- `pgm::fill` meets its contract. Assumes nothing.
+use Prim.Native.Nat.{_+_, _-_, _≤_}
+use mathlib.Core.Path.{_≡_, refl, sym, _∙_}
+use lib.ListN.{length, length-set}
+use Rattle.points.specs.Points.{each, between}
+use Rattle.points.proofs.Parts.{each-between-empty, store}
+use Rattle.pgm.specs.Pgm.{byteAt}
+use Rattle.pgm.proofs.Laws.{all-done}
+use borrow.Author.Needs.{needs}
+use native.Mathlib.Omega.{arith}
+use Rattle.pgm.proofs.fill.Statement.{statement}
+use Rattle.pgm.proofs.fill.Tie as tie
+
+abbrev Inv-loop : tie.InvT-loop
+Inv-loop samples maxval out₀ j₀ out j =
+    (out ≡ each (between 0 j (byteAt samples maxval)) out₀) × (length out ≡ length out₀) × (j ≤ length out₀)
+
+abbrev μ-loop : tie.MeasureT-loop
+μ-loop samples maxval out₀ j₀ out j = length out₀ - j
+
+loop-holds : tie.Need-loop-holds Inv-loop μ-loop
+loop-holds c = (sym (each-between-empty 0 0 _ _ (omega arith)), refl, omega arith)
+
+slice-read-byte-of : tie.Need-slice-read-byte-of Inv-loop μ-loop
+slice-read-byte-of c = search needs
+
+byte-of-requires : tie.Need-byte-of-requires Inv-loop μ-loop
+byte-of-requires c κs = search needs
+
+slice-write-out : tie.Need-slice-write-out Inv-loop μ-loop
+slice-write-out c = search needs
+
+add-j : tie.Need-add-j Inv-loop μ-loop
+add-j c = search needs
+
+loop-less : tie.Need-loop-less Inv-loop μ-loop
+loop-less c = search needs
+
+loop-again : tie.Need-loop-again Inv-loop μ-loop
+loop-again c =
+    let j = c .before .before .before .loop .j in
+    let inv = c .before .before .before .loop .inv in (
+      store 0 _ 0 j _ _ _ (inv .0) (c .byte-of .ensures) (omega arith) (omega arith),
+      simp length-set (inv .1),
+      omega arith,
+    )
+
+same-length : tie.Need-same-length Inv-loop μ-loop
+same-length c = c .before .loop .inv .1
+
+returns : tie.Need-returns Inv-loop μ-loop
+returns c = c .before .loop .inv .0 ∙ all-done _ _ _ (omega (arith, c .before .loop .inv .1, c .loop-test .left))
+
+pub fill-spec : {M : Type 1} → statement M
+fill-spec =
+    tie.close
+    (tie.spec
+    Inv-loop
+    μ-loop
+    loop-holds
+    slice-read-byte-of
+    byte-of-requires
+    slice-write-out
+    add-j
+    loop-less
+    loop-again
+    same-length
+    returns)

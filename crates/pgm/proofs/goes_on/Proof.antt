@@ -1,0 +1,19 @@
+-- `pgm::goes_on` meets its contract, by the two cases of the definition. Assumes nothing.
+use borrow.Author.Needs.{needs}
+use Rattle.pgm.specs.Pgm.{goesOn}
+use Rattle.pgm.proofs.goes_on.Statement.{statement}
+use Rattle.pgm.proofs.goes_on.Tie as tie
+
+is-white-requires : tie.Need-is-white-requires
+is-white-requires c κs = search needs
+
+returns : tie.Need-returns
+unfolding goesOn
+returns c = simp (c .if1 .taken)
+
+returns-2 : tie.Need-returns-2
+unfolding goesOn
+returns-2 c = simp (c .before .if1 .left, c .is-white .ensures)
+
+pub goes-on-spec : {M : Type 1} → statement M
+goes-on-spec = tie.close (tie.spec is-white-requires returns returns-2)

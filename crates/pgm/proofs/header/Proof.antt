@@ -1,0 +1,77 @@
+-- `pgm::header` meets its contract. Assumes nothing.
+use mathlib.Core.Path.{sym, ap, _∙_}
+use Rattle.pgm.specs.Pgm.{white}
+use Rattle.pgm.proofs.Laws.{five, white-in, header-yes, header-no}
+use borrow.Author.Needs.{needs}
+use native.Mathlib.Omega.{arith}
+use Rattle.pgm.proofs.header.Statement.{statement}
+use Rattle.pgm.proofs.header.Tie as tie
+
+next-number-requires : tie.Need-next-number-requires
+next-number-requires c κs = search needs
+
+next-number-requires-2 : tie.Need-next-number-requires-2
+next-number-requires-2 c κs = search needs
+
+next-number-requires-3 : tie.Need-next-number-requires-3
+next-number-requires-3 c κs = search needs
+
+is-p5-requires : tie.Need-is-p5-requires
+is-p5-requires c κs = search needs
+
+is-sound-requires : tie.Need-is-sound-requires
+is-sound-requires c κs = search needs
+
+is-sound-requires-2 : tie.Need-is-sound-requires-2
+is-sound-requires-2 c κs = search needs
+
+is-sound-requires-3 : tie.Need-is-sound-requires-3
+is-sound-requires-3 c κs = search needs
+
+byte-requires : tie.Need-byte-requires
+byte-requires c κs = search needs
+
+is-white-requires : tie.Need-is-white-requires
+is-white-requires c κs = search needs
+
+add-t19 : tie.Need-add-t19
+add-t19 c =
+    let b4 = c .before .before .before .before in
+    let b7 = b4 .before .before .before in
+    let e = sym (c .before .is-white .ensures ∙ ap white (c .before .before .byte .ensures))
+    ∙ five (b4 .before .before .is-p5 .result) (b4 .before .is-sound .result) (b4 .is-sound2 .result) (c .before .before .before .is-sound3 .result)
+    (c .before .is-white .result) (c .if1 .taken) .fifth in
+    omega (arith, white-in (b7 .before .before .before .before .args .bytes .now) (b7 .next-number3 .result .end) e)
+
+returns : tie.Need-returns
+returns c =
+    let b4 = c .before .before .before .before in
+    let b7 = b4 .before .before .before in
+    header-yes _ _ _ _ (b7 .before .before .next-number .ensures) (b7 .before .next-number2 .ensures) (b7 .next-number3 .ensures)
+    (b4 .before .before .is-p5 .ensures) (b4 .before .is-sound .ensures) (b4 .is-sound2 .ensures) (c .before .before .before .is-sound3 .ensures)
+    (c .before .is-white .ensures ∙ ap white (c .before .before .byte .ensures)) (c .if1 .taken)
+
+returns-2 : tie.Need-returns-2
+returns-2 c =
+    let b4 = c .before .before .before .before in
+    let b7 = b4 .before .before .before in
+    header-no _ _ _ _ (b7 .before .before .next-number .ensures) (b7 .before .next-number2 .ensures) (b7 .next-number3 .ensures)
+    (b4 .before .before .is-p5 .ensures) (b4 .before .is-sound .ensures) (b4 .is-sound2 .ensures) (c .before .before .before .is-sound3 .ensures)
+    (c .before .is-white .ensures ∙ ap white (c .before .before .byte .ensures)) (c .if1 .left)
+
+pub header-spec : {M : Type 1} → statement M
+header-spec =
+    tie.close
+    (tie.spec
+    next-number-requires
+    next-number-requires-2
+    next-number-requires-3
+    is-p5-requires
+    is-sound-requires
+    is-sound-requires-2
+    is-sound-requires-3
+    byte-requires
+    is-white-requires
+    add-t19
+    returns
+    returns-2)

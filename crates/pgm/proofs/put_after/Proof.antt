@@ -1,0 +1,31 @@
+-- `pgm::put_after` meets its contract. Assumes nothing.
+use borrow.Author.Needs.{needs}
+use native.Mathlib.Omega.{arith}
+use Rattle.texts.proofs.Laws.{appended-then}
+use Rattle.pgm.proofs.Laws.{few}
+use Rattle.pgm.proofs.put_after.Statement.{statement}
+use Rattle.pgm.proofs.put_after.Tie as tie
+
+put-requires : tie.Need-put-requires
+put-requires c κs = search needs
+
+put-number-requires : tie.Need-put-number-requires
+put-number-requires c κs =
+    let b7 = c .before .before .before .before .before .before .before in
+    omega (arith, c .before .before .before .put .ensures .ends, c .before .before .before .put .kept .0, few (b7 .args .n) (omega arith))
+
+same-length : tie.Need-same-length
+same-length c = search needs
+
+returns : tie.Need-returns
+returns c =
+    let b6 = c .before .before .before .before .before .before in
+    let b10 = b6 .before .before .before .before in
+    record {
+      appended = appended-then (b6 .put .ensures) (c .before .before .put-number .ensures);
+      short =
+          omega (arith, c .before .before .put-number .ensures .ends, b6 .put .ensures .ends, few (b10 .args .n) (omega arith));
+    }
+
+pub put-after-spec : {M : Type 1} → statement M
+put-after-spec = tie.close (tie.spec put-requires put-number-requires same-length returns)

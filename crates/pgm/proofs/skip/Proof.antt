@@ -1,0 +1,66 @@
+-- `pgm::skip` meets its contract. The loop's invariant: what is left to pass over from i on ends where all of it does. Assumes nothing.
+use Prim.Native.Nat.{_+_, _-_, _≤_}
+use mathlib.Core.Path.{_≡_, refl, sym, _∙_}
+use borrow.Author.Needs.{needs}
+use borrow.Author.Tests.{not-true, not-false}
+use lib.ListN.{length, drop}
+use Rattle.pgm.specs.Pgm.{past, blanks}
+use Rattle.pgm.proofs.Laws.{blanks-on, blanks-off, blanks-end}
+use native.Mathlib.Omega.{arith}
+use Rattle.pgm.proofs.skip.Statement.{statement}
+use Rattle.pgm.proofs.skip.Tie as tie
+
+abbrev Inv-loop : tie.InvT-loop
+Inv-loop bytes at comment₀ i₀ comment i = i + blanks comment (drop i bytes) ≡ past bytes at
+
+abbrev μ-loop : tie.MeasureT-loop
+μ-loop bytes at comment₀ i₀ comment i = length bytes - i
+
+loop-holds : tie.Need-loop-holds Inv-loop μ-loop
+unfolding past
+loop-holds c = refl
+
+shared-slice-read-b : tie.Need-shared-slice-read-b Inv-loop μ-loop
+shared-slice-read-b c = search needs
+
+goes-on-requires : tie.Need-goes-on-requires Inv-loop μ-loop
+goes-on-requires c κs = search needs
+
+returns : tie.Need-returns Inv-loop μ-loop
+returns c =
+    let b4 = c .before .before .before .before in
+    blanks-off _ _ _ (c .before .before .before .loop-test .taken) (c .before .goes-on .ensures) (not-true _ (c .if1 .taken)) ∙ b4 .loop .inv
+
+in-comment-requires : tie.Need-in-comment-requires Inv-loop μ-loop
+in-comment-requires c κs = search needs
+
+add-i : tie.Need-add-i Inv-loop μ-loop
+add-i c = search needs
+
+loop-less : tie.Need-loop-less Inv-loop μ-loop
+loop-less c = search needs
+
+loop-again : tie.Need-loop-again Inv-loop μ-loop
+loop-again c =
+    let b4 = c .before .before .before .before in
+    blanks-on _ _ _ (b4 .loop-test .taken) (c .before .before .goes-on .ensures) (not-false _ (c .before .if1 .left)) (c .in-comment .ensures)
+    ∙ b4 .before .loop .inv
+
+returns-2 : tie.Need-returns-2 Inv-loop μ-loop
+returns-2 c = blanks-end _ _ _ (c .loop-test .left) ∙ c .before .loop .inv
+
+pub skip-spec : {M : Type 1} → statement M
+skip-spec =
+    tie.close
+    (tie.spec
+    Inv-loop
+    μ-loop
+    loop-holds
+    shared-slice-read-b
+    goes-on-requires
+    returns
+    in-comment-requires
+    add-i
+    loop-less
+    loop-again
+    returns-2)

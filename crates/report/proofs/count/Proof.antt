@@ -1,0 +1,67 @@
+-- `report::count` meets its contract. Assumes nothing.
+use Prim.Native.Nat.{_+_, _-_, _≤_}
+use mathlib.Core.Path.{_≡_}
+use borrow.Author.Needs.{needs}
+use native.Mathlib.Omega.{arith}
+use lib.ListN.{length, drop}
+use Rattle.report.specs.Report.{occurs}
+use Rattle.report.proofs.Laws.{occurs-next, occurs-end}
+use Rattle.report.proofs.count.Statement.{statement}
+use Rattle.report.proofs.count.Tie as tie
+
+abbrev Inv-loop : tie.InvT-loop
+Inv-loop names k n₀ i₀ n i = (n + occurs k (drop i names) ≡ occurs k names) × (n ≤ i) × (i ≤ length names)
+
+abbrev μ-loop : tie.MeasureT-loop
+μ-loop names k n₀ i₀ n i = length names - i
+
+loop-holds : tie.Need-loop-holds Inv-loop μ-loop
+loop-holds c = (omega arith, omega arith, omega arith)
+
+shared-slice-read-one-if : tie.Need-shared-slice-read-one-if Inv-loop μ-loop
+shared-slice-read-one-if c = search needs
+
+one-if-requires : tie.Need-one-if-requires Inv-loop μ-loop
+one-if-requires c κs = search needs
+
+add-n : tie.Need-add-n Inv-loop μ-loop
+add-n c = search needs
+
+add-i : tie.Need-add-i Inv-loop μ-loop
+add-i c = search needs
+
+loop-less : tie.Need-loop-less Inv-loop μ-loop
+loop-less c = search needs
+
+loop-again : tie.Need-loop-again Inv-loop μ-loop
+loop-again c =
+    let at = c .before .before .before in
+    let a = at .before .before .args in (
+      omega (
+        arith,
+        occurs-next (a .k) (a .names .now) (at .loop .i) (c .before .before .loop-test .taken) (c .one-if .ensures .0),
+        at .loop .inv .0,
+      ),
+      omega arith,
+      omega arith,
+    )
+
+returns : tie.Need-returns Inv-loop μ-loop
+returns c =
+    let a = c .before .before .before .args in
+    omega (arith, occurs-end (a .k) (a .names .now) (c .before .loop .i) (c .loop-test .left), c .before .loop .inv .0)
+
+pub count-spec : {M : Type 1} → statement M
+count-spec =
+    tie.close
+    (tie.spec
+    Inv-loop
+    μ-loop
+    loop-holds
+    shared-slice-read-one-if
+    one-if-requires
+    add-n
+    add-i
+    loop-less
+    loop-again
+    returns)

@@ -1,0 +1,112 @@
+-- `report::put_skipped` meets its contract. Assumes nothing.
+use mathlib.Core.Path.{refl}
+use borrow.Author.Needs.{needs}
+use native.Mathlib.Omega.{arith}
+use lib.Dec.{lit≤}
+use Rattle.report.specs.Report.{skippedText}
+use Rattle.report.proofs.Laws.{counted, within-then, within-as}
+use Rattle.report.proofs.put_skipped.Statement.{statement}
+use Rattle.report.proofs.put_skipped.Tie as tie
+
+slice-aggregate-put-line-if : tie.Need-slice-aggregate-put-line-if
+slice-aggregate-put-line-if c = search needs
+
+count-requires : tie.Need-count-requires
+count-requires c κs = search needs
+
+put-line-if-requires : tie.Need-put-line-if-requires
+put-line-if-requires c κs = search needs
+
+slice-aggregate-put-line-if-2 : tie.Need-slice-aggregate-put-line-if-2
+slice-aggregate-put-line-if-2 c = search needs
+
+count-requires-2 : tie.Need-count-requires-2
+count-requires-2 c κs = search needs
+
+put-line-if-requires-2 : tie.Need-put-line-if-requires-2
+put-line-if-requires-2 c κs = search needs
+
+slice-aggregate-put-line-if-3 : tie.Need-slice-aggregate-put-line-if-3
+slice-aggregate-put-line-if-3 c = search needs
+
+count-requires-3 : tie.Need-count-requires-3
+count-requires-3 c κs = search needs
+
+put-line-if-requires-3 : tie.Need-put-line-if-requires-3
+put-line-if-requires-3 c κs = search needs
+
+slice-aggregate-put-line-if-4 : tie.Need-slice-aggregate-put-line-if-4
+slice-aggregate-put-line-if-4 c = search needs
+
+count-requires-4 : tie.Need-count-requires-4
+count-requires-4 c κs = search needs
+
+put-line-if-requires-4 : tie.Need-put-line-if-requires-4
+put-line-if-requires-4 c κs = search needs
+
+slice-aggregate-put-line-if-5 : tie.Need-slice-aggregate-put-line-if-5
+slice-aggregate-put-line-if-5 c = search needs
+
+count-requires-5 : tie.Need-count-requires-5
+count-requires-5 c κs = search needs
+
+put-line-if-requires-5 : tie.Need-put-line-if-requires-5
+put-line-if-requires-5 c κs =
+    let d = c .before .before .before .before .before in
+    let e = d .before .before .before .before .before .before in
+    let f = e .before .before .before .before .before .before in
+    let g = f .before .before .before .before .before .before in
+    omega (
+      arith,
+      d .put-line-if4 .ensures .short,
+      d .put-line-if4 .kept .0,
+      e .put-line-if3 .ensures .short,
+      e .put-line-if3 .kept .0,
+      f .put-line-if2 .ensures .short,
+      f .put-line-if2 .kept .0,
+      g .put-line-if .ensures .short,
+      g .put-line-if .kept .0,
+      g .before .before .before .before .before .before .pre,
+    )
+
+same-length : tie.Need-same-length
+same-length c = search needs
+
+returns : tie.Need-returns
+unfolding skippedText
+returns c =
+    let c5 = c .before .before in
+    let c4 = c5 .before .before .before .before .before .before in
+    let c3 = c4 .before .before .before .before .before .before in
+    let c2 = c3 .before .before .before .before .before .before in
+    let c1 = c2 .before .before .before .before .before .before in
+    within-as _ 300 (lit≤ tt) refl
+    (within-then _ _
+    (within-then _ _
+    (within-then _ _
+    (within-then _ _ (counted _ _ _ (c1 .before .count .ensures) (c1 .put-line-if .ensures)) (counted _ _ _ (c2 .before .count2 .ensures) (c2 .put-line-if2 .ensures)))
+    (counted _ _ _ (c3 .before .count3 .ensures) (c3 .put-line-if3 .ensures)))
+    (counted _ _ _ (c4 .before .count4 .ensures) (c4 .put-line-if4 .ensures)))
+    (counted _ _ _ (c5 .before .count5 .ensures) (c5 .put-line-if5 .ensures)))
+
+pub put-skipped-spec : {M : Type 1} → statement M
+put-skipped-spec =
+    tie.close
+    (tie.spec
+    slice-aggregate-put-line-if
+    count-requires
+    put-line-if-requires
+    slice-aggregate-put-line-if-2
+    count-requires-2
+    put-line-if-requires-2
+    slice-aggregate-put-line-if-3
+    count-requires-3
+    put-line-if-requires-3
+    slice-aggregate-put-line-if-4
+    count-requires-4
+    put-line-if-requires-4
+    slice-aggregate-put-line-if-5
+    count-requires-5
+    put-line-if-requires-5
+    same-length
+    returns)
