@@ -1,5 +1,5 @@
 // One kind of work on one side, for counting or for time: the same list, window and samples for both. See compare/bench.
-use dng_opcodes::{apply, apply_u16, parse, PlaneImage, RowOps};
+use dng_opcodes::{apply, apply_u16, parse, Opcode, PlaneImage, RowOps};
 use rolbhunga::{Frame, Room};
 use std::time::Instant;
 
@@ -172,18 +172,17 @@ impl Work {
         assert!(done);
     }
 
-    fn theirs(&self, kind: &str, f: &mut [f32], u: &mut [u16]) {
-        let ops = parse(&self.list).expect("the list can be read");
+    fn theirs(&self, kind: &str, ops: &[Opcode], f: &mut [f32], u: &mut [u16]) {
         let g = &self.frame;
         if kind.ends_with("-rows") {
-            let rows = RowOps::new(&ops, g.width, g.planes, 0, g.full_width, g.full_height, 1.0).expect("taken");
+            let rows = RowOps::new(ops, g.width, g.planes, 0, g.full_width, g.full_height, 1.0).expect("taken");
             for (y, s) in f.chunks_mut(g.width * g.planes).enumerate() {
                 rows.apply(y, s);
             }
         } else if kind.starts_with("u16") {
-            apply_u16(&ops, &mut PlaneImage::new(u, g.width, g.height, g.planes), g.period, false).expect("taken");
+            apply_u16(ops, &mut PlaneImage::new(u, g.width, g.height, g.planes), g.period, false).expect("taken");
         } else {
-            apply(&ops, &mut PlaneImage::new(f, g.width, g.height, g.planes), g.period, 1.0, false);
+            apply(ops, &mut PlaneImage::new(f, g.width, g.height, g.planes), g.period, 1.0, false);
         }
     }
 }
@@ -207,6 +206,8 @@ fn main() {
     let kind = args[2].strip_suffix(form).expect("a kind");
     let x = Work::new(kind, form, w, h);
     let (mut marks, mut values) = (vec![0; x.marks], vec![0.0; x.values]);
+    // The Rust's list is read before: only its run counts. Here reading is part of every call.
+    let ops = parse(&x.list).expect("the list can be read");
     let mut best = u128::MAX;
     let repeats = if args.len() > 4 { 5 } else { 1 };
     for _ in 0..repeats {
@@ -216,7 +217,7 @@ fn main() {
         if args[3] == "ours" {
             x.ours(kind, &mut f, &mut u, &mut marks, &mut values);
         } else {
-            x.theirs(kind, &mut f, &mut u);
+            x.theirs(kind, &ops, &mut f, &mut u);
         }
         mark(2);
         best = best.min(from.elapsed().as_nanos());

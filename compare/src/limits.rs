@@ -141,6 +141,8 @@ pub fn cases() -> Vec<(&'static str, Case)> {
             Frame::new(0, 2, 1),
             Frame::new(2, 0, 1),
             Frame::new(2, 2, 1).stride(1),
+            Frame::new(65_536, 65_536, 1),
+            Frame::new(65_536, 65_536, 8),
         ] {
             put("sizes and places", l.clone(), f);
         }

@@ -90,7 +90,7 @@ fn smaller(c: &Case) -> Vec<Case> {
 fn weight(c: &Case) -> usize {
     let g = &c.frame;
     let sizes = [g.width, g.height, g.planes, g.stride, g.x0, g.y0, g.full_width, g.full_height, g.period, c.y];
-    let numbers: usize = sizes.iter().map(|n| (n + 1).ilog2() as usize).sum();
+    let numbers: usize = sizes.iter().map(|n| n.saturating_add(1).ilog2() as usize).sum();
     let filled = |n: usize, zeros: usize| 4 * n - zeros;
     numbers
         + (g.scale != 1.0) as usize

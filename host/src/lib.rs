@@ -1,7 +1,7 @@
 //! DNG opcode lists, run on image samples.
 //!
 //! Every call is safe for every argument: a number that is out of its range, a malformed list or a buffer that is too small is an
-//! [`Answer`], never a panic. The work is done by a library whose functions are proved to meet their contracts; this crate only lends
+//! [`Answer`]; no run panics. The work is done by a library whose functions are proved to meet their contracts; this crate only lends
 //! it slices and reads its answers.
 //!
 //! ```
@@ -168,11 +168,13 @@ impl Scratch {
         Scratch { marks: vec![0; marks], values: vec![0.0; values], names: vec![0; names] }
     }
 
-    /// A scratch that no list outgrows on this frame: the answers 4, 5 and 6 cannot come. The sizes of a frame out of range count
-    /// as 0.
+    /// A scratch that no list outgrows on this frame: the answers 4, 5 and 6 cannot come. It has an entry for every position and a
+    /// value for every sample, which for the largest frames is more than most machines have; [`Scratch::new`] takes less. A frame
+    /// out of range, which every run refuses, gets none.
     pub fn enough(frame: &Frame) -> Scratch {
-        let positions = frame.width.checked_mul(frame.height).filter(|&n| n <= 1 << 32).unwrap_or(0);
-        let values = positions.checked_mul(frame.planes).filter(|_| frame.planes <= 8).unwrap_or(0);
+        let fits = frame.width <= 65_536 && frame.height <= 65_536 && frame.planes <= 8;
+        let positions = if fits { frame.width * frame.height } else { 0 };
+        let values = positions * if fits { frame.planes } else { 0 };
         Scratch::new(positions, values, MAX_OPCODES)
     }
 
