@@ -242,12 +242,20 @@ fn window_of(width: usize, height: usize) -> Window {
     }
 }
 
+// How many samples were held to the largest value: `wide` of them to 65,535 as they were rounded back, `over` of them to maxval as they were
+// encoded. No sample counts twice: one that is held to 65,535 and is then above a smaller maxval is counted by the encoder alone, and at a
+// maxval of 65,535 the encoder counts none.
+fn held_of(maxval: usize, wide: usize, over: usize) -> usize {
+    if maxval < 65535 { over } else { wide }
+}
+
 // A refusal is printed and nothing is written; otherwise the frame is, and then the answer.
 fn finish(
     out: usize,
     a: Answer,
     form: Form,
     names: &[u8],
+    wide_held: usize,
     samples: &[u16],
     width: usize,
     height: usize,
@@ -255,9 +263,9 @@ fn finish(
     raster: &mut [u8],
 ) {
     if is_done(a) {
-        let held = pgm::encode(samples, maxval, &mut *raster);
+        let over = pgm::encode(samples, maxval, &mut *raster);
         if write_pgm(out, width, height, maxval, raster) {
-            print_answer(a, form, names, held);
+            print_answer(a, form, names, held_of(maxval, wide_held, over));
         }
     } else {
         print_answer(a, form, names, 0);
@@ -297,6 +305,7 @@ fn mend_raster(
                 answer,
                 Form::Whole,
                 &names,
+                0,
                 samples,
                 width,
                 height,
@@ -304,12 +313,13 @@ fn mend_raster(
                 raster,
             );
         }
-        Mended::Widened { answer } => {
+        Mended::Widened { answer, held } => {
             finish(
                 out,
                 answer,
                 Form::Rounded,
                 &names,
+                held,
                 samples,
                 width,
                 height,

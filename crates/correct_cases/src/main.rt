@@ -25,13 +25,20 @@ fn print_answer(a: Answer, form: Form, names: &[u8], held: usize) {
     print_text(&text, n);
 }
 
-fn print_mended(m: Mended, names: &[u8], held: usize) {
+// How many samples were held to the largest value: `wide` of them to 65,535 as they were rounded back, `over` of them to maxval as they were
+// encoded. No sample counts twice: one that is held to 65,535 and is then above a smaller maxval is counted by the encoder alone, and at a
+// maxval of 65,535 the encoder counts none.
+fn held_of(maxval: usize, wide: usize, over: usize) -> usize {
+    if maxval < 65535 { over } else { wide }
+}
+
+fn print_mended(m: Mended, names: &[u8], maxval: usize, over: usize) {
     match m {
         Mended::Whole { answer } => {
-            print_answer(answer, Form::Whole, names, held);
+            print_answer(answer, Form::Whole, names, held_of(maxval, 0, over));
         }
-        Mended::Widened { answer } => {
-            print_answer(answer, Form::Rounded, names, held);
+        Mended::Widened { answer, held } => {
+            print_answer(answer, Form::Rounded, names, held_of(maxval, held, over));
         }
         Mended::NoRoom => {
             say(b"80: no room for the samples as f32");
@@ -105,7 +112,7 @@ fn run(
         values,
         &mut *names,
     );
-    print_mended(m, names, 0);
+    print_mended(m, names, 65535, 0);
     print_samples(samples);
 }
 
@@ -227,8 +234,8 @@ fn mend_raster(
         &mut values,
         &mut names,
     );
-    let held = pgm::encode(samples, maxval, &mut *raster);
-    print_mended(m, &names, held);
+    let over = pgm::encode(samples, maxval, &mut *raster);
+    print_mended(m, &names, maxval, over);
     print_samples(samples);
     print_bytes(raster);
 }
