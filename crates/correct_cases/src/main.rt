@@ -1,5 +1,6 @@
 // Small frames, mended: prints what `correct` would print, and the samples, which no test can see in the file that it writes.
 use dng::Answer;
+use dng::Settings;
 use dng::Window;
 use libc::STDOUT_FILENO;
 use mend::Mended;
@@ -289,6 +290,46 @@ fn picture(title: &[u8], list: &[u8], bytes: &[u8]) {
     }
 }
 
+// ---- a raw frame of three f32
+
+fn run_raw(list: &[u8], raster: &mut [u8], samples: &mut [f32]) {
+    pgm::decode_f32(raster, &mut *samples);
+    let mut marks = [0u32; 4];
+    let mut values = [0.0f32; 4];
+    let mut names = [0u8; 8];
+    let w = window_of(3, 1);
+    let set = Settings {
+        period: 1,
+        scale: 1.0,
+    };
+    let a = runs::run_f32(
+        list,
+        &mut *samples,
+        w,
+        set,
+        &mut marks,
+        &mut values,
+        &mut names,
+    );
+    print_answer(a, Form::Float, &names, 0);
+    pgm::encode_f32(samples, &mut *raster);
+    print_bytes(raster);
+}
+
+fn raw(title: &[u8], list: &[u8], bytes: &[u8]) {
+    say(title);
+    let mut file = [0u8; 12];
+    let mut samples = [0.0f32; 3];
+    if bytes.len() <= 12 {
+        texts::put(&mut file, 0, bytes);
+        run_file(list, &mut file, &mut samples);
+    }
+}
+
+fn run_file(list: &[u8], file: &mut [u8; 12], samples: &mut [f32; 3]) {
+    run_raw(list, file, samples);
+}
+
 fn print_header(head: &[u8; 66], n: usize) {
     io::write_all(STDOUT_FILENO, front(head, n));
 }
@@ -360,6 +401,17 @@ fn main() {
         b"P5\n5 1\n255\n\x0a\x00\x13\x00\x00",
     );
     picture(b"- a P2", one, b"P2\n3 1\n255\n10 0 19\n");
+    // 10, 0, 19, and a NaN, which comes back in its one fixed pattern
+    raw(
+        b"- raw f32 10 0 19, a repair of 0",
+        one,
+        b"\0\0\x20\x41\0\0\0\0\0\0\x98\x41",
+    );
+    raw(
+        b"- raw f32 1 NaN -3, row times 0.5",
+        half,
+        b"\0\0\x80\x3f\x01\0\xa0\xff\0\0\x40\xc0",
+    );
     let mut head = [0u8; 66];
     let n = pgm::write_header(&mut head, 192, 64, 255);
     print_header(&head, n);
