@@ -1,6 +1,8 @@
-// correct [--period N] LIST FRAME OUT: runs the opcode list LIST on the binary greymap FRAME and writes the result to OUT.
+// correct [--period N] [--f32 WIDTH HEIGHT] LIST FRAME OUT: runs the opcode list LIST on FRAME and writes the result to OUT. FRAME is a binary
+// greymap (PGM, P5) or, where a size is given, raw little-endian f32, which are run at scale 1.
 // The window is the whole frame, at 0, 0. OUT is written under another name first, so that it is never half written.
 use dng::Answer;
+use dng::Settings;
 use dng::Window;
 use libc::STDOUT_FILENO;
 use mend::Mended;
@@ -20,9 +22,12 @@ fn front(s: &[u8], n: usize) -> &[u8] {
 
 // ---- the arguments
 
-// The period, and which argument LIST is: 0 where the arguments are not in order.
+// The period, the size of a raw f32 frame if one is given, and which argument LIST is: 0 where the arguments are not in order.
 struct Options {
     period: usize,
+    raw: bool,
+    width: usize,
+    height: usize,
     first: usize,
 }
 
@@ -48,42 +53,62 @@ fn is_arg(i: usize, word: &[u8]) -> bool {
     same(&text[..n], word)
 }
 
-fn number_arg(i: usize) -> Word {
+// A number from 0 to 65,536; 65,537 where the argument is none.
+fn number_arg(i: usize) -> usize {
     let mut text = [0u8; 16];
     let n = os::arg(i, &mut text);
-    pgm::read_number(&text[..n])
-}
-
-fn with_period(w: Word) -> Options {
-    match w {
-        Word::Number { value } => Options {
-            period: value,
-            first: 3,
-        },
-        Word::Other => Options {
-            period: 1,
-            first: 0,
-        },
+    match pgm::read_number(&text[..n]) {
+        Word::Number { value } => value,
+        Word::Other => 65537,
     }
 }
 
-fn read_options() -> Options {
-    let count = os::arg_count();
-    if count == 4 {
-        return Options {
-            period: 1,
-            first: 1,
-        };
-    }
-    if count == 6 {
-        if is_arg(1, b"--period") {
-            return with_period(number_arg(2));
-        }
-    }
-    Options {
+fn period_option() -> Options {
+    let none = Options {
         period: 1,
-        first: 0,
+        raw: false,
+        width: 0,
+        height: 0,
+        first: 1,
+    };
+    if is_arg(1, b"--period") {
+        Options {
+            period: number_arg(2),
+            raw: false,
+            width: 0,
+            height: 0,
+            first: 3,
+        }
+    } else {
+        none
     }
+}
+
+fn raw_option(o: Options) -> Options {
+    let at = o.first;
+    if 8 < at {
+        return o;
+    }
+    if is_arg(at, b"--f32") {
+        Options {
+            period: o.period,
+            raw: true,
+            width: number_arg(at + 1),
+            height: number_arg(at + 2),
+            first: at + 3,
+        }
+    } else {
+        o
+    }
+}
+
+fn is_in_order(o: Options) -> bool {
+    let first = o.first;
+    if 8 < first {
+        return false;
+    }
+    (os::arg_count() == first + 3)
+        & ((o.period <= 65536) & ((o.width <= 65536) & (o.height <= 65536)))
 }
 
 // ---- files
@@ -128,14 +153,9 @@ fn join(path: &[u8], end: &[u8], out: &mut [u8]) -> usize {
     texts::put(&mut *out, n, end)
 }
 
-fn write_head(fd: i32, head: &[u8; 66], n: usize) -> bool {
-    io::write_all(fd, front(head, n))
-}
-
-fn write_raster(fd: i32, width: usize, height: usize, maxval: usize, raster: &[u8]) -> bool {
-    let mut head = [0u8; 66];
-    let n = pgm::write_header(&mut head, width, height, maxval);
-    if write_head(fd, &head, n) {
+// Writes what stands before a raster, and the raster.
+fn write_both(fd: i32, head: &[u8], raster: &[u8]) -> bool {
+    if io::write_all(fd, head) {
         io::write_all(fd, raster)
     } else {
         false
@@ -143,20 +163,13 @@ fn write_raster(fd: i32, width: usize, height: usize, maxval: usize, raster: &[u
 }
 
 // Writes a frame under the name `part`, and gives it the name `path` once all of it is there.
-fn write_as(
-    path: &[u8],
-    part: &[u8],
-    width: usize,
-    height: usize,
-    maxval: usize,
-    raster: &[u8],
-) -> bool {
+fn write_as(path: &[u8], part: &[u8], head: &[u8], raster: &[u8]) -> bool {
     let fd = os::create(part);
     if fd < 0 {
         os::fail(part);
         return false;
     }
-    let written = write_raster(fd, width, height, maxval, raster);
+    let written = write_both(fd, head, raster);
     libc::close(fd);
     if written {
         if os::rename(part, path) == 0 {
@@ -169,19 +182,22 @@ fn write_as(
 }
 
 // Writes a frame to the file that argument i names.
-fn write_frame(i: usize, width: usize, height: usize, maxval: usize, raster: &[u8]) -> bool {
+fn write_frame(i: usize, head: &[u8], raster: &[u8]) -> bool {
     let mut path = io::buffer();
     let length = os::arg(i, &mut path);
     let mut part = [0u8; 4096];
     let n = join(&path[..length], b".part", &mut part);
-    write_as(
-        &path[..length],
-        front(&part, n),
-        width,
-        height,
-        maxval,
-        raster,
-    )
+    write_as(&path[..length], front(&part, n), head, raster)
+}
+
+fn write_front(i: usize, head: &[u8; 66], n: usize, raster: &[u8]) -> bool {
+    write_frame(i, front(head, n), raster)
+}
+
+fn write_pgm(i: usize, width: usize, height: usize, maxval: usize, raster: &[u8]) -> bool {
+    let mut head = [0u8; 66];
+    let n = pgm::write_header(&mut head, width, height, maxval);
+    write_front(i, &head, n, raster)
 }
 
 // ---- a frame
@@ -212,12 +228,34 @@ fn print_answer(a: Answer, form: Form, names: &[u8], held: usize) {
     print_text(&text, n);
 }
 
+// The whole frame, at 0, 0.
+fn window_of(width: usize, height: usize) -> Window {
+    Window {
+        width,
+        height,
+        planes: 1,
+        stride: width,
+        x0: 0,
+        y0: 0,
+        full_width: width,
+        full_height: height,
+    }
+}
+
+// How many samples were held to the largest value: `wide` of them to 65,535 as they were rounded back, `over` of them to maxval as they were
+// encoded. No sample counts twice: one that is held to 65,535 and is then above a smaller maxval is counted by the encoder alone, and at a
+// maxval of 65,535 the encoder counts none.
+fn held_of(maxval: usize, wide: usize, over: usize) -> usize {
+    if maxval < 65535 { over } else { wide }
+}
+
 // A refusal is printed and nothing is written; otherwise the frame is, and then the answer.
 fn finish(
     out: usize,
     a: Answer,
     form: Form,
     names: &[u8],
+    wide_held: usize,
     samples: &[u16],
     width: usize,
     height: usize,
@@ -225,9 +263,9 @@ fn finish(
     raster: &mut [u8],
 ) {
     if is_done(a) {
-        let held = pgm::encode(samples, maxval, &mut *raster);
-        if write_frame(out, width, height, maxval, raster) {
-            print_answer(a, form, names, held);
+        let over = pgm::encode(samples, maxval, &mut *raster);
+        if write_pgm(out, width, height, maxval, raster) {
+            print_answer(a, form, names, held_of(maxval, wide_held, over));
         }
     } else {
         print_answer(a, form, names, 0);
@@ -249,16 +287,7 @@ fn mend_raster(
     values: &mut [f32],
 ) {
     pgm::decode(raster, maxval, &mut *samples);
-    let w = Window {
-        width,
-        height,
-        planes: 1,
-        stride: width,
-        x0: 0,
-        y0: 0,
-        full_width: width,
-        full_height: height,
-    };
+    let w = window_of(width, height);
     let mut names = [0u8; 4096];
     match mend::mend(
         list,
@@ -276,6 +305,7 @@ fn mend_raster(
                 answer,
                 Form::Whole,
                 &names,
+                0,
                 samples,
                 width,
                 height,
@@ -283,12 +313,13 @@ fn mend_raster(
                 raster,
             );
         }
-        Mended::Widened { answer } => {
+        Mended::Widened { answer, held } => {
             finish(
                 out,
                 answer,
                 Form::Rounded,
                 &names,
+                held,
                 samples,
                 width,
                 height,
@@ -357,9 +388,79 @@ fn mend_file(
     }
 }
 
-fn mend_args(
-    first: usize,
+// ---- a raw frame of f32
+
+fn run_raw(
+    out: usize,
     period: usize,
+    list: &[u8],
+    width: usize,
+    height: usize,
+    raster: &mut [u8],
+    samples: &mut [f32],
+    marks: &mut [u32],
+    values: &mut [f32],
+) {
+    pgm::decode_f32(raster, &mut *samples);
+    let mut names = [0u8; 4096];
+    let w = window_of(width, height);
+    let set = Settings { period, scale: 1.0 };
+    let a = runs::run_f32(list, &mut *samples, w, set, marks, values, &mut names);
+    if is_done(a) {
+        pgm::encode_f32(samples, &mut *raster);
+        if write_frame(out, b"", raster) {
+            print_answer(a, Form::Float, &names, 0);
+        }
+    } else {
+        print_answer(a, Form::Float, &names, 0);
+    }
+}
+
+fn run_raw_file(
+    out: usize,
+    period: usize,
+    list: &[u8],
+    width: usize,
+    height: usize,
+    n: usize,
+    file: &mut [u8],
+    samples: &mut [f32],
+    marks: &mut [u32],
+    values: &mut [f32],
+) {
+    let count = pgm::area(width, height);
+    if 524288 < count {
+        say(b"FRAME: too many samples");
+        return;
+    }
+    let bytes = 4 * count;
+    if n != bytes {
+        say(b"FRAME: its length is not that of WIDTH by HEIGHT f32");
+        return;
+    }
+    if count <= samples.len() {
+        if bytes <= file.len() {
+            let raster = &mut file[0..bytes];
+            let part = &mut samples[0..count];
+            run_raw(
+                out,
+                period,
+                list,
+                width,
+                height,
+                raster,
+                part,
+                marks,
+                values,
+            );
+        }
+    }
+}
+
+// ---- the files
+
+fn mend_args(
+    o: Options,
     list: &mut [u8],
     file: &mut [u8],
     samples: &mut [u16],
@@ -367,16 +468,33 @@ fn mend_args(
     marks: &mut [u32],
     values: &mut [f32],
 ) {
+    let first = o.first;
+    if 8 < first {
+        return;
+    }
     let Bytes::Read { n: long } = read_file(first, &mut *list) else {
         return;
     };
-    if first < 4 {
-        let Bytes::Read { n } = read_file(first + 1, &mut *file) else {
-            return;
-        };
+    let Bytes::Read { n } = read_file(first + 1, &mut *file) else {
+        return;
+    };
+    if o.raw {
+        run_raw_file(
+            first + 2,
+            o.period,
+            front(list, long),
+            o.width,
+            o.height,
+            n,
+            file,
+            wide,
+            marks,
+            values,
+        );
+    } else {
         mend_file(
             first + 2,
-            period,
+            o.period,
             front(list, long),
             n,
             file,
@@ -390,35 +508,33 @@ fn mend_args(
 
 // The large buffers go on as slices from here.
 fn mend_in(
-    first: usize,
-    period: usize,
+    o: Options,
     list: &mut [u8; 262144],
-    file: &mut [u8; 1052672],
+    file: &mut [u8; 2101248],
     samples: &mut [u16; 524288],
     wide: &mut [f32; 524288],
-    marks: &mut [u32; 262144],
-    values: &mut [f32; 262144],
+    marks: &mut [u32; 131072],
+    values: &mut [f32; 131072],
 ) {
-    mend_args(first, period, list, file, samples, wide, marks, values);
+    mend_args(o, list, file, samples, wide, marks, values);
 }
 
+// All room is here: six and a half megabytes, which the default stack of eight holds. A list has at most 262,143 bytes, a frame at most
+// 524,288 samples, a repair at most 131,072 positions.
 fn main() {
-    let o = read_options();
-    let first = o.first;
-    let period = o.period;
-    if first == 0 {
-        say(b"correct [--period N] LIST FRAME OUT");
+    let o = raw_option(period_option());
+    if !is_in_order(o) {
+        say(b"correct [--period N] [--f32 WIDTH HEIGHT] LIST FRAME OUT");
         return;
     }
     let mut list = [0u8; 262144];
-    let mut file = [0u8; 1052672];
+    let mut file = [0u8; 2101248];
     let mut samples = [0u16; 524288];
     let mut wide = [0.0f32; 524288];
-    let mut marks = [0u32; 262144];
-    let mut values = [0.0f32; 262144];
+    let mut marks = [0u32; 131072];
+    let mut values = [0.0f32; 131072];
     mend_in(
-        first,
-        period,
+        o,
         &mut list,
         &mut file,
         &mut samples,

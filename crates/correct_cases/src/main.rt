@@ -1,5 +1,6 @@
 // Small frames, mended: prints what `correct` would print, and the samples, which no test can see in the file that it writes.
 use dng::Answer;
+use dng::Settings;
 use dng::Window;
 use libc::STDOUT_FILENO;
 use mend::Mended;
@@ -25,13 +26,20 @@ fn print_answer(a: Answer, form: Form, names: &[u8], held: usize) {
     print_text(&text, n);
 }
 
-fn print_mended(m: Mended, names: &[u8], held: usize) {
+// How many samples were held to the largest value: `wide` of them to 65,535 as they were rounded back, `over` of them to maxval as they were
+// encoded. No sample counts twice: one that is held to 65,535 and is then above a smaller maxval is counted by the encoder alone, and at a
+// maxval of 65,535 the encoder counts none.
+fn held_of(maxval: usize, wide: usize, over: usize) -> usize {
+    if maxval < 65535 { over } else { wide }
+}
+
+fn print_mended(m: Mended, names: &[u8], maxval: usize, over: usize) {
     match m {
         Mended::Whole { answer } => {
-            print_answer(answer, Form::Whole, names, held);
+            print_answer(answer, Form::Whole, names, held_of(maxval, 0, over));
         }
-        Mended::Widened { answer } => {
-            print_answer(answer, Form::Rounded, names, held);
+        Mended::Widened { answer, held } => {
+            print_answer(answer, Form::Rounded, names, held_of(maxval, held, over));
         }
         Mended::NoRoom => {
             say(b"80: no room for the samples as f32");
@@ -105,7 +113,7 @@ fn run(
         values,
         &mut *names,
     );
-    print_mended(m, names, 0);
+    print_mended(m, names, 65535, 0);
     print_samples(samples);
 }
 
@@ -227,8 +235,8 @@ fn mend_raster(
         &mut values,
         &mut names,
     );
-    let held = pgm::encode(samples, maxval, &mut *raster);
-    print_mended(m, &names, held);
+    let over = pgm::encode(samples, maxval, &mut *raster);
+    print_mended(m, &names, maxval, over);
     print_samples(samples);
     print_bytes(raster);
 }
@@ -280,6 +288,46 @@ fn picture(title: &[u8], list: &[u8], bytes: &[u8]) {
         let n = texts::put(&mut file, 0, bytes);
         mend_front(list, &mut file, n, &mut samples);
     }
+}
+
+// ---- a raw frame of three f32
+
+fn run_raw(list: &[u8], raster: &mut [u8], samples: &mut [f32]) {
+    pgm::decode_f32(raster, &mut *samples);
+    let mut marks = [0u32; 4];
+    let mut values = [0.0f32; 4];
+    let mut names = [0u8; 8];
+    let w = window_of(3, 1);
+    let set = Settings {
+        period: 1,
+        scale: 1.0,
+    };
+    let a = runs::run_f32(
+        list,
+        &mut *samples,
+        w,
+        set,
+        &mut marks,
+        &mut values,
+        &mut names,
+    );
+    print_answer(a, Form::Float, &names, 0);
+    pgm::encode_f32(samples, &mut *raster);
+    print_bytes(raster);
+}
+
+fn raw(title: &[u8], list: &[u8], bytes: &[u8]) {
+    say(title);
+    let mut file = [0u8; 12];
+    let mut samples = [0.0f32; 3];
+    if bytes.len() <= 12 {
+        texts::put(&mut file, 0, bytes);
+        run_file(list, &mut file, &mut samples);
+    }
+}
+
+fn run_file(list: &[u8], file: &mut [u8; 12], samples: &mut [f32; 3]) {
+    run_raw(list, file, samples);
 }
 
 fn print_header(head: &[u8; 66], n: usize) {
@@ -353,6 +401,17 @@ fn main() {
         b"P5\n5 1\n255\n\x0a\x00\x13\x00\x00",
     );
     picture(b"- a P2", one, b"P2\n3 1\n255\n10 0 19\n");
+    // 10, 0, 19, and a NaN, which comes back in its one fixed pattern
+    raw(
+        b"- raw f32 10 0 19, a repair of 0",
+        one,
+        b"\0\0\x20\x41\0\0\0\0\0\0\x98\x41",
+    );
+    raw(
+        b"- raw f32 1 NaN -3, row times 0.5",
+        half,
+        b"\0\0\x80\x3f\x01\0\xa0\xff\0\0\x40\xc0",
+    );
     let mut head = [0u8; 66];
     let n = pgm::write_header(&mut head, 192, 64, 255);
     print_header(&head, n);

@@ -1,17 +1,19 @@
 -- Samples turned into others place by place, and what a run leaves that does not take its list. Assumes nothing.
-use Prim.Native.Nat.{ℕ, _≤_, _<_}
+use Prim.Native.Nat.{ℕ, _+_, _≤_, _<_}
 use mathlib.Core.Path.{_≡_, refl, sym, ap, ap₂, subst, _∙_}
 use mathlib.Core.Bool.{Bool, true, false, cond}
 use mathlib.Core.List.{List, map}
 use native.Mathlib.Omega.{arith}
+use native.Mathlib.Numerals.{add-one}
 use borrow.Author.Tests.{le-leb, lt-leb}
-use lib.Dec.{leb}
-use lib.Ieee.{Float}
-use lib.ListN.{length, getD, length-map, length-replicate}
-use lib.Seq.{ext-getD}
+use lib.Dec.{leb, eqb}
+use lib.Ieee.{Float, nan}
+use lib.ListN.{length, getD, drop, length-map, length-replicate, drop-of-length-le}
+use lib.Seq.{ext-getD, drop-cons}
 use Rattle.points.specs.Points.{each, between}
 use Rattle.points.proofs.Each.{length-each, getD-each, each-agree}
 use Rattle.points.proofs.Parts.{between-in}
+use Rattle.whole.specs.Whole.{roundHeld}
 use Rattle.dng.specs.declared.Window.{Window}
 use Rattle.dng.specs.declared.Settings.{Settings}
 use Rattle.dng.specs.declared.Answer.{Answer}
@@ -25,7 +27,7 @@ use Rattle.wholeform.specs.WholeForm.{widened, narrowed, atOne}
 use Rattle.wholeform.proofs.Pairs.{getD-map-in}
 use Rattle.mend.specs.declared.Mended.{Mended}
 use Rattle.mend.specs.declared.Mended.the-variants.{Whole, Widened, NoRoom}
-use Rattle.mend.specs.Mend.{notTaken, early, MendOut, wholeOut, roundedOut, mendOut, Rounded, Mends}
+use Rattle.mend.specs.Mend.{notTaken, early, MendOut, wholeOut, heldIn, roundedOut, mendOut, Rounded, Mends}
 
 -- ---- turned
 
@@ -40,6 +42,17 @@ module _ {A B : Type 0} (F : A → B) (d : A) where
       (λ k h.
       let m : k < length l = subst (λ (n : ℕ). k < n) (length-each _ l) h in
       getD-each _ l k e m ∙ between-in 0 i (turned s) k _ (omega arith) (omega arith) ∙ sym (getD-map-in F s k d e (omega arith)))
+
+-- ---- how many are held from an index on
+
+module _ (s : List Float) (i : ℕ) where
+  pub held-more : i < length s → heldIn (drop i s) ≡ cond (eqb (roundHeld 65536 (getD s i nan)) 65536) 1 0 + heldIn (drop (i + 1) s)
+  unfolding heldIn
+  held-more h = ap heldIn (drop-cons s i nan h) ∙ rw add-one refl
+
+  pub held-end : length s ≤ i → heldIn (drop i s) ≡ 0
+  unfolding heldIn
+  held-end h = ap heldIn (drop-of-length-le s h)
 
 -- ---- a run that is refused before its first opcode leaves all as it was
 
@@ -94,13 +107,14 @@ module _ {A : Type 0} (s : List A) (names : List ℕ) where
 
 -- ---- the f32 run, rounded back
 
-pub rounded : (w : Window) (set : Settings) (room : Room) (list names s : List ℕ) {s′ names′ marks : List ℕ} {l l′ values : List Float} {r : Answer}
-    → l ≡ widened s → Ran (f32Out w set room list l names) room r l′ names′ marks values → s′ ≡ narrowed l′
-    → Rounded (f32Out w set room list (widened s) names) room r s′ names′ marks values
-rounded w set room list names s {s′} {names′} {marks} {l} {l′} {values} {r} e ran back =
+pub rounded : (w : Window) (set : Settings) (room : Room) (list names s : List ℕ) {s′ names′ marks : List ℕ} {l l′ values : List Float} {r : Answer} {n : ℕ}
+    → l ≡ widened s → Ran (f32Out w set room list l names) room r l′ names′ marks values → n ≡ heldIn l′ → s′ ≡ narrowed l′
+    → Rounded (f32Out w set room list (widened s) names) room r n s′ names′ marks values
+rounded w set room list names s {s′} {names′} {marks} {l} {l′} {values} {r} e ran many back =
     let on = subst (λ (x : List Float). Ran (f32Out w set room list x names) room r l′ names′ marks values) e ran in
     record {
       answered = on .answered;
+      counted = many ∙ ap heldIn (on .left);
       left = back ∙ ap narrowed (on .left);
       named = on .named;
       marksClear = on .marksClear;
@@ -154,20 +168,20 @@ module _ (w : Window) (period wide : ℕ) (room : Room) (list s names : List ℕ
       ap₂ (λ (m v : ℕ). record { marks = m; values = v }) (ap length (ran .marksClear) ∙ length-replicate (room .marks) _)
       (ap length (ran .valuesClear) ∙ length-replicate (room .values) _)
 
-  pub by-wide : {r : Answer} {s″ names″ marks″ : List ℕ} {values″ : List Float} → t ≡ true → length s′ ≤ wide
+  pub by-wide : {r : Answer} {n : ℕ} {s″ names″ marks″ : List ℕ} {values″ : List Float} → t ≡ true → length s′ ≤ wide
       → Rounded (f32Out w (atOne period) (record { marks = length marks; values = length values }) list (widened s′) names′)
-      (record { marks = length marks; values = length values }) r s″ names″ marks″ values″
-      → Mends (mendOut w period room wide list s names) room (Widened r) s″ names″ marks″ values″
+      (record { marks = length marks; values = length values }) r n s″ names″ marks″ values″
+      → Mends (mendOut w period room wide list s names) room (Widened r n) s″ names″ marks″ values″
   unfolding mendOut
-  by-wide {r} {s″} {names″} {marks″} {values″} f h q =
+  by-wide {r} {n} {s″} {names″} {marks″} {values″} f h q =
       let e : s′ ≡ s = same-samples f in
-      let q₁ = subst (λ (x : Room). Rounded (f32Out w (atOne period) x list (widened s′) names′) x r s″ names″ marks″ values″) same-room q in
-      let q₂ = subst (λ (x : List ℕ). Rounded (f32Out w (atOne period) room list (widened x) names′) room r s″ names″ marks″ values″) e q₁ in
-      let on = subst (λ (x : List ℕ). Rounded (f32Out w (atOne period) room list (widened s) x) room r s″ names″ marks″ values″) (same-names f) q₂ in
+      let q₁ = subst (λ (x : Room). Rounded (f32Out w (atOne period) x list (widened s′) names′) x r n s″ names″ marks″ values″) same-room q in
+      let q₂ = subst (λ (x : List ℕ). Rounded (f32Out w (atOne period) room list (widened x) names′) room r n s″ names″ marks″ values″) e q₁ in
+      let on = subst (λ (x : List ℕ). Rounded (f32Out w (atOne period) room list (widened s) x) room r n s″ names″ marks″ values″) (same-names f) q₂ in
       pick (roundedOut (f32Out w (atOne period) room list (widened s) names))
       (simp (told ∙ f, le-leb (length s) wide (subst (λ (x : List ℕ). length x ≤ wide) e h)))
       (record {
-        answered = ap Widened (on .answered);
+        answered = ap₂ Widened (on .answered) (on .counted);
         left = on .left;
         named = on .named;
         marksClear = on .marksClear;

@@ -1,12 +1,13 @@
 -- What mending a frame of whole numbers gives: the whole-number run's result where that run takes the list; otherwise the samples as f32, the
 -- f32 run at scale 1, and each sample rounded to whole, half away from zero, and held to 0..65535.
-use Prim.Native.Nat.{ℕ}
+use Prim.Native.Nat.{ℕ, _+_}
 use mathlib.Core.Bool.{Bool, true, false, cond}
-use mathlib.Core.List.{List}
+use mathlib.Core.List.{List, [], _∷_}
 use mathlib.Core.Path.{_≡_}
-use lib.Dec.{leb}
+use lib.Dec.{leb, eqb}
 use lib.Ieee.{Float}
 use lib.ListN.{length, replicate}
+use Rattle.whole.specs.Whole.{roundHeld}
 use Rattle.dng.specs.declared.Window.{Window}
 use Rattle.dng.specs.declared.Numbers.{Numbers}
 use Rattle.dng.specs.declared.Answer.{Answer}
@@ -40,19 +41,19 @@ early (Ans.Values k) = false
 
 abbrev pub earlyMended : Mended → Bool
 earlyMended (Whole a) = early a
-earlyMended (Widened a) = early a
+earlyMended (Widened a n) = early a
 earlyMended NoRoom = true
 
 -- the paper's number and values; too little room for the samples as f32 is 80, which no run and no reading answers
 abbrev pub numbersOf : Mended → Numbers
 numbersOf (Whole a) = paper a
-numbersOf (Widened a) = paper a
+numbersOf (Widened a n) = paper a
 numbersOf NoRoom = record { number = 80; entry = 0; opcode = 0; names = 0; repaired = 0; left = 0 }
 
 -- the verdict: a frame is whole when a run answers 0 and skips nothing
 abbrev pub wholeMended : Mended → Bool
 wholeMended (Whole a) = wholeFrame a
-wholeMended (Widened a) = wholeFrame a
+wholeMended (Widened a n) = wholeFrame a
 wholeMended NoRoom = false
 
 pub record MendOut : Type 0 where
@@ -63,8 +64,13 @@ pub record MendOut : Type 0 where
 abbrev pub wholeOut : Out ℕ → MendOut
 wholeOut o = record { answer = Whole (o .answer); samples = o .samples; names = o .names }
 
+-- how many samples are above 65535 once rounded: those that are lowered to it
+unfoldable pub heldIn : List Float → ℕ
+heldIn [] = 0
+heldIn (v ∷ s) = cond (eqb (roundHeld 65536 v) 65536) 1 0 + heldIn s
+
 abbrev pub roundedOut : Out Float → MendOut
-roundedOut o = record { answer = Widened (o .answer); samples = narrowed (o .samples); names = o .names }
+roundedOut o = record { answer = Widened (o .answer) (heldIn (o .samples)); samples = narrowed (o .samples); names = o .names }
 
 -- room: the lengths of the scratch; wide: how many samples there is room for as f32
 unfoldable pub mendOut : Window → (period : ℕ) → Room → (wide : ℕ) → (list samples names : List ℕ) → MendOut
@@ -74,9 +80,10 @@ mendOut w period room wide list s names =
     (record { answer = NoRoom; samples = s; names = names }))
     (wholeOut (u16Out w period room list s names))
 
--- the f32 run with what it left rounded back
-pub record Rounded (o : Out Float) (room : Room) (r : Answer) (samples names marks : List ℕ) (values : List Float) : Type 0 where
+-- the f32 run with what it left rounded back, and how many samples that held
+pub record Rounded (o : Out Float) (room : Room) (r : Answer) (held : ℕ) (samples names marks : List ℕ) (values : List Float) : Type 0 where
   pub answered : r ≡ o .answer
+  pub counted : held ≡ heldIn (o .samples)
   pub left : samples ≡ narrowed (o .samples)
   pub named : names ≡ o .names
   pub marksClear : marks ≡ replicate (room .marks) 0

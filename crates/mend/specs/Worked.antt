@@ -20,7 +20,7 @@ use Rattle.dng.specs.Answer.{inRange, ranOn, runOut}
 use Rattle.dng.specs.Frames.{words, entry}
 use Rattle.mend.specs.declared.Mended.{Mended}
 use Rattle.mend.specs.declared.Mended.the-variants.{Whole, Widened, NoRoom}
-use Rattle.mend.specs.Mend.{MendOut, mendOut}
+use Rattle.mend.specs.Mend.{MendOut, heldIn, mendOut}
 
 abbrev constant : ℕ → List ℕ
 constant c = entry 4 (words (c ∷ 0 ∷ []))
@@ -50,13 +50,13 @@ pub record Worked : Type 0 where
   -- two repairs: the f32 run, whose 14.5 comes back as 15
   pub twice :
       mendOut (frame 3) 1 room 3 (words (2 ∷ []) ++ (constant 0 ++ constant 99)) (10 ∷ 0 ∷ 19 ∷ []) []
-      ≡ out (Widened (Ans.Done 0 1 0)) (10 ∷ 15 ∷ 19 ∷ [])
+      ≡ out (Widened (Ans.Done 0 1 0) 0) (10 ∷ 15 ∷ 19 ∷ [])
   -- 0.5, 1, 1.5, 2.5, 32767.5: half away from zero
   pub halves :
       mendOut (frame 5) 1 room 5 (one-of halved) (1 ∷ 2 ∷ 3 ∷ 5 ∷ 65535 ∷ []) []
-      ≡ out (Widened (Ans.Done 0 0 0)) (1 ∷ 1 ∷ 2 ∷ 3 ∷ 32768 ∷ [])
-  -- held to 65535
-  pub held : mendOut (frame 2) 1 room 2 (one-of raised) (0 ∷ 1 ∷ []) [] ≡ out (Widened (Ans.Done 0 0 0)) (0 ∷ 65535 ∷ [])
+      ≡ out (Widened (Ans.Done 0 0 0) 0) (1 ∷ 1 ∷ 2 ∷ 3 ∷ 32768 ∷ [])
+  -- held to 65535, and counted
+  pub held : mendOut (frame 2) 1 room 2 (one-of raised) (0 ∷ 1 ∷ []) [] ≡ out (Widened (Ans.Done 0 0 0) 1) (0 ∷ 65535 ∷ [])
   -- room for two samples as f32, and three are lent
   pub no-room : mendOut (frame 3) 1 room 2 (one-of halved) (1 ∷ 2 ∷ 3 ∷ []) [] ≡ out NoRoom (1 ∷ 2 ∷ 3 ∷ [])
   -- a list that no run reads, and no room either
@@ -64,8 +64,8 @@ pub record Worked : Type 0 where
   -- no room for marks at the second opcode: as after the first, rounded
   pub full :
       mendOut (frame 3) 1 (record { marks = 0; values = 0 }) 3 (words (2 ∷ []) ++ (halved ++ constant 0)) (1 ∷ 0 ∷ 5 ∷ []) []
-      ≡ out (Widened (Ans.Marks 1)) (1 ∷ 0 ∷ 3 ∷ [])
+      ≡ out (Widened (Ans.Marks 1) 0) (1 ∷ 0 ∷ 3 ∷ [])
 
 pub worked : Worked
-unfolding mendOut big each selects onColumns roundHeld readingOf itemsOf counted readFrom stepAt nextAt parsedAt countedAt onRegion onWindow inWindow active wholePixel nth scaled anyBelow countBelow complete badValue marksOf moved sound tallyOn repairAt soundOn markedIn repairedIn leftIn namesOf takes16On takes16From repairOn performAll inRange ranOn runOut ofBits ofFields odd trailingZeros ofInt round units size span climb mul div add eq
+unfolding mendOut heldIn big each selects onColumns roundHeld readingOf itemsOf counted readFrom stepAt nextAt parsedAt countedAt onRegion onWindow inWindow active wholePixel nth scaled anyBelow countBelow complete badValue marksOf moved sound tallyOn repairAt soundOn markedIn repairedIn leftIn namesOf takes16On takes16From repairOn performAll inRange ranOn runOut ofBits ofFields odd trailingZeros ofInt round units size span climb mul div add eq
 worked = record { whole = refl; twice = refl; halves = refl; held = refl; no-room = refl; malformed = refl; full = refl }

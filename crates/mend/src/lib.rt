@@ -4,18 +4,20 @@ use dng::Numbers;
 use dng::Settings;
 use dng::Window;
 ghost use mathlib.Core.Path.{_≡_};
+ghost use mathlib.Core.Bool.{cond};
+ghost use Prim.Native.Nat.{_≤_};
 ghost use lib.ListN.{length, replicate};
 ghost use Rattle.dng.specs.Value.{nought};
 ghost use Rattle.dng.specs.Answer.{f32Out};
 ghost use Rattle.wholeform.specs.WholeForm.{widened, narrowed, atOne};
-ghost use Rattle.mend.specs.Mend.{notTaken, numbersOf, wholeMended, mendOut, Rounded, Mends, MendsClear};
+ghost use Rattle.mend.specs.Mend.{notTaken, numbersOf, wholeMended, heldIn, mendOut, Rounded, Mends, MendsClear};
 
 // What mending answers.
 pub enum Mended {
     // by the whole-number run, which takes the list or refuses it for another reason
     Whole { answer: Answer },
-    // by the f32 run
-    Widened { answer: Answer },
+    // by the f32 run; `held` samples were above 65535 when they were rounded back
+    Widened { answer: Answer, held: usize },
     // the whole-number run does not take the list, and there is no room for the samples as f32
     NoRoom,
 }
@@ -48,6 +50,25 @@ fn narrow(wide: &[f32], samples: &mut [u16])
     }
 }
 
+fn one_if(b: bool) -> usize
+    ensures { λ r. ⌜ (r ≡ cond b 1 0) × (r ≤ 1) ⌝ }
+{
+    if b { 1 } else { 0 }
+}
+
+// How many of them are above 65535 once rounded.
+fn held(wide: &[f32]) -> usize
+    ensures { λ r. ⌜ r ≡ heldIn (now (wide .entry)) ⌝ }
+{
+    let mut m: usize = 0;
+    let mut i: usize = 0;
+    while i < wide.len() {
+        m += one_if(whole::round_held(wide[i], 65536) == 65536);
+        i += 1;
+    }
+    m
+}
+
 fn clear(wide: &mut [f32])
     ensures { λ _. ⌜ now (wide .exit) ≡ replicate (length (now (wide .entry))) nought ⌝ }
 {
@@ -56,6 +77,12 @@ fn clear(wide: &mut [f32])
         wide[i] = 0.0;
         i += 1;
     }
+}
+
+// What the f32 run answers, and how many samples were held when they were rounded back.
+struct Rounding {
+    answer: Answer,
+    held: usize,
 }
 
 // The f32 run on whole samples, with room for just as many as f32.
@@ -68,19 +95,20 @@ fn run_wide(
     marks: &mut [u32],
     values: &mut [f32],
     names: &mut [u8],
-) -> Answer
+) -> Rounding
     requires { ⌜ length (now wide) ≡ length (now samples) ⌝ }
     ensures { λ r.
         ⌜ Rounded (f32Out w (atOne period) (record { marks = length (now (marks .entry)); values = length (now (values .entry)) })
         (now (list .entry)) (widened (now (samples .entry))) (now (names .entry)))
         (record { marks = length (now (marks .entry)); values = length (now (values .entry)) })
-        r (now (samples .exit)) (now (names .exit)) (now (marks .exit)) (now (values .exit)) ⌝ }
+        (r .answer) (r .held) (now (samples .exit)) (now (names .exit)) (now (marks .exit)) (now (values .exit)) ⌝ }
 {
     widen(samples, &mut *wide);
     let set = Settings { period, scale: 1.0 };
-    let r = runs::run_f32(list, &mut *wide, w, set, marks, values, names);
+    let answer = runs::run_f32(list, &mut *wide, w, set, marks, values, names);
+    let over = held(wide);
     narrow(wide, samples);
-    r
+    Rounding { answer, held: over }
 }
 
 fn is_not_taken(a: Answer) -> bool
@@ -131,8 +159,10 @@ fn attempt(
         let n = samples.len();
         if n <= wide.len() {
             let part = &mut wide[0..n];
-            let answer = run_wide(list, samples, part, w, period, marks, values, names);
-            Mended::Widened { answer }
+            let r = run_wide(list, samples, part, w, period, marks, values, names);
+            let answer = r.answer;
+            let over = r.held;
+            Mended::Widened { answer, held: over }
         } else {
             Mended::NoRoom
         }
@@ -169,7 +199,7 @@ pub fn numbers(m: Mended) -> Numbers
 {
     match m {
         Mended::Whole { answer } => answers::numbers(answer),
-        Mended::Widened { answer } => answers::numbers(answer),
+        Mended::Widened { answer, held: _ } => answers::numbers(answer),
         Mended::NoRoom => Numbers {
             number: Mended::NO_ROOM,
             entry: 0,
@@ -187,7 +217,7 @@ pub fn is_whole(m: Mended) -> bool
 {
     match m {
         Mended::Whole { answer } => answers::whole_frame(answer),
-        Mended::Widened { answer } => answers::whole_frame(answer),
+        Mended::Widened { answer, held: _ } => answers::whole_frame(answer),
         Mended::NoRoom => false,
     }
 }

@@ -8,6 +8,7 @@ use native.Mathlib.Numerals.{add-one}
 use native.Mathlib.Omega.{arith}
 use borrow.Author.Tests.{leb-true, le-leb, lt-leb, lt-ltb, le-ltb, eq-eqb, ne-eqb}
 use lib.Dec.{leb, ltb, eqb}
+use lib.Ieee.{Float, binary32, nan, toBits}
 use lib.ListN.{length, getD, drop, set, drop-of-length-le, List·getD-eq-default}
 use lib.Seq.{drop-cons}
 use Rattle.points.specs.Points.{each, between}
@@ -20,7 +21,7 @@ use Rattle.pgm.specs.declared.Found.the-variants.{Header, Broken}
 use Rattle.pgm.specs.declared.Field.{Field}
 use Rattle.pgm.specs.declared.Frame.the-variants.{Whole, Short}
 use Rattle.pgm.specs.declared.Word.the-variants.{Number, Other}
-use Rattle.pgm.specs.Pgm.{white, goesOn, inside, blanks, past, isDigit, digitsIn, decimalFrom, numberAt, Held, sound, p5, fieldAt, isHeader, headerOn, headerOf, rasterLen, sizedOn, InSizes, isNumber, wordOf, byteAt, over}
+use Rattle.pgm.specs.Pgm.{white, goesOn, inside, blanks, past, isDigit, digitsIn, decimalFrom, numberAt, Held, sound, p5, fieldAt, isHeader, headerOn, headerOf, rasterLen, sizedOn, InSizes, isNumber, wordOf, byteAt, over, nthByte, floatByteAt}
 
 -- ---- white space and comments
 
@@ -269,7 +270,7 @@ no-number s f n h = sym (ap (λ (b : Bool). cond b (Number (numberAt s 0 .value)
 -- ---- the raster
 
 -- a run over all places is done when its end has passed the list's
-pub all-done : (f : ℕ → ℕ → ℕ) (l : List ℕ) (e : ℕ) → length l ≤ e → each (between 0 e f) l ≡ each f l
+pub all-done : {A : Type 0} (f : ℕ → A → A) (l : List A) (e : ℕ) → length l ≤ e → each (between 0 e f) l ≡ each f l
 all-done f l e q = each-agree (between 0 e f) f l (λ i v h. between-in 0 e f i v (omega arith) (omega arith))
 
 pub over-next : (m : ℕ) (s : List ℕ) (i : ℕ) {t : Bool} {d : ℕ} → i < length s → t ≡ ltb m (getD s i 0) → d ≡ cond t 1 0
@@ -303,6 +304,17 @@ module _ (s : List ℕ) (maxval j : ℕ) where
   pub past-all : (v : ℕ) → 256 ≤ maxval → length s ≤ j / 2 → v ≡ byteAt s maxval j v
   unfolding byteAt
   past-all v m h = simp (le-ltb maxval 256 m, le-ltb (j / 2) (length s) h)
+
+-- ---- raw frames of f32
+
+pub float-in : (s : List Float) (j : ℕ) {bits x : ℕ} (v : ℕ) → j / 4 < length s → bits ≡ toBits binary32 (getD s (j / 4) nan)
+    → x ≡ nthByte bits (j % 4) → x ≡ floatByteAt s j v
+unfolding floatByteAt
+float-in s j v h e q = simp (lt-ltb (j / 4) (length s) h, q, e)
+
+pub float-past : (s : List Float) (j v : ℕ) → length s ≤ j / 4 → v ≡ floatByteAt s j v
+unfolding floatByteAt
+float-past s j v h = simp (le-ltb (j / 4) (length s) h)
 
 -- ---- a header, written
 

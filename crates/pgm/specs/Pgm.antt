@@ -6,8 +6,9 @@ use mathlib.Core.Bool.{Bool, true, false, not, _&&_, _||_, cond}
 use mathlib.Core.List.{List, [], _∷_, _++_}
 use mathlib.Core.Path.{_≡_}
 use lib.Dec.{leb, ltb, eqb}
+use lib.Ieee.{Float, binary32, nan, ofBits, toBits}
 use lib.ListN.{length, getD, drop}
-use Rattle.words.specs.Words.{big}
+use Rattle.words.specs.Words.{big, little}
 use Rattle.points.specs.Points.{each}
 use Rattle.texts.specs.Text.{decimal}
 use Rattle.texts.specs.Appended.{Appended}
@@ -153,6 +154,25 @@ over m (v ∷ s) = cond (ltb m v) 1 0 + over m s
 pub record Encoded (s : List ℕ) (maxval : ℕ) (out₀ : List ℕ) (r : ℕ) (out : List ℕ) : Type 0 where
   pub counted : r ≡ over maxval s
   pub raster : out ≡ each (byteAt s maxval) out₀
+
+-- ---- raw frames of f32, little-endian
+
+-- how many samples a frame has; one more than any where a side is too long
+unfoldable pub areaOf : (width height : ℕ) → ℕ
+areaOf w h = cond (leb w 65536) (cond (leb h 65536) (w * h) 4294967297) 4294967297
+
+-- sample i: four bytes, the lowest first; 0 past the end
+unfoldable pub floatAt : List ℕ → ℕ → Float
+floatAt raster i = ofBits binary32 (little 4 raster (4 * i))
+
+-- byte k of a word of 32 bits, the lowest first
+unfoldable pub nthByte : ℕ → ℕ → ℕ
+nthByte bits k =
+    cond (eqb k 0) (bits % 256) (cond (eqb k 1) (bits / 256 % 256) (cond (eqb k 2) (bits / 65536 % 256) (bits / 16777216 % 256)))
+
+-- byte j of the raster of the samples s; v past them
+unfoldable pub floatByteAt : List Float → ℕ → ℕ → ℕ
+floatByteAt s j v = cond (ltb (j / 4) (length s)) (nthByte (toBits binary32 (getD s (j / 4) nan)) (j % 4)) v
 
 -- ---- a header, written; 80, 53, 10 are `P`, `5` and a newline, 32 a space
 

@@ -1,11 +1,13 @@
 -- Worked headers and rasters, each by computing.
 use mathlib.Core.Path.{_≡_, refl}
 use mathlib.Core.List.{[], _∷_, _++_}
-use Rattle.words.specs.Words.{big}
+use lib.Ieee.{binary32, nan, ofBits, toBits}
+use lib.ListN.{replicate}
+use Rattle.words.specs.Words.{big, little}
 use Rattle.points.specs.Points.{each}
 use Rattle.texts.specs.Text.{text, decimal, digitsIn as places}
 use Rattle.pgm.specs.declared.Found.the-variants.{Header, Broken}
-use Rattle.pgm.specs.Pgm.{goesOn, inside, blanks, past, digitsIn, decimalFrom, numberAt, sound, p5, fieldAt, headerOf, sampleAt, byteAt, over, headerText}
+use Rattle.pgm.specs.Pgm.{goesOn, inside, blanks, past, digitsIn, decimalFrom, numberAt, sound, p5, fieldAt, headerOf, sampleAt, byteAt, over, floatAt, nthByte, floatByteAt, headerText}
 
 pub record Worked : Type 0 where
   -- as netpbm's tools write it: the raster starts after the one newline, also where its first byte is white space
@@ -37,10 +39,15 @@ pub record Worked : Type 0 where
   pub narrow : each (byteAt (7 ∷ 300 ∷ []) 200) (9 ∷ 9 ∷ 9 ∷ []) ≡ 7 ∷ 200 ∷ 9 ∷ []
   pub broad : each (byteAt (258 ∷ 65535 ∷ []) 1023) (9 ∷ 9 ∷ 9 ∷ 9 ∷ 9 ∷ []) ≡ 1 ∷ 2 ∷ 3 ∷ 255 ∷ 9 ∷ []
   pub held : over 200 (7 ∷ 300 ∷ 200 ∷ 201 ∷ []) ≡ 2
+  -- 1 and -2 as f32, the lowest byte first, and back
+  pub floats : each (λ i v. floatAt (0 ∷ 0 ∷ 0x80 ∷ 0x3f ∷ 0 ∷ 0 ∷ 0 ∷ 0xc0 ∷ []) i) (nan ∷ nan ∷ []) ≡ ofBits binary32 0x3f80_0000 ∷ ofBits binary32 0xc000_0000 ∷ []
+  pub and-back :
+      each (floatByteAt (ofBits binary32 0x3f80_0000 ∷ ofBits binary32 0xc000_0000 ∷ [])) (replicate 9 7)
+      ≡ 0 ∷ 0 ∷ 0x80 ∷ 0x3f ∷ 0 ∷ 0 ∷ 0 ∷ 0xc0 ∷ 7 ∷ []
   pub written : headerText 192 64 255 ≡ text "P5" ++ (10 ∷ text "192 64" ++ (10 ∷ text "255" ++ (10 ∷ [])))
 
 pub worked : Worked
-unfolding headerOf fieldAt numberAt past blanks goesOn inside digitsIn decimalFrom sound p5 sampleAt byteAt over headerText each big decimal places
+unfolding headerOf fieldAt numberAt past blanks goesOn inside digitsIn decimalFrom sound p5 sampleAt byteAt over floatAt nthByte floatByteAt ofBits toBits headerText each big little decimal places
 worked = record {
   plain = refl;
   comment = refl;
@@ -62,5 +69,7 @@ worked = record {
   narrow = refl;
   broad = refl;
   held = refl;
+  floats = refl;
+  and-back = refl;
   written = refl;
 }

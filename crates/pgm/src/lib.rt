@@ -6,7 +6,7 @@ ghost use Prim.Native.Nat.{_+_, _-_, _*_, _/_, _%_, _≤_, _<_, min};
 ghost use lib.Dec.{ltb};
 ghost use lib.ListN.{length, getD};
 ghost use Rattle.points.specs.Points.{each};
-ghost use Rattle.pgm.specs.Pgm.{white, lineEnd, goesOn, inside, past, isDigit, Held, sound, p5, headerOf, rasterLen, InSizes, frameOn, frameOf, wordOf, sampleAt, byteAt, over, Encoded, headerText, Put};
+ghost use Rattle.pgm.specs.Pgm.{white, lineEnd, goesOn, inside, past, isDigit, Held, sound, p5, headerOf, rasterLen, InSizes, frameOn, frameOf, wordOf, sampleAt, byteAt, over, Encoded, areaOf, floatAt, nthByte, floatByteAt, headerText, Put};
 ghost use Rattle.texts.specs.Appended.{Appended};
 
 // What stands at the start of a file.
@@ -379,6 +379,79 @@ pub fn encode(samples: &[u16], maxval: usize, out: &mut [u8]) -> usize
 {
     fill(samples, maxval, out);
     count_over(samples, maxval)
+}
+
+// ---- raw frames of f32, little-endian
+
+// How many samples a frame has; one more than any where a side is too long.
+pub fn area(width: usize, height: usize) -> usize
+    ensures { λ r. ⌜ r ≡ areaOf width height ⌝ }
+{
+    if 65536 < width {
+        return 4294967297;
+    }
+    if 65536 < height {
+        return 4294967297;
+    }
+    width * height
+}
+
+fn float_of(raster: &[u8], i: usize) -> f32
+    ensures { λ r. ⌜ r ≡ floatAt (now (raster .entry)) i ⌝ }
+{
+    if i <= raster.len() / 4 {
+        words::f32_from(raster, 4 * i)
+    } else {
+        0.0
+    }
+}
+
+// Samples from four bytes each; +0 where the raster ends too soon.
+pub fn decode_f32(raster: &[u8], samples: &mut [f32])
+    ensures { λ _. ⌜ now (samples .exit) ≡ each (λ i v. floatAt (now (raster .entry)) i) (now (samples .entry)) ⌝ }
+{
+    let mut i: usize = 0;
+    while i < samples.len() {
+        samples[i] = float_of(raster, i);
+        i += 1;
+    }
+}
+
+// Byte k of a word, the lowest first.
+fn nth_byte(bits: u32, k: usize) -> u8
+    ensures { λ r. ⌜ r ≡ nthByte bits k ⌝ }
+{
+    if k == 0 {
+        (bits % 256) as u8
+    } else if k == 1 {
+        (bits / 256 % 256) as u8
+    } else if k == 2 {
+        (bits / 65536 % 256) as u8
+    } else {
+        (bits / 16777216 % 256) as u8
+    }
+}
+
+fn float_byte(samples: &[f32], j: usize, old: u8) -> u8
+    ensures { λ r. ⌜ r ≡ floatByteAt (now (samples .entry)) j old ⌝ }
+{
+    let i = j / 4;
+    if i < samples.len() {
+        nth_byte(words::bits_of(samples[i]), j % 4)
+    } else {
+        old
+    }
+}
+
+// A raster from samples, a NaN in its one fixed pattern; what lies past them stays.
+pub fn encode_f32(samples: &[f32], out: &mut [u8])
+    ensures { λ _. ⌜ now (out .exit) ≡ each (floatByteAt (now (samples .entry))) (now (out .entry)) ⌝ }
+{
+    let mut j: usize = 0;
+    while j < out.len() {
+        out[j] = float_byte(samples, j, out[j]);
+        j += 1;
+    }
 }
 
 // ---- a header, written

@@ -13,6 +13,9 @@ widen-requires c κs = search needs
 run-f32-requires : tie.Need-run-f32-requires
 run-f32-requires c κs = search needs
 
+held-requires : tie.Need-held-requires
+held-requires c κs = search needs
+
 narrow-requires : tie.Need-narrow-requires
 narrow-requires c κs = search needs
 
@@ -34,12 +37,13 @@ same-length-5 c = search needs
 returns : tie.Need-returns
 unfolding ofBits
 returns c =
-    let run = c .before .before .before .before .before .before .before .before .before .before .before .before .before in
+    let counted = c .before .before .before .before .before in
+    let run = counted .before .before .before .before .before .before .before .before .before .before in
     let first = run .before .before .before .before .before .before .before in
     let start = first .before .before .before .before .before .before .before .before .before in
     let a = start .args in
     rounded (a .w) (atOne (a .period)) (record { marks = length (a .marks .now); values = length (a .values .now) }) (a .list .now) (a .names .now)
-    (a .samples .now) (first .widen .ensures) (run .run-f32 .ensures) (c .before .before .narrow .ensures)
+    (a .samples .now) (first .widen .ensures) (run .run-f32 .ensures) (counted .held .ensures) (c .before .before .narrow .ensures)
 
 pub run-wide-spec : {M : Type 1} → statement M
 run-wide-spec =
@@ -47,6 +51,7 @@ run-wide-spec =
     (tie.spec
     widen-requires
     run-f32-requires
+    held-requires
     narrow-requires
     same-length
     same-length-2

@@ -1,0 +1,71 @@
+-- `mend::held` meets its contract. The loop's invariant: with those that are left, m is all of them. Assumes nothing.
+use Prim.Native.Nat.{ℕ, _+_, _-_, _≤_}
+use mathlib.Core.Path.{_≡_, ap}
+use mathlib.Core.Bool.{cond}
+use native.Mathlib.Omega.{arith}
+use borrow.Author.Needs.{needs}
+use denote.Ref.{now}
+use lib.Dec.{eqb}
+use lib.ListN.{length, drop}
+use Rattle.mend.specs.Mend.{heldIn}
+use Rattle.mend.proofs.Laws.{held-more, held-end}
+use Rattle.mend.proofs.held.Statement.{statement}
+use Rattle.mend.proofs.held.Tie as tie
+
+abbrev Inv-loop : tie.InvT-loop
+Inv-loop wide m₀ i₀ m i = (i ≤ length wide) × (m ≤ i) × (m + heldIn (drop i wide) ≡ heldIn wide)
+
+abbrev μ-loop : tie.MeasureT-loop
+μ-loop wide m₀ i₀ m i = length wide - i
+
+loop-holds : tie.Need-loop-holds Inv-loop μ-loop
+loop-holds c = (omega arith, omega arith, omega arith)
+
+mul-round-held : tie.Need-mul-round-held Inv-loop μ-loop
+mul-round-held c = search needs
+
+shared-slice-read-round-held : tie.Need-shared-slice-read-round-held Inv-loop μ-loop
+shared-slice-read-round-held c = search needs
+
+round-held-requires : tie.Need-round-held-requires Inv-loop μ-loop
+round-held-requires c κs = search needs
+
+one-if-requires : tie.Need-one-if-requires Inv-loop μ-loop
+one-if-requires c κs = search needs
+
+add-m : tie.Need-add-m Inv-loop μ-loop
+add-m c = omega arith
+
+add-i : tie.Need-add-i Inv-loop μ-loop
+add-i c = omega arith
+
+loop-less : tie.Need-loop-less Inv-loop μ-loop
+loop-less c = omega arith
+
+loop-again : tie.Need-loop-again Inv-loop μ-loop
+loop-again c =
+    let round = c .before in
+    let l = round .before .before .before .loop in
+    let a = round .before .before .before .before .before .args in
+    let same = ap {B = ℕ} (λ (x : ℕ). cond (eqb x 65536) 1 0) (round .round-held .ensures) in
+    (omega arith, omega arith, omega (arith, c .one-if .ensures .0, same, held-more (now (a .wide)) (l .i) (omega arith)))
+
+returns : tie.Need-returns Inv-loop μ-loop
+returns c = omega (arith, held-end (now (c .before .before .before .args .wide)) (c .before .loop .i) (omega arith))
+
+pub held-spec : {M : Type 1} → statement M
+held-spec =
+    tie.close
+    (tie.spec
+    Inv-loop
+    μ-loop
+    loop-holds
+    mul-round-held
+    shared-slice-read-round-held
+    round-held-requires
+    one-if-requires
+    add-m
+    add-i
+    loop-less
+    loop-again
+    returns)

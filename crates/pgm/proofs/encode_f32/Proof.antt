@@ -1,0 +1,67 @@
+-- `pgm::encode_f32` meets its contract. Assumes nothing.
+use Prim.Native.Nat.{_+_, _-_, _≤_}
+use mathlib.Core.Path.{_≡_, refl, sym, _∙_}
+use borrow.Author.Needs.{needs}
+use native.Mathlib.Omega.{arith}
+use lib.ListN.{length, length-set}
+use Rattle.points.specs.Points.{each, between}
+use Rattle.points.proofs.Parts.{each-between-empty, store}
+use Rattle.pgm.specs.Pgm.{floatByteAt}
+use Rattle.pgm.proofs.Laws.{all-done}
+use Rattle.pgm.proofs.encode_f32.Statement.{statement}
+use Rattle.pgm.proofs.encode_f32.Tie as tie
+
+abbrev Inv-loop : tie.InvT-loop
+Inv-loop samples out₀ j₀ out j =
+    (out ≡ each (between 0 j (floatByteAt samples)) out₀) × (length out ≡ length out₀) × (j ≤ length out₀)
+
+abbrev μ-loop : tie.MeasureT-loop
+μ-loop samples out₀ j₀ out j = length out₀ - j
+
+loop-holds : tie.Need-loop-holds Inv-loop μ-loop
+loop-holds c = (sym (each-between-empty 0 0 _ _ (omega arith)), refl, omega arith)
+
+slice-read-float-byte : tie.Need-slice-read-float-byte Inv-loop μ-loop
+slice-read-float-byte c = search needs
+
+float-byte-requires : tie.Need-float-byte-requires Inv-loop μ-loop
+float-byte-requires c κs = search needs
+
+slice-write-out : tie.Need-slice-write-out Inv-loop μ-loop
+slice-write-out c = search needs
+
+add-j : tie.Need-add-j Inv-loop μ-loop
+add-j c = search needs
+
+loop-less : tie.Need-loop-less Inv-loop μ-loop
+loop-less c = search needs
+
+loop-again : tie.Need-loop-again Inv-loop μ-loop
+loop-again c =
+    let at = c .before .before .before .loop in (
+      store 0 _ 0 (at .j) _ _ _ (at .inv .0) (c .float-byte .ensures) (omega arith) (omega arith),
+      simp length-set (at .inv .1),
+      omega arith,
+    )
+
+same-length : tie.Need-same-length Inv-loop μ-loop
+same-length c = c .before .loop .inv .1
+
+returns : tie.Need-returns Inv-loop μ-loop
+returns c = c .before .loop .inv .0 ∙ all-done _ _ _ (omega (arith, c .before .loop .inv .1, c .loop-test .left))
+
+pub encode-f32-spec : {M : Type 1} → statement M
+encode-f32-spec =
+    tie.close
+    (tie.spec
+    Inv-loop
+    μ-loop
+    loop-holds
+    slice-read-float-byte
+    float-byte-requires
+    slice-write-out
+    add-j
+    loop-less
+    loop-again
+    same-length
+    returns)
