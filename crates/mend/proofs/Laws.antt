@@ -10,7 +10,7 @@ use lib.Ieee.{Float}
 use lib.ListN.{length, getD, length-map, length-replicate}
 use lib.Seq.{ext-getD}
 use Rattle.points.specs.Points.{each, between}
-use Rattle.points.proofs.Each.{length-each, getD-each, each-agree}
+use Rattle.points.proofs.Each.{length-each, getD-each}
 use Rattle.points.proofs.Parts.{between-in}
 use Rattle.dng.specs.declared.Window.{Window}
 use Rattle.dng.specs.declared.Settings.{Settings}
