@@ -11,7 +11,7 @@ use lib.Ieee.{Float, nan}
 use lib.ListN.{length, getD, drop, length-map, length-replicate, drop-of-length-le}
 use lib.Seq.{ext-getD, drop-cons}
 use Rattle.points.specs.Points.{each, between}
-use Rattle.points.proofs.Each.{length-each, getD-each, each-agree}
+use Rattle.points.proofs.Each.{length-each, getD-each}
 use Rattle.points.proofs.Parts.{between-in}
 use Rattle.whole.specs.Whole.{roundHeld}
 use Rattle.dng.specs.declared.Window.{Window}

@@ -1,7 +1,7 @@
 -- What follows from the definition of mending: a refusal before the first opcode leaves samples and names as they were, and two results that
 -- keep the promise are the same. Assumes nothing.
 use Prim.Native.Nat.{ℕ}
-use mathlib.Core.Path.{_≡_, refl, sym, ap, subst, _∙_}
+use mathlib.Core.Path.{_≡_, refl, sym, ap, _∙_}
 use mathlib.Core.Bool.{Bool, true, false, cond}
 use mathlib.Core.List.{List}
 use lib.Dec.{leb}
@@ -10,14 +10,13 @@ use lib.ListN.{length}
 use Rattle.dng.specs.declared.Window.{Window}
 use Rattle.dng.specs.Run.{Room, f32Kind, u16Kind, skipped, skipped16, takes16}
 use Rattle.dng.specs.Value.{one}
-use Rattle.dng.specs.Answer.{Out, f32Out, u16Out, takesAll, frameOf}
+use Rattle.dng.specs.Answer.{f32Out, u16Out, takesAll, frameOf}
 use Rattle.wholeform.specs.WholeForm.{Below, widened, narrowed, atOne}
 use Rattle.wholeform.proofs.Near.{exact-near}
 use Rattle.wholeform.proofs.Pairs.{pairs-widened, pairs-narrowed, pairs-weaken}
 use Rattle.mend.specs.declared.Mended.{Mended}
-use Rattle.mend.specs.declared.Mended.the-variants.{NoRoom}
-use Rattle.mend.specs.Mend.{notTaken, early, earlyMended, MendOut, wholeOut, roundedOut, mendOut, MendsClear}
-use Rattle.mend.proofs.Laws.{Same, run-keeps}
+use Rattle.mend.specs.Mend.{notTaken, earlyMended, MendOut, wholeOut, roundedOut, mendOut, MendsClear}
+use Rattle.mend.proofs.Laws.{run-keeps}
 
 -- there and back again: a u16 sample is its own f32, rounded
 pub back : (s : List ℕ) → Below 65536 s → narrowed (widened s) ≡ s

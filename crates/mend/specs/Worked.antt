@@ -1,10 +1,9 @@
 -- Worked frames, each by computing: which run a list goes to, and how the f32 run's samples come back.
-use Prim.Native.Nat.{ℕ, _+_, _*_, _/_, _%_, _^_}
+use Prim.Native.Nat.{ℕ}
 use mathlib.Core.Path.{_≡_, refl}
 use mathlib.Core.List.{List, [], _∷_, _++_}
 use lib.Ieee.{ofBits, ofFields, ofInt, round, units, odd, size, span, climb, mul, div, add, eq}
 use lib.Count.{trailingZeros}
-use lib.ListN.{length}
 use Rattle.words.specs.Words.{big}
 use Rattle.points.specs.Points.{each}
 use Rattle.points.specs.Select.{selects, onColumns}

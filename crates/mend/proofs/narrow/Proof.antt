@@ -1,9 +1,9 @@
 -- `mend::narrow` meets its contract. Assumes nothing.
-use Prim.Native.Nat.{_+_, _-_, _≤_}
+use Prim.Native.Nat.{_-_, _≤_}
 use mathlib.Core.Path.{_≡_, refl, sym, _∙_}
 use borrow.Author.Needs.{needs}
 use native.Mathlib.Omega.{arith}
-use lib.Ieee.{Float, binary32, nan}
+use lib.Ieee.{nan}
 use lib.ListN.{length, length-set}
 use Rattle.points.specs.Points.{each, between}
 use Rattle.points.proofs.Parts.{each-between-empty, store}

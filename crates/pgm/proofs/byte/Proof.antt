@@ -2,7 +2,6 @@
 use mathlib.Core.Path.{sym}
 use lib.ListN.{List·getD-eq-default}
 use borrow.Author.Needs.{needs}
-use native.Mathlib.Omega.{arith}
 use Rattle.pgm.proofs.byte.Statement.{statement}
 use Rattle.pgm.proofs.byte.Tie as tie
 

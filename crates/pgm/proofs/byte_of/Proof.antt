@@ -1,7 +1,6 @@
 -- `pgm::byte_of` meets its contract. Assumes nothing.
 use Rattle.pgm.proofs.Laws.{one-byte, no-byte, high, low, past-all}
 use borrow.Author.Needs.{needs}
-use native.Mathlib.Omega.{arith}
 use Rattle.pgm.proofs.byte_of.Statement.{statement}
 use Rattle.pgm.proofs.byte_of.Tie as tie
 

@@ -1,6 +1,6 @@
 -- `pgm::count_over` meets its contract. Assumes nothing.
 use Prim.Native.Nat.{_+_, _-_, _≤_}
-use mathlib.Core.Path.{_≡_, refl, sym, _∙_}
+use mathlib.Core.Path.{_≡_}
 use lib.ListN.{length, drop}
 use Rattle.pgm.specs.Pgm.{over}
 use Rattle.pgm.proofs.Laws.{over-next, over-end}

@@ -1,6 +1,5 @@
 -- `pgm::float_byte` meets its contract. Assumes nothing.
 use borrow.Author.Needs.{needs}
-use native.Mathlib.Omega.{arith}
 use Rattle.pgm.proofs.Laws.{float-in, float-past}
 use Rattle.pgm.proofs.float_byte.Statement.{statement}
 use Rattle.pgm.proofs.float_byte.Tie as tie

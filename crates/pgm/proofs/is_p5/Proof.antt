@@ -1,7 +1,6 @@
 -- `pgm::is_p5` meets its contract. Assumes nothing.
 use Rattle.pgm.specs.Pgm.{p5}
 use borrow.Author.Needs.{needs}
-use native.Mathlib.Omega.{arith}
 use Rattle.pgm.proofs.is_p5.Statement.{statement}
 use Rattle.pgm.proofs.is_p5.Tie as tie
 

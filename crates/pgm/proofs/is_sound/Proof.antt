@@ -1,8 +1,6 @@
 -- `pgm::is_sound` meets its contract. Assumes nothing.
 use mathlib.Core.Path.{refl}
 use Rattle.pgm.specs.Pgm.{sound}
-use borrow.Author.Needs.{needs}
-use native.Mathlib.Omega.{arith}
 use Rattle.pgm.proofs.is_sound.Statement.{statement}
 use Rattle.pgm.proofs.is_sound.Tie as tie
 

@@ -3,7 +3,6 @@ use Prim.Native.Nat.{ℕ}
 use mathlib.Core.Path.{subst}
 use borrow.Author.Needs.{needs}
 use Rattle.pgm.specs.Pgm.{Held}
-use native.Mathlib.Omega.{arith}
 use Rattle.pgm.proofs.next_number.Statement.{statement}
 use Rattle.pgm.proofs.next_number.Tie as tie
 

@@ -1,6 +1,5 @@
 -- `pgm::nth_byte` meets its contract. Assumes nothing.
 use borrow.Author.Needs.{needs}
-use native.Mathlib.Omega.{arith}
 use borrow.Author.Tests.{eq-eqb, ne-eqb}
 use Rattle.pgm.specs.Pgm.{nthByte}
 use Rattle.pgm.proofs.nth_byte.Statement.{statement}

@@ -1,11 +1,11 @@
 -- `pgm::number` meets its contract. The loop's invariant: the digits from i on, after those that say `value`, give the number, held at the end. Assumes nothing.
 use Prim.Native.Nat.{_+_, _-_, _≤_, min}
-use mathlib.Core.Path.{_≡_, refl, sym, ap, _∙_}
+use mathlib.Core.Path.{_≡_, refl, _∙_}
 use borrow.Author.Needs.{needs}
 use borrow.Author.Tests.{not-true, not-false}
 use lib.ListN.{length, drop}
 use Rattle.pgm.specs.Pgm.{numberAt, digitsIn, decimalFrom}
-use Rattle.pgm.proofs.Laws.{digits-on, digits-off, digits-end, decimal-on, decimal-off, decimal-end, held-on}
+use Rattle.pgm.proofs.Laws.{digits-on, digits-off, digits-end, decimal-on, decimal-off, decimal-end}
 use native.Mathlib.Omega.{arith}
 use Rattle.pgm.proofs.number.Statement.{statement}
 use Rattle.pgm.proofs.number.Tie as tie

@@ -1,6 +1,5 @@
 -- `pgm::raster_len` meets its contract. Assumes nothing.
 use borrow.Author.Needs.{needs}
-use native.Mathlib.Omega.{arith}
 use borrow.Author.Tests.{lt-ltb, le-ltb}
 use Rattle.pgm.specs.Pgm.{rasterLen}
 use Rattle.pgm.proofs.raster_len.Statement.{statement}

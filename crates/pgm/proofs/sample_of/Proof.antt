@@ -1,5 +1,5 @@
 -- `pgm::sample_of` meets its contract. Assumes nothing.
-use mathlib.Core.Path.{_≡_, refl, sym, _∙_}
+use mathlib.Core.Path.{sym}
 use borrow.Author.Tests.{lt-ltb, le-ltb}
 use Rattle.words.proofs.Laws.{past}
 use Rattle.pgm.specs.Pgm.{sampleAt}

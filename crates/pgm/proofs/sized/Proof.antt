@@ -1,7 +1,6 @@
 -- `pgm::sized` meets its contract. Assumes nothing.
 use native.Mathlib.Nat.{lt-of-le-of-lt}
 use borrow.Author.Needs.{needs}
-use native.Mathlib.Omega.{arith}
 use borrow.Author.Tests.{lt-leb}
 use lib.Dec.{lit<}
 use Rattle.pgm.specs.Pgm.{sizedOn}

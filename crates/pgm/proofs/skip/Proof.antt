@@ -1,12 +1,11 @@
 -- `pgm::skip` meets its contract. The loop's invariant: what is left to pass over from i on ends where all of it does. Assumes nothing.
-use Prim.Native.Nat.{_+_, _-_, _≤_}
-use mathlib.Core.Path.{_≡_, refl, sym, _∙_}
+use Prim.Native.Nat.{_+_, _-_}
+use mathlib.Core.Path.{_≡_, refl, _∙_}
 use borrow.Author.Needs.{needs}
 use borrow.Author.Tests.{not-true, not-false}
 use lib.ListN.{length, drop}
 use Rattle.pgm.specs.Pgm.{past, blanks}
 use Rattle.pgm.proofs.Laws.{blanks-on, blanks-off, blanks-end}
-use native.Mathlib.Omega.{arith}
 use Rattle.pgm.proofs.skip.Statement.{statement}
 use Rattle.pgm.proofs.skip.Tie as tie
 

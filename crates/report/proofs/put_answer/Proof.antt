@@ -1,7 +1,6 @@
 -- `report::put_answer` meets its contract. Assumes nothing.
 use mathlib.Core.Path.{sym, ap}
 use borrow.Author.Needs.{needs}
-use native.Mathlib.Omega.{arith}
 use lib.Dec.{lit≤}
 use Rattle.dng.specs.declared.Answer.{Answer}
 use Rattle.report.specs.Report.{textOf}
