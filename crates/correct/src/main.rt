@@ -187,6 +187,10 @@ fn write_frame(i: usize, head: &[u8], raster: &[u8]) -> bool {
     let length = os::arg(i, &mut path);
     let mut part = [0u8; 4096];
     let n = join(&path[..length], b".part", &mut part);
+    if n <= 5 {
+        say(b"OUT: no name, or one that is too long");
+        return false;
+    }
     write_as(&path[..length], front(&part, n), head, raster)
 }
 
