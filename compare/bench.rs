@@ -1,6 +1,6 @@
 // One kind of work on one side, for counting or for time: the same list, window and samples for both. See compare/bench.
 use dng_opcodes::{apply, apply_u16, parse, Opcode, PlaneImage, RowOps};
-use rolbhunga::{Frame, Room};
+use rolbhunga::{Frame, Reading, Room};
 use std::time::Instant;
 
 const KINDS: [&str; 15] = [
@@ -24,6 +24,9 @@ const KINDS: [&str; 15] = [
 // whole region, one plane; three planes; every second row and column of one plane
 const FORMS: [&str; 3] = ["", "-3", "-p2"];
 
+// What a list of `many` opcodes is made of, each over the same small window; `read` is the scale list, only read.
+const MANY: [&str; 5] = ["scale-row", "gain", "vignette", "constant", "read"];
+
 extern "C" {
     fn syscall(number: i64, ...) -> i64;
 }
@@ -43,6 +46,24 @@ fn doubles(b: &mut Vec<u8>, d: &[f64]) {
     for x in d {
         b.extend_from_slice(&x.to_be_bytes());
     }
+}
+
+fn entry(list: &mut Vec<u8>, id: u32, body: &[u8]) {
+    for x in [id, 0, 0, body.len() as u32] {
+        word(list, x);
+    }
+    list.extend(body);
+}
+
+// The same opcode n times.
+fn repeated(kind: &str, w: usize, h: usize, n: u32) -> Vec<u8> {
+    let (id, body) = body(kind, w, h, 1, 1);
+    let mut list = Vec::new();
+    word(&mut list, n);
+    for _ in 0..n {
+        entry(&mut list, id, &body);
+    }
+    list
 }
 
 struct Work {
@@ -125,10 +146,8 @@ impl Work {
         let pitch = if form == "-p2" { 2 } else { 1 };
         let (id, body) = body(&kind[4..], w, h, planes, pitch);
         let mut list = Vec::new();
-        for x in [1, id, 0, 0, body.len() as u32] {
-            word(&mut list, x);
-        }
-        list.extend(body);
+        word(&mut list, 1);
+        entry(&mut list, id, &body);
         let frame = Frame::new(w, h, planes).period(2);
         let n = w * h * planes;
         let mut seed = 99u32;
@@ -187,8 +206,31 @@ impl Work {
     }
 }
 
+// A list of n opcodes of one kind over a window without bad pixels, run or read once.
+fn many(kind: &str, n: u32) {
+    let (w, h) = (32, 24);
+    let list = repeated(if kind == "read" { "scale-row" } else { kind }, w, h, n);
+    let frame = Frame::new(w, h, 1).period(2);
+    let mut samples: Vec<f32> = (0..w * h).map(|i| 1.0 + i as f32).collect();
+    mark(1);
+    let done = if kind == "read" {
+        rolbhunga::read(&list) == Reading::Whole
+    } else {
+        frame.run_f32(&list, &mut samples, &mut Room { marks: &mut [], values: &mut [], names: &mut [] }).number() == 0
+    };
+    mark(2);
+    assert!(done);
+}
+
 fn main() {
     let args: Vec<String> = std::env::args().skip(1).collect();
+    if args.first().is_some_and(|a| a == "many") {
+        match args.len() {
+            1 => MANY.iter().for_each(|kind| println!("{kind}")),
+            _ => many(&args[1], args[2].parse().expect("how many")),
+        }
+        return;
+    }
     let (w, h): (usize, usize) = (args[0].parse().expect("width"), args[1].parse().expect("height"));
     if args.len() == 2 {
         for form in FORMS {
