@@ -9,7 +9,7 @@ use Rattle.points.proofs.Walk.{Upto, upto-begin, upto-next-by, upto-end, upto-l
 use Rattle.select.specs.Walks.{walked, Walks}
 use Rattle.convert.specs.Convert.{wholeIn}
 use Rattle.dng.specs.Value.{mapTable}
-use Rattle.maps.proofs.Sizes.{at-least, begin-small, step-small, step-goes}
+use Rattle.select.proofs.Sizes.{at-least, begin-small, step-small, step-goes}
 use Rattle.maps.proofs.full_row.Statement.{statement}
 use Rattle.maps.proofs.full_row.Tie as tie
 

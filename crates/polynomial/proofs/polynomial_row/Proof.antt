@@ -8,9 +8,9 @@ use lib.Ieee.{nan}
 use Rattle.points.proofs.Walk.{Upto, upto-begin, upto-next-by, upto-end, upto-le}
 use Rattle.select.specs.Walks.{walked, Walks}
 use Rattle.dng.specs.Value.{mapPolynomial}
-use Rattle.maps.proofs.Sizes.{at-least, begin-small, step-small, step-goes}
-use Rattle.maps.proofs.polynomial_row.Statement.{statement}
-use Rattle.maps.proofs.polynomial_row.Tie as tie
+use Rattle.select.proofs.Sizes.{at-least, begin-small, step-small, step-goes}
+use Rattle.polynomial.proofs.polynomial_row.Statement.{statement}
+use Rattle.polynomial.proofs.polynomial_row.Tie as tie
 
 abbrev Inv-loop : tie.InvT-loop
 Inv-loop row₀ k body degree scale t scale64 stop step i₀ c₀ row i c =

@@ -4,8 +4,8 @@ use borrow.Author.Needs.{needs}
 use lib.Ieee.{binary32, binary64, ofBits, ofInt, round, units, odd, size, span, climb}
 use lib.IntN.{pos}
 use Rattle.dng.specs.Value.{mapPolynomial}
-use Rattle.maps.proofs.polynomial_value.Statement.{statement}
-use Rattle.maps.proofs.polynomial_value.Tie as tie
+use Rattle.polynomial.proofs.polynomial_value.Statement.{statement}
+use Rattle.polynomial.proofs.polynomial_value.Tie as tie
 
 widen-requires : tie.Need-widen-requires
 widen-requires c κs = search needs

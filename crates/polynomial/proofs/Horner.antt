@@ -13,8 +13,8 @@ use lib.Ieee.Fits.{down-pos}
 use borrow.Author.Tests.{le-leb, lt-leb}
 use Rattle.dng.specs.List.{f64At}
 use Rattle.dng.specs.Value.{nought, horner}
-use Rattle.maps.specs.declared.Terms.{Terms}
-use Rattle.maps.specs.Terms.{termAt, Holds}
+use Rattle.polynomial.specs.declared.Terms.{Terms}
+use Rattle.polynomial.specs.Terms.{termAt, Holds}
 
 -- one step of Horner, and all of them over any coefficients
 abbrev pub step : Float → Float → Float → Float
