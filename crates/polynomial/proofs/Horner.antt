@@ -97,6 +97,11 @@ pub from-zero : ofBits binary64 0 ≡ nought
 unfolding ofBits
 from-zero = refl
 
+pub four : (t : Terms) (degree : ℕ) (b : List ℕ) (x : Float) → Holds t degree b → degree ≤ 3
+    → step x (step x (step x (step x (ofBits binary64 0) (t .c3)) (t .c2)) (t .c1)) (t .c0) ≡ horner b x (suc degree) nought
+unfolding over
+four t degree b x h low = simp (from-zero, h .is0, h .is1, h .is2, h .is3) (padded degree 3 b x low)
+
 pub five : (t : Terms) (degree : ℕ) (b : List ℕ) (x : Float) → Holds t degree b → degree ≤ 4
     → step x (step x (step x (step x (step x (ofBits binary64 0) (t .c4)) (t .c3)) (t .c2)) (t .c1)) (t .c0) ≡ horner b x (suc degree) nought
 unfolding over

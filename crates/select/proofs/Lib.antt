@@ -1,3 +1,4 @@
+pub mod Going
 pub mod RoundUp
 pub mod Sizes
 pub mod Steps
