@@ -140,6 +140,14 @@ fn full_value16(body: &[u8], n: u32, v: u16) -> u16
     full_entry(body, held_to(v, last_of(n)))
 }
 
+// The same of a table in which every u16 has an entry of its own: there is nothing to hold.
+fn whole_value16(body: &[u8], n: u32, v: u16) -> u16
+    requires { ⌜ (65536 ≤ n) × (36 + 2 * n ≤ length (now body)) ⌝ }
+    ensures { λ r. ⌜ r ≡ mapTable16 n (now (body .entry)) v ⌝ }
+{
+    full_entry(body, v as u32)
+}
+
 fn short_row16(row: &mut [u16], k: Walk, body: &[u8], n: u32)
     requires { ⌜ Walks k (length (now row)) ⌝ }
     ensures { λ _. ⌜ now (row .exit) ≡ walked k (λ x p v. mapTable16 n (now (body .entry)) v) (now (row .entry)) ⌝ }
@@ -170,13 +178,32 @@ fn full_row16(row: &mut [u16], k: Walk, body: &[u8], n: u32)
     }
 }
 
+fn whole_row16(row: &mut [u16], k: Walk, body: &[u8], n: u32)
+    requires { ⌜ (Walks k (length (now row))) × (65536 ≤ n) × (36 + 2 * n ≤ length (now body)) ⌝ }
+    ensures { λ _. ⌜ now (row .exit) ≡ walked k (λ x p v. mapTable16 n (now (body .entry)) v) (now (row .entry)) ⌝ }
+{
+    let stop = stop_of(k, row.len());
+    let step = k.pitch * k.planes;
+    let mut i = k.col * k.planes + k.plane;
+    let mut c = k.col;
+    while i < stop {
+        row[i] = whole_value16(body, n, row[i]);
+        i += step;
+        c += k.pitch;
+    }
+}
+
 // table[min(v, last)] at the walk's samples.
 pub fn table_row16(row: &mut [u16], k: Walk, body: &[u8], n: u32)
     requires { ⌜ (Walks k (length (now row))) × (1 ≤ n) ⌝ }
     ensures { λ _. ⌜ now (row .exit) ≡ walked k (λ x p v. mapTable16 n (now (body .entry)) v) (now (row .entry)) ⌝ }
 {
     if 36 + 2 * (n as usize) <= body.len() {
-        full_row16(row, k, body, n);
+        if 65536 <= n {
+            whole_row16(row, k, body, n);
+        } else {
+            full_row16(row, k, body, n);
+        }
     } else {
         short_row16(row, k, body, n);
     }
