@@ -1,37 +1,15 @@
-// Tables, f32 and u16, and polynomials, on one plane of a lent row.
+// Tables, f32 and u16, on one plane of a lent row.
 // In each loop `i` is the sample and `c` its column, which only the proof needs.
 ghost use mathlib.Core.Path.{_≡_};
-ghost use Prim.Native.Nat.{suc, _+_, _-_, _*_, _≤_, _<_, min};
+ghost use Prim.Native.Nat.{_+_, _-_, _*_, _≤_, _<_, min};
 ghost use lib.ListN.{length};
 ghost use lib.Ieee.{binary32, mul};
 ghost use Rattle.whole.specs.Whole.{roundHeld};
 ghost use Rattle.convert.specs.Convert.{wholeIn};
 ghost use Rattle.select.specs.Walks.{walked, Walks};
-ghost use Rattle.dng.specs.Value.{mapTable, mapTable16, tableAt, mapPolynomial, horner, nought};
-ghost use Rattle.maps.specs.Terms.{termAt, Holds};
+ghost use Rattle.dng.specs.Value.{mapTable, mapTable16, tableAt};
 use select::Walk;
-
-// ---- the end of a walk
-
-fn less(a: usize, b: usize) -> usize
-    ensures { λ r. ⌜ r ≡ a - b ⌝ }
-{
-    if b < a { a - b } else { 0 }
-}
-
-fn smaller(a: usize, b: usize) -> usize
-    ensures { λ r. ⌜ r ≡ min a b ⌝ }
-{
-    if a < b { a } else { b }
-}
-
-// Past the last sample that may be touched.
-fn stop_of(k: Walk, n: usize) -> usize
-    requires { ⌜ Walks k n ⌝ }
-    ensures { λ r. ⌜ r ≡ min n ((k .right - k .x0) * k .planes) ⌝ }
-{
-    smaller(n, less(k.right, k.x0) * k.planes)
-}
+use select::stop_of;
 
 // ---- entries of a table
 
@@ -162,6 +140,14 @@ fn full_value16(body: &[u8], n: u32, v: u16) -> u16
     full_entry(body, held_to(v, last_of(n)))
 }
 
+// The same of a table in which every u16 has an entry of its own: there is nothing to hold.
+fn whole_value16(body: &[u8], n: u32, v: u16) -> u16
+    requires { ⌜ (65536 ≤ n) × (36 + 2 * n ≤ length (now body)) ⌝ }
+    ensures { λ r. ⌜ r ≡ mapTable16 n (now (body .entry)) v ⌝ }
+{
+    full_entry(body, v as u32)
+}
+
 fn short_row16(row: &mut [u16], k: Walk, body: &[u8], n: u32)
     requires { ⌜ Walks k (length (now row)) ⌝ }
     ensures { λ _. ⌜ now (row .exit) ≡ walked k (λ x p v. mapTable16 n (now (body .entry)) v) (now (row .entry)) ⌝ }
@@ -192,110 +178,33 @@ fn full_row16(row: &mut [u16], k: Walk, body: &[u8], n: u32)
     }
 }
 
+fn whole_row16(row: &mut [u16], k: Walk, body: &[u8], n: u32)
+    requires { ⌜ (Walks k (length (now row))) × (65536 ≤ n) × (36 + 2 * n ≤ length (now body)) ⌝ }
+    ensures { λ _. ⌜ now (row .exit) ≡ walked k (λ x p v. mapTable16 n (now (body .entry)) v) (now (row .entry)) ⌝ }
+{
+    let stop = stop_of(k, row.len());
+    let step = k.pitch * k.planes;
+    let mut i = k.col * k.planes + k.plane;
+    let mut c = k.col;
+    while i < stop {
+        row[i] = whole_value16(body, n, row[i]);
+        i += step;
+        c += k.pitch;
+    }
+}
+
 // table[min(v, last)] at the walk's samples.
 pub fn table_row16(row: &mut [u16], k: Walk, body: &[u8], n: u32)
     requires { ⌜ (Walks k (length (now row))) × (1 ≤ n) ⌝ }
     ensures { λ _. ⌜ now (row .exit) ≡ walked k (λ x p v. mapTable16 n (now (body .entry)) v) (now (row .entry)) ⌝ }
 {
     if 36 + 2 * (n as usize) <= body.len() {
-        full_row16(row, k, body, n);
+        if 65536 <= n {
+            whole_row16(row, k, body, n);
+        } else {
+            full_row16(row, k, body, n);
+        }
     } else {
         short_row16(row, k, body, n);
-    }
-}
-
-// ---- polynomials
-
-// Nine coefficients, the missing high ones 0.0: a row reads them once.
-struct Terms {
-    c0: f64,
-    c1: f64,
-    c2: f64,
-    c3: f64,
-    c4: f64,
-    c5: f64,
-    c6: f64,
-    c7: f64,
-    c8: f64,
-}
-
-fn term(body: &[u8], degree: u32, k: u32) -> f64
-    ensures { λ r. ⌜ r ≡ termAt degree (now (body .entry)) k ⌝ }
-{
-    if k <= degree {
-        words::f64_at(body, 36 + 8 * (k as usize))
-    } else {
-        0.0
-    }
-}
-
-fn terms_of(body: &[u8], degree: u32) -> Terms
-    ensures { λ r. ⌜ Holds r degree (now (body .entry)) ⌝ }
-{
-    Terms {
-        c0: term(body, degree, 0),
-        c1: term(body, degree, 1),
-        c2: term(body, degree, 2),
-        c3: term(body, degree, 3),
-        c4: term(body, degree, 4),
-        c5: term(body, degree, 5),
-        c6: term(body, degree, 6),
-        c7: term(body, degree, 7),
-        c8: term(body, degree, 8),
-    }
-}
-
-// Horner from 0.0 over all nine. A 0.0 above the highest coefficient changes nothing. The body is here for the contract alone.
-fn along_nine(t: Terms, body: &[u8], degree: u32, x: f64) -> f64
-    requires { ⌜ (Holds t degree (now body)) × (degree ≤ 8) ⌝ }
-    ensures { λ r. ⌜ r ≡ horner (now (body .entry)) x (suc degree) nought ⌝ }
-{
-    let high = (((0.0 * x + t.c8) * x + t.c7) * x + t.c6) * x + t.c5;
-    ((((high * x + t.c4) * x + t.c3) * x + t.c2) * x + t.c1) * x + t.c0
-}
-
-// The same over the low five, which most polynomials have at most.
-fn along_five(t: Terms, body: &[u8], degree: u32, x: f64) -> f64
-    requires { ⌜ (Holds t degree (now body)) × (degree ≤ 4) ⌝ }
-    ensures { λ r. ⌜ r ≡ horner (now (body .entry)) x (suc degree) nought ⌝ }
-{
-    ((((0.0 * x + t.c4) * x + t.c3) * x + t.c2) * x + t.c1) * x + t.c0
-}
-
-fn along(t: Terms, body: &[u8], degree: u32, x: f64) -> f64
-    requires { ⌜ (Holds t degree (now body)) × (degree ≤ 8) ⌝ }
-    ensures { λ r. ⌜ r ≡ horner (now (body .entry)) x (suc degree) nought ⌝ }
-{
-    if degree <= 4 {
-        along_five(t, body, degree, x)
-    } else {
-        along_nine(t, body, degree, x)
-    }
-}
-
-// `scale64` is the scale as an f64, widened once.
-fn polynomial_value(t: Terms, body: &[u8], degree: u32, scale: f32, scale64: f64, v: f32) -> f32
-    requires { ⌜ (Holds t degree (now body)) × (degree ≤ 8) × (scale64 ≡ scale) ⌝ }
-    ensures { λ r. ⌜ r ≡ mapPolynomial scale degree (now (body .entry)) v ⌝ }
-{
-    let x = convert::widen(v * scale / 65535.0);
-    narrow::to_f32(along(t, body, degree, x) * 65535.0 / scale64)
-}
-
-// The polynomial at the walk's samples: v = 65535 / scale stands for 1.
-pub fn polynomial_row(row: &mut [f32], k: Walk, body: &[u8], degree: u32, scale: f32)
-    requires { ⌜ (Walks k (length (now row))) × (degree ≤ 8) ⌝ }
-    ensures { λ _. ⌜ now (row .exit) ≡ walked k (λ x p v. mapPolynomial scale degree (now (body .entry)) v) (now (row .entry)) ⌝ }
-{
-    let t = terms_of(body, degree);
-    let scale64 = convert::widen(scale);
-    let stop = stop_of(k, row.len());
-    let step = k.pitch * k.planes;
-    let mut i = k.col * k.planes + k.plane;
-    let mut c = k.col;
-    while i < stop {
-        row[i] = polynomial_value(t, body, degree, scale, scale64, row[i]);
-        i += step;
-        c += k.pitch;
     }
 }

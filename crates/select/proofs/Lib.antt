@@ -1,3 +1,5 @@
+pub mod Going
 pub mod RoundUp
+pub mod Sizes
 pub mod Steps
 pub mod Worked

@@ -1,8 +1,9 @@
 // Which rows, columns and planes a region selects, worked out once per row and handed to the steps as a walk.
 // The numbers are those of a region as the list has them: a pitch of 0 counts as 1.
 ghost use mathlib.Core.Path.{_≡_};
-ghost use Prim.Native.Nat.{_+_, _-_, min, max};
+ghost use Prim.Native.Nat.{_+_, _-_, _*_, min, max};
 ghost use Rattle.points.specs.Select.{selects, First};
+ghost use Rattle.select.specs.Walks.{Walks};
 
 // The selected samples of one plane of a row: the row starts at image column x0 and has `planes` samples to a pixel; the columns left..right are
 // selected, `pitch` apart; the first of them at or after x0 is x0 + col, the `nth` counted from left.
@@ -78,4 +79,12 @@ pub fn plane_end(plane: u32, planes: u32, window: usize) -> usize
     ensures { λ r. ⌜ r ≡ min (plane + planes) window ⌝ }
 {
     smaller(plane as usize + planes as usize, window)
+}
+
+// Past the last sample of a row of n that a walk may touch.
+pub fn stop_of(k: Walk, n: usize) -> usize
+    requires { ⌜ Walks k n ⌝ }
+    ensures { λ r. ⌜ r ≡ min n ((k .right - k .x0) * k .planes) ⌝ }
+{
+    smaller(n, less(k.right, k.x0) * k.planes)
 }

@@ -244,7 +244,7 @@ fn one_plane(row: &mut [f32], k: Walk, r: Region, t: Task, g: Place, body: &[u8]
 {
     match t {
         Task::Table { n } => table_plane(row, k, body, n, scale),
-        Task::Polynomial { degree } => maps::polynomial_row(row, k, body, degree, scale),
+        Task::Polynomial { degree } => polynomial::polynomial_row(row, k, body, degree, scale),
         Task::Gain {
             points_v,
             points_h,

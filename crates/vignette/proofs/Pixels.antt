@@ -6,7 +6,7 @@ use native.Mathlib.Nat.{add-mul, mul-one, one-mul, mul-le-mul-right, lt-of-mul-l
 use native.Mathlib.Nat.{div-one, div-le-self, div-mul-le-self, le-div-iff-mul-le, div-lt-iff-lt-mul}
 use native.Mathlib.Omega.{arith}
 use lib.Ieee.{Float, nan, binary32, binary64, add, sub, mul}
-use lib.ListN.{length, getD, set}
+use lib.ListN.{length, getD, set, length-set}
 use Rattle.points.specs.Points.{each, before, between}
 use Rattle.points.proofs.Each.{length-each}
 use Rattle.points.proofs.Parts.{between-in, each-before-zero, each-between-empty, advance, store}
@@ -46,6 +46,22 @@ pub stored : (row : List Float) (i : ℕ) (g : Float) → i < length row
 stored row i g h =
     let G : ℕ → Float → Float = λ j v. mul binary32 v g in
     store nan G i i row row (mul binary32 (getD row i nan) g) (sym (each-between-empty i i G row (omega arith))) refl (omega arith) h
+
+-- a pixel of three samples: three stores, each of which leaves the length
+abbrev pub once : List Float → ℕ → Float → List Float
+once row i g = set row i (mul binary32 (getD row i nan) g)
+
+pub length-once : (row : List Float) (i : ℕ) (g : Float) → length (once row i g) ≡ length row
+length-once row i g = length-set row i (mul binary32 (getD row i nan) g)
+
+pub stored-three : (row : List Float) (i : ℕ) (g : Float) → i + 3 ≤ length row
+    → once (once (once row i g) (i + 1) g) (i + 2) g ≡ each (between i (i + 3) (λ j v. mul binary32 v g)) row
+stored-three row i g h =
+    let G : ℕ → Float → Float = λ j v. mul binary32 v g in
+    let until : (a b : ℕ) → a ≡ b → each (between i a G) row ≡ each (between i b G) row = λ a b e. ap (λ (k : ℕ). each (between i k G) row) e in
+    let second = store nan G i (i + 1) row (once row i g) _ (stored row i g (omega arith)) refl (omega arith) (omega arith) in
+    let third = store nan G i (i + 2) row (once (once row i g) (i + 1) g) _ (second ∙ until _ _ (omega arith)) refl (omega arith) (omega arith) in
+    third ∙ until _ _ (omega arith)
 
 module _
     {q : Radial} {m2 dy2 cx : Float} {x0 p : ℕ} {l row : List Float} {c i : ℕ} {x : Float}

@@ -1,6 +1,6 @@
 // Radial gain, on a lent row.
 ghost use mathlib.Core.Path.{_≡_};
-ghost use Prim.Native.Nat.{_≤_};
+ghost use Prim.Native.Nat.{_+_, _≤_};
 ghost use lib.ListN.{length};
 ghost use lib.Ieee.{Float, mul, binary32};
 ghost use Rattle.points.specs.Points.{each, between};
@@ -87,6 +87,16 @@ fn raise_pixel(row: &mut [f32], a: usize, e: usize, g: f32)
     }
 }
 
+// The three samples from a on, one after another with no loop.
+fn raise_three(row: &mut [f32], a: usize, g: f32)
+    requires { ⌜ a + 3 ≤ length (now row) ⌝ }
+    ensures { λ _. ⌜ now (row .exit) ≡ each (between a (a + 3) (λ i v. mul binary32 v g)) (now (row .entry)) ⌝ }
+{
+    row[a] = row[a] * g;
+    row[a + 1] = row[a + 1] * g;
+    row[a + 2] = row[a + 2] * g;
+}
+
 // One plane to a pixel, so that each sample is a pixel. The column is counted as an f64, which holds every one exactly; what is asked
 // of the row's number is no matter here.
 fn raise_samples(row: &mut [f32], q: Radial, m2: f64, dy2: f64, cx: f64, x0: u32)
@@ -118,13 +128,31 @@ fn raise_pixels(row: &mut [f32], q: Radial, m2: f64, dy2: f64, cx: f64, x0: u32,
     }
 }
 
-// The common case, one plane, has a loop of its own.
+// Three planes to a pixel; one that is not whole stays.
+fn raise_triples(row: &mut [f32], q: Radial, m2: f64, dy2: f64, cx: f64, x0: u32)
+    requires { ⌜ RowFits x0 3 0 (length (now row)) ⌝ }
+    ensures { λ _. ⌜ now (row .exit) ≡ each (wholeOnes q m2 dy2 cx x0 3 (length (now (row .entry)))) (now (row .entry)) ⌝ }
+{
+    let whole = row.len() / 3 * 3;
+    let mut i = 0;
+    let mut x = convert::f64_of_u32(x0);
+    while i < whole {
+        let g = pixel_gain(q, m2, dy2, x - cx);
+        raise_three(row, i, g);
+        i += 3;
+        x = x + 1.0;
+    }
+}
+
+// The common cases, one plane and three, have loops of their own.
 fn raise_row(row: &mut [f32], q: Radial, m2: f64, dy2: f64, cx: f64, x0: u32, planes: u32)
     requires { ⌜ RowFits x0 planes 0 (length (now row)) ⌝ }
     ensures { λ _. ⌜ now (row .exit) ≡ each (wholeOnes q m2 dy2 cx x0 planes (length (now (row .entry)))) (now (row .entry)) ⌝ }
 {
     if planes == 1 {
         raise_samples(row, q, m2, dy2, cx, x0);
+    } else if planes == 3 {
+        raise_triples(row, q, m2, dy2, cx, x0);
     } else {
         raise_pixels(row, q, m2, dy2, cx, x0, planes as usize);
     }

@@ -3,9 +3,9 @@ use Prim.Native.Nat.{ℕ, _*_, min}
 use mathlib.Core.Path.{ap, _∙_}
 use borrow.Author.Needs.{needs}
 use native.Mathlib.Omega.{arith}
-use Rattle.maps.proofs.Sizes.{by-planes}
-use Rattle.maps.proofs.stop_of.Statement.{statement}
-use Rattle.maps.proofs.stop_of.Tie as tie
+use Rattle.select.proofs.Sizes.{by-planes}
+use Rattle.select.proofs.stop_of.Statement.{statement}
+use Rattle.select.proofs.stop_of.Tie as tie
 
 less-requires : tie.Need-less-requires
 less-requires c κs = search needs

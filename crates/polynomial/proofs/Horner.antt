@@ -13,8 +13,8 @@ use lib.Ieee.Fits.{down-pos}
 use borrow.Author.Tests.{le-leb, lt-leb}
 use Rattle.dng.specs.List.{f64At}
 use Rattle.dng.specs.Value.{nought, horner}
-use Rattle.maps.specs.declared.Terms.{Terms}
-use Rattle.maps.specs.Terms.{termAt, Holds}
+use Rattle.polynomial.specs.declared.Terms.{Terms}
+use Rattle.polynomial.specs.Terms.{termAt, Holds}
 
 -- one step of Horner, and all of them over any coefficients
 abbrev pub step : Float → Float → Float → Float
@@ -96,6 +96,11 @@ padded degree top b x h =
 pub from-zero : ofBits binary64 0 ≡ nought
 unfolding ofBits
 from-zero = refl
+
+pub four : (t : Terms) (degree : ℕ) (b : List ℕ) (x : Float) → Holds t degree b → degree ≤ 3
+    → step x (step x (step x (step x (ofBits binary64 0) (t .c3)) (t .c2)) (t .c1)) (t .c0) ≡ horner b x (suc degree) nought
+unfolding over
+four t degree b x h low = simp (from-zero, h .is0, h .is1, h .is2, h .is3) (padded degree 3 b x low)
 
 pub five : (t : Terms) (degree : ℕ) (b : List ℕ) (x : Float) → Holds t degree b → degree ≤ 4
     → step x (step x (step x (step x (step x (ofBits binary64 0) (t .c4)) (t .c3)) (t .c2)) (t .c1)) (t .c0) ≡ horner b x (suc degree) nought

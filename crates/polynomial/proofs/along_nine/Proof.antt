@@ -1,7 +1,7 @@
 -- `along_nine` meets its contract, by `nine`. Assumes nothing.
-use Rattle.maps.proofs.Horner.{nine}
-use Rattle.maps.proofs.along_nine.Statement.{statement}
-use Rattle.maps.proofs.along_nine.Tie as tie
+use Rattle.polynomial.proofs.Horner.{nine}
+use Rattle.polynomial.proofs.along_nine.Statement.{statement}
+use Rattle.polynomial.proofs.along_nine.Tie as tie
 
 returns : tie.Need-returns
 returns c =

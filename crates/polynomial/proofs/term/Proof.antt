@@ -1,9 +1,9 @@
 -- `term` meets its contract: the coefficient that is there, or 0. Assumes nothing.
 use mathlib.Core.Path.{_∙_, sym}
 use borrow.Author.Needs.{needs}
-use Rattle.maps.proofs.Horner.{term-in, term-out, from-zero}
-use Rattle.maps.proofs.term.Statement.{statement}
-use Rattle.maps.proofs.term.Tie as tie
+use Rattle.polynomial.proofs.Horner.{term-in, term-out, from-zero}
+use Rattle.polynomial.proofs.term.Statement.{statement}
+use Rattle.polynomial.proofs.term.Tie as tie
 
 mul-f64-at : tie.Need-mul-f64-at
 mul-f64-at c = search needs

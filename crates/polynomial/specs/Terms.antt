@@ -7,7 +7,7 @@ use lib.Dec.{leb}
 use lib.Ieee.{Float}
 use Rattle.dng.specs.List.{f64At}
 use Rattle.dng.specs.Value.{nought}
-use Rattle.maps.specs.declared.Terms.{Terms}
+use Rattle.polynomial.specs.declared.Terms.{Terms}
 
 -- the coefficient of x^k in a polynomial of the given degree
 unfoldable pub termAt : (degree : ℕ) → List ℕ → ℕ → Float

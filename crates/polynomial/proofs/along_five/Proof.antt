@@ -1,7 +1,7 @@
 -- `along_five` meets its contract, by `five`. Assumes nothing.
-use Rattle.maps.proofs.Horner.{five}
-use Rattle.maps.proofs.along_five.Statement.{statement}
-use Rattle.maps.proofs.along_five.Tie as tie
+use Rattle.polynomial.proofs.Horner.{five}
+use Rattle.polynomial.proofs.along_five.Statement.{statement}
+use Rattle.polynomial.proofs.along_five.Tie as tie
 
 returns : tie.Need-returns
 returns c =
