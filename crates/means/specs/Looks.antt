@@ -36,6 +36,10 @@ pub record Looks (samples : ℕ) (marks : List ℕ) (n : ℕ) (w : Window) (peri
 abbrev pub marked : List ℕ → ℕ → ℕ → Bool
 marked marks n = has (take n marks)
 
+-- no mark at all
+abbrev pub none : ℕ → Bool
+none q = false
+
 -- none of these steps leads to a marked position of the window
 unfoldable pub LoneOn : (ℕ → Bool) → Window → (period x y : ℕ) → List (ℤ × ℤ) → Type 0
 LoneOn bad w period x y [] = Unit

@@ -10,7 +10,7 @@ ghost use Rattle.convert.specs.Convert.{wholeIn};
 ghost use Rattle.dng.specs.Repair.{sampleAt, steps, moved, soundOn, tallyAt, meanOf};
 ghost use Rattle.marks.specs.Marks.{Fits};
 ghost use Rattle.sorts.specs.Sorts.{Rises};
-ghost use Rattle.means.specs.Looks.{Asks, Looks, Lone, Under, Over, Free, tallyOf, marked, pairOf, oneStep, openAt, soundOf};
+ghost use Rattle.means.specs.Looks.{Asks, Looks, none, Lone, Under, Over, Free, tallyOf, marked, pairOf, oneStep, openAt, soundOf};
 use dng::Window;
 
 // One step to a neighbour, in columns and rows of the period.
@@ -365,7 +365,24 @@ fn sound_count(marks: &[u32], n: usize, w: Window, period: usize, x: usize, y: u
     count
 }
 
-// Whether a position has a sound neighbour.
+// Whether any neighbour lies in the window: beside one on the diagonal lie two others.
+fn any_inside(w: Window, period: usize, x: usize, y: usize) -> bool
+    requires { ⌜ Fits w × ((x < w .width) × ((y < w .height) × (period ≤ 65536))) ⌝ }
+    ensures { λ r. ⌜ r ≡ leb 1 (soundOn (w .width) (w .height) period none x y steps) ⌝ }
+{
+    if period <= x {
+        return true;
+    }
+    if period <= y {
+        return true;
+    }
+    if x + period < w.width {
+        return true;
+    }
+    y + period < w.height
+}
+
+// Whether a position has a sound neighbour. Of a lone one every neighbour in the window is.
 pub fn any_sound(
     marks: &[u32],
     n: usize,
@@ -378,6 +395,9 @@ pub fn any_sound(
     requires { ⌜ Asks (now marks) n w period x y × (lone ≡ true → Lone (marked (now marks) n) w period x y) ⌝ }
     ensures { λ r. ⌜ r ≡ leb 1 (soundOn (w .width) (w .height) period (marked (now (marks .entry)) n) x y steps) ⌝ }
 {
+    if lone {
+        return any_inside(w, period, x, y);
+    }
     1 <= sound_count(marks, n, w, period, x, y)
 }
 
