@@ -1,14 +1,14 @@
 -- What a sum over sound neighbours asks of its caller and answers, and the steps and neighbours as the code has them.
 -- Document 01, 'What each does to a value', Repair.
 use Prim.Native.Nat.{ℕ, _+_, _*_, _≤_, _<_}
-use mathlib.Core.Bool.{Bool, true, not, _&&_, cond}
-use mathlib.Core.List.{List}
+use mathlib.Core.Bool.{Bool, true, false, not, _&&_, cond}
+use mathlib.Core.List.{List, [], _∷_}
 use mathlib.Core.Path.{_≡_}
 use lib.Dec.{leb, ltb, eqb}
 use lib.IntN.{ℤ, pos, negsuc}
-use lib.ListN.{length, take}
+use lib.ListN.{length, getD, take}
 use Rattle.dng.specs.declared.Window.{Window}
-use Rattle.dng.specs.Repair.{Tally, complete, sound}
+use Rattle.dng.specs.Repair.{Tally, complete, steps, moved, sound}
 use Rattle.marks.specs.Marks.{Fits}
 use Rattle.sorts.specs.Sorts.{has, Rises}
 use Rattle.means.specs.declared.Step.{Step}
@@ -32,9 +32,49 @@ pub record Looks (samples : ℕ) (marks : List ℕ) (n : ℕ) (w : Window) (peri
   pub full : complete w samples ≡ true
   pub layer : plane < w .planes
 
+-- a plane of a window whose samples are all there
+pub record Stands (samples : ℕ) (w : Window) (plane : ℕ) : Type 0 where
+  pub fits : Fits w
+  pub full : complete w samples ≡ true
+  pub layer : plane < w .planes
+
+-- all eight neighbours lie in the window
+pub record Inside (w : Window) (period x y : ℕ) : Type 0 where
+  pub left : period ≤ x
+  pub right : x + period < w .width
+  pub up : period ≤ y
+  pub down : y + period < w .height
+
 -- the first n entries as marks
 abbrev pub marked : List ℕ → ℕ → ℕ → Bool
 marked marks n = has (take n marks)
+
+-- no mark at all
+abbrev pub none : ℕ → Bool
+none q = false
+
+-- none of these steps leads to a marked position of the window
+unfoldable pub LoneOn : (ℕ → Bool) → Window → (period x y : ℕ) → List (ℤ × ℤ) → Type 0
+LoneOn bad w period x y [] = Unit
+LoneOn bad w period x y (d ∷ ds) =
+    (moved x (d .0) period (w .width) < w .width → moved y (d .1) period (w .height) < w .height
+    → bad (moved y (d .1) period (w .height) * w .width + moved x (d .0) period (w .width)) ≡ false)
+    × LoneOn bad w period x y ds
+
+-- no neighbour is marked
+unfoldable pub Lone : (ℕ → Bool) → Window → (period x y : ℕ) → Type 0
+Lone bad w period x y = LoneOn bad w period x y steps
+
+-- every entry before `at` is below lo; those from it on, of the first n, are above hi
+abbrev pub Under : List ℕ → (at lo : ℕ) → Type 0
+Under marks at lo = (j : ℕ) → j < at → getD marks j 0 < lo
+
+abbrev pub Over : List ℕ → (n at hi : ℕ) → Type 0
+Over marks n at hi = (j : ℕ) → at ≤ j → j < n → hi < getD marks j 0
+
+-- no position from lo up to hi is marked
+abbrev pub Free : List ℕ → (n lo hi : ℕ) → Type 0
+Free marks n lo hi = (t : ℕ) → lo ≤ t → t ≤ hi → marked marks n t ≡ false
 
 -- a sum and its count as the definition has them
 abbrev pub tallyOf : Sum → Tally

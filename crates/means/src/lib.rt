@@ -3,13 +3,14 @@ ghost use mathlib.Core.Path.{_≡_};
 ghost use mathlib.Core.Bool.{true};
 ghost use lib.Ieee.{nan, binary32};
 ghost use mathlib.Core.List.{map};
-ghost use Prim.Native.Nat.{_≤_};
-ghost use lib.ListN.{length, take};
+ghost use Prim.Native.Nat.{_+_, _-_, _*_, _/_, _%_, _≤_, _<_};
+ghost use lib.Dec.{leb};
+ghost use lib.ListN.{length, take, getD};
 ghost use Rattle.convert.specs.Convert.{wholeIn};
 ghost use Rattle.dng.specs.Repair.{sampleAt, steps, moved, soundOn, tallyAt, meanOf};
 ghost use Rattle.marks.specs.Marks.{Fits};
 ghost use Rattle.sorts.specs.Sorts.{Rises};
-ghost use Rattle.means.specs.Looks.{Asks, Looks, tallyOf, marked, pairOf, oneStep, openAt, soundOf};
+ghost use Rattle.means.specs.Looks.{Asks, Looks, Stands, Inside, none, Lone, Under, Over, Free, tallyOf, marked, pairOf, oneStep, openAt, soundOf};
 use dng::Window;
 
 // One step to a neighbour, in columns and rows of the period.
@@ -96,8 +97,149 @@ fn beside(
     sound_at(marks, n, w, xx, yy)
 }
 
-// The sum of the sound neighbours' samples in one plane, in the order of the steps, from 0.
-pub fn sum_f32(
+// ---- lone marks: none of the eight neighbours is marked, and no search is needed
+
+// How far apart two positions are that stand in one column, one step from each other.
+fn reach(w: Window, period: usize) -> usize
+    requires { ⌜ Fits w × (period ≤ 65536) ⌝ }
+    ensures { λ r. ⌜ (r ≡ period * w .width) × ((period ≤ r) × (r ≤ 4294967296)) ⌝ }
+{
+    period * w.width
+}
+
+// a - b, and 0 where that is below 0.
+fn less(a: usize, b: usize) -> usize
+    ensures { λ r. ⌜ r ≡ a - b ⌝ }
+{
+    if a < b { 0 } else { a - b }
+}
+
+// The position of mark i.
+fn mark(marks: &[u32], i: usize) -> usize
+    requires { ⌜ i < length (now marks) ⌝ }
+    ensures { λ r. ⌜ (r ≡ getD (now (marks .entry)) i 0) × (r < 4294967296) ⌝ }
+{
+    marks[i] as usize
+}
+
+// The first entry at or after `from` that is not below lo.
+fn onward(marks: &[u32], n: usize, from: usize, lo: usize) -> usize
+    requires { ⌜ n ≤ length (now marks) ⌝ }
+{
+    let mut at = from;
+    while at < n {
+        if lo <= mark(marks, at) {
+            return at;
+        }
+        at += 1;
+    }
+    at
+}
+
+// Where the neighbours of mark i in the row above would stand among the marks, sought from an earlier answer on. Only speed depends on it.
+pub fn above_from(marks: &[u32], n: usize, w: Window, period: usize, i: usize, from: usize) -> usize
+    requires { ⌜ (i < n) × Asks (now marks) n w period (getD (now marks) i 0 % w .width) (getD (now marks) i 0 / w .width) ⌝ }
+{
+    let q = mark(marks, i);
+    let lo = less(q, reach(w, period) + period);
+    onward(marks, n, from, lo)
+}
+
+// The same of the row below.
+pub fn below_from(marks: &[u32], n: usize, w: Window, period: usize, i: usize, from: usize) -> usize
+    requires { ⌜ (i < n) × Asks (now marks) n w period (getD (now marks) i 0 % w .width) (getD (now marks) i 0 / w .width) ⌝ }
+{
+    let q = mark(marks, i);
+    let lo = q + reach(w, period) - period;
+    onward(marks, n, from, lo)
+}
+
+// Whether every mark before entry `at` is below lo: the one before it is the last of them.
+fn under(marks: &[u32], n: usize, at: usize, lo: usize) -> bool
+    requires { ⌜ (at ≤ n) × ((n ≤ length (now marks)) × Rises 0 (take n (now marks))) ⌝ }
+    ensures { λ r. ⌜ (r ≡ true → Under (now (marks .entry)) at lo) ⌝ }
+{
+    if at == 0 {
+        return true;
+    }
+    mark(marks, at - 1) < lo
+}
+
+// Whether every mark from entry `at` on is above hi.
+fn over(marks: &[u32], n: usize, at: usize, hi: usize) -> bool
+    requires { ⌜ (at ≤ n) × ((n ≤ length (now marks)) × Rises 0 (take n (now marks))) ⌝ }
+    ensures { λ r. ⌜ (r ≡ true → Over (now (marks .entry)) n at hi) ⌝ }
+{
+    if at == n {
+        return true;
+    }
+    hi < mark(marks, at)
+}
+
+// Whether entry `at` shows that no position from lo up to hi is marked.
+fn free(marks: &[u32], n: usize, at: usize, lo: usize, hi: usize) -> bool
+    requires { ⌜ (n ≤ length (now marks)) × Rises 0 (take n (now marks)) ⌝ }
+    ensures { λ r. ⌜ (r ≡ true → Free (now (marks .entry)) n lo hi) ⌝ }
+{
+    if n < at {
+        return false;
+    }
+    if under(marks, n, at, lo) {
+        return over(marks, n, at, hi);
+    }
+    false
+}
+
+// Whether mark i is known to be lone. The places are hints: where they are not those of the rows above and below, the answer is no.
+pub fn alone(
+    marks: &[u32],
+    n: usize,
+    w: Window,
+    period: usize,
+    i: usize,
+    up: usize,
+    down: usize,
+) -> bool
+    requires { ⌜ (i < n) × Asks (now marks) n w period (getD (now marks) i 0 % w .width) (getD (now marks) i 0 / w .width) ⌝ }
+    ensures { λ r.
+        ⌜ (r ≡ true
+        → Lone (marked (now (marks .entry)) n) w period (getD (now (marks .entry)) i 0 % w .width) (getD (now (marks .entry)) i 0 / w .width)) ⌝ }
+{
+    let q = mark(marks, i);
+    let far = reach(w, period);
+    if !under(marks, n, i, less(q, period)) {
+        return false;
+    }
+    if !over(marks, n, i + 1, q + period) {
+        return false;
+    }
+    if !free(marks, n, up, less(q, far + period), less(q + period, far)) {
+        return false;
+    }
+    free(marks, n, down, q + far - period, q + far + period)
+}
+
+// ---- sums
+
+// Whether all eight neighbours lie in the window.
+fn inside(w: Window, period: usize, x: usize, y: usize) -> bool
+    requires { ⌜ (x ≤ 65536) × ((y ≤ 65536) × (period ≤ 65536)) ⌝ }
+    ensures { λ r. ⌜ (r ≡ true → Inside w period x y) ⌝ }
+{
+    if x < period {
+        return false;
+    }
+    if y < period {
+        return false;
+    }
+    if w.width <= x + period {
+        return false;
+    }
+    y + period < w.height
+}
+
+// The sum of the sound neighbours' samples in one plane, each neighbour searched for among the marks.
+fn searched_f32(
     samples: &[f32],
     marks: &[u32],
     n: usize,
@@ -135,8 +277,65 @@ pub fn sum_f32(
     Sum { sum, n: count }
 }
 
+// The sample at (x, y).
+fn at_f32(samples: &[f32], w: Window, x: usize, y: usize, plane: usize) -> f32
+    requires { ⌜ Stands (length (now samples)) w plane × ((x < w .width) × (y < w .height)) ⌝ }
+    ensures { λ r. ⌜ r ≡ sampleAt nan w (now (samples .entry)) x y plane ⌝ }
+{
+    let at = scan::place(w, x, y, plane);
+    samples[at]
+}
+
+// The sum over all eight neighbours, none marked and each in the window: one by one, so that no array of steps and no test is left of it.
+fn eight_f32(samples: &[f32], w: Window, period: usize, x: usize, y: usize, plane: usize) -> Sum
+    requires { ⌜ Stands (length (now samples)) w plane × Inside w period x y ⌝ }
+    ensures { λ r. ⌜ tallyOf r ≡ tallyAt (w .width) (w .height) period none (λ xx yy. sampleAt nan w (now (samples .entry)) xx yy plane) x y ⌝ }
+{
+    let left = x - period;
+    let right = x + period;
+    let up = y - period;
+    let down = y + period;
+    let a = at_f32(samples, w, left, y, plane);
+    let b = at_f32(samples, w, right, y, plane);
+    let c = at_f32(samples, w, x, up, plane);
+    let d = at_f32(samples, w, x, down, plane);
+    let e = at_f32(samples, w, left, up, plane);
+    let f = at_f32(samples, w, right, down, plane);
+    let g = at_f32(samples, w, left, down, plane);
+    let h = at_f32(samples, w, right, up, plane);
+    let sum = 0.0 + a + b + c + d + e + f + g + h;
+    Sum { sum, n: 8 }
+}
+
+// The sum of the sound neighbours' samples in one plane, in the order of the steps, from 0. Of a lone position no mark is looked at.
+pub fn sum_f32(
+    samples: &[f32],
+    marks: &[u32],
+    n: usize,
+    w: Window,
+    period: usize,
+    x: usize,
+    y: usize,
+    plane: usize,
+    lone: bool,
+) -> Sum
+    requires { ⌜ Looks (length (now samples)) (now marks) n w period x y plane × (lone ≡ true → Lone (marked (now marks) n) w period x y) ⌝ }
+    ensures { λ r.
+        ⌜ tallyOf r
+        ≡ tallyAt (w .width) (w .height) period (marked (now (marks .entry)) n)
+        (λ xx yy. sampleAt nan w (now (samples .entry)) xx yy plane) x y ⌝ }
+{
+    if lone {
+        if inside(w, period, x, y) {
+            return eight_f32(samples, w, period, x, y, plane);
+        }
+        return searched_f32(samples, marks, 0, w, period, x, y, plane);
+    }
+    searched_f32(samples, marks, n, w, period, x, y, plane)
+}
+
 // The same of u16 samples, each exact in an f32.
-pub fn sum_u16(
+fn searched_u16(
     samples: &[u16],
     marks: &[u32],
     n: usize,
@@ -174,8 +373,65 @@ pub fn sum_u16(
     Sum { sum, n: count }
 }
 
+// As for f32.
+fn at_u16(samples: &[u16], w: Window, x: usize, y: usize, plane: usize) -> f32
+    requires { ⌜ Stands (length (now samples)) w plane × ((x < w .width) × (y < w .height)) ⌝ }
+    ensures { λ r. ⌜ r ≡ wholeIn binary32 (sampleAt 0 w (now (samples .entry)) x y plane) ⌝ }
+{
+    let at = scan::place(w, x, y, plane);
+    convert::f32_of_u16(samples[at])
+}
+
+// As for f32.
+fn eight_u16(samples: &[u16], w: Window, period: usize, x: usize, y: usize, plane: usize) -> Sum
+    requires { ⌜ Stands (length (now samples)) w plane × Inside w period x y ⌝ }
+    ensures { λ r. ⌜ tallyOf r ≡ tallyAt (w .width) (w .height) period none (λ xx yy. wholeIn binary32 (sampleAt 0 w (now (samples .entry)) xx yy plane)) x y ⌝ }
+{
+    let left = x - period;
+    let right = x + period;
+    let up = y - period;
+    let down = y + period;
+    let a = at_u16(samples, w, left, y, plane);
+    let b = at_u16(samples, w, right, y, plane);
+    let c = at_u16(samples, w, x, up, plane);
+    let d = at_u16(samples, w, x, down, plane);
+    let e = at_u16(samples, w, left, up, plane);
+    let f = at_u16(samples, w, right, down, plane);
+    let g = at_u16(samples, w, left, down, plane);
+    let h = at_u16(samples, w, right, up, plane);
+    let sum = 0.0 + a + b + c + d + e + f + g + h;
+    Sum { sum, n: 8 }
+}
+
+// The same of u16 samples.
+pub fn sum_u16(
+    samples: &[u16],
+    marks: &[u32],
+    n: usize,
+    w: Window,
+    period: usize,
+    x: usize,
+    y: usize,
+    plane: usize,
+    lone: bool,
+) -> Sum
+    requires { ⌜ Looks (length (now samples)) (now marks) n w period x y plane × (lone ≡ true → Lone (marked (now marks) n) w period x y) ⌝ }
+    ensures { λ r.
+        ⌜ tallyOf r
+        ≡ tallyAt (w .width) (w .height) period (marked (now (marks .entry)) n)
+        (λ xx yy. wholeIn binary32 (sampleAt 0 w (now (samples .entry)) xx yy plane)) x y ⌝ }
+{
+    if lone {
+        if inside(w, period, x, y) {
+            return eight_u16(samples, w, period, x, y, plane);
+        }
+        return searched_u16(samples, marks, 0, w, period, x, y, plane);
+    }
+    searched_u16(samples, marks, n, w, period, x, y, plane)
+}
+
 // How many sound neighbours a position has: whether it can be repaired at all depends on the marks only.
-pub fn sound_count(marks: &[u32], n: usize, w: Window, period: usize, x: usize, y: usize) -> u32
+fn sound_count(marks: &[u32], n: usize, w: Window, period: usize, x: usize, y: usize) -> u32
     requires { ⌜ Asks (now marks) n w period x y ⌝ }
     ensures { λ r. ⌜ r ≡ soundOn (w .width) (w .height) period (marked (now (marks .entry)) n) x y steps ⌝ }
 {
@@ -196,6 +452,42 @@ pub fn sound_count(marks: &[u32], n: usize, w: Window, period: usize, x: usize, 
         }
     }
     count
+}
+
+// Whether any neighbour lies in the window: beside one on the diagonal lie two others.
+fn any_inside(w: Window, period: usize, x: usize, y: usize) -> bool
+    requires { ⌜ Fits w × ((x < w .width) × ((y < w .height) × (period ≤ 65536))) ⌝ }
+    ensures { λ r. ⌜ r ≡ leb 1 (soundOn (w .width) (w .height) period none x y steps) ⌝ }
+{
+    if period <= x {
+        return true;
+    }
+    if period <= y {
+        return true;
+    }
+    if x + period < w.width {
+        return true;
+    }
+    y + period < w.height
+}
+
+// Whether a position has a sound neighbour. Of a lone one every neighbour in the window is.
+pub fn any_sound(
+    marks: &[u32],
+    n: usize,
+    w: Window,
+    period: usize,
+    x: usize,
+    y: usize,
+    lone: bool,
+) -> bool
+    requires { ⌜ Asks (now marks) n w period x y × (lone ≡ true → Lone (marked (now marks) n) w period x y) ⌝ }
+    ensures { λ r. ⌜ r ≡ leb 1 (soundOn (w .width) (w .height) period (marked (now (marks .entry)) n) x y steps) ⌝ }
+{
+    if lone {
+        return any_inside(w, period, x, y);
+    }
+    1 <= sound_count(marks, n, w, period, x, y)
 }
 
 // The mean: one division.
