@@ -3,7 +3,7 @@ use Prim.Native.Nat.{ℕ, zero, suc, _+_, _-_, _*_, _≤_, _<_}
 use mathlib.Core.Path.{_≡_, refl, sym, ap, ap₂, subst, _∙_}
 use mathlib.Core.Bool.{Bool, true, false, not, _&&_, cond}
 use mathlib.Core.List.{List, [], _∷_, _++_}
-use native.Mathlib.Nat.{mul-add, mul-one, mul-le-mul-left, add-zero, add-suc, suc-add, zero-add}
+use native.Mathlib.Nat.{not-suc-le-zero, le-of-suc-le-suc, mul-add, mul-one, mul-le-mul-left, add-zero, add-suc, suc-add, zero-add}
 use native.Mathlib.Numerals.{add-one}
 use native.Mathlib.Omega.{arith}
 use lib.ListN.{length, getD, take, drop, length-append}
@@ -26,6 +26,15 @@ module _ (f : ℕ → Bool) where
   count-few [] = omega arith
   count-few (q ∷ l) =
       by-cases (f q) (λ e. rw e (omega (arith, count-few l))) (λ e. rw e (omega (arith, count-few l)))
+
+  -- where all pass, each does
+  pub count-all : (l : List ℕ) (i : ℕ) → i < length l → countIn f l ≡ length l → f (getD l i 0) ≡ true
+  unfolding countIn
+  count-all [] i h e = absurd (not-suc-le-zero h)
+  count-all (q ∷ l) zero h e = by-cases (f q) (λ t. t) (λ t. let s = rw t at e in absurd (omega (arith, count-few l)))
+  count-all (q ∷ l) (suc i) h e =
+      count-all l i (le-of-suc-le-suc h)
+      (by-cases (f q) (λ t. let s = rw t at e in omega arith) (λ t. let s = rw t at e in absurd (omega (arith, count-few l))))
 
   count-one : (q : ℕ) → countIn f (q ∷ []) ≡ cond (f q) 1 0
   unfolding countIn

@@ -3,12 +3,12 @@ use Prim.Native.Nat.{ℕ, zero, suc, _+_, _-_, _*_, _≤_, _<_}
 use mathlib.Core.Path.{_≡_, refl, sym, ap, subst, fun-ext, _∙_}
 use mathlib.Core.Bool.{Bool, true, false, _&&_, cond}
 use mathlib.Core.List.{List, [], _∷_}
-use native.Mathlib.Nat.{mul-le-mul-right}
+use native.Mathlib.Nat.{mul-le-mul-left, mul-le-mul-right, le-trans}
 use native.Mathlib.Omega.{arith}
-use borrow.Author.Tests.{leb-true, leb-false}
+use borrow.Author.Tests.{leb-true, leb-false, le-leb}
 use lib.Dec.{leb}
-use lib.ListN.{length, take}
-use lib.Seq.{length-take-le}
+use lib.ListN.{length, getD, take}
+use lib.Seq.{getD-take, length-take-le}
 use types.Run.{OneOf, miss}
 use denote.Enum.Declared.{tagOf}
 use Rattle.dng.proofs.Opcode.{the-type}
@@ -31,7 +31,7 @@ use Rattle.repair.specs.declared.Fixed.{Fixed}
 use Rattle.repair.specs.declared.Fixed.the-variants as F
 use Rattle.repair.specs.Fixes.{Fixes}
 use Rattle.repair.specs.Works.{Ranges, Marking, mended, mendable, countIn, Settled}
-use Rattle.repair.proofs.Counting.{count-few, count-none}
+use Rattle.repair.proofs.Counting.{count-few, count-all, count-none}
 use Rattle.repair.proofs.Totals.{fixes-none, fixes-marks, fixes-settled}
 
 -- ---- what the ranges say
@@ -131,18 +131,37 @@ mended-few marks n w step m =
     subst (λ (k : ℕ). mended marks n w step ≤ k) (length-take-le n marks (m .held)) (count-few (mendable w step (marked marks n)) (take n marks)) in
     (few, omega (arith, few, mul-le-mul-right (mended marks n w step) (m .fits .planes)))
 
--- the room for the new values, tested with the number m that was counted
-module _ (p m m′ room : ℕ) (r : Bool) (e : r ≡ leb (p * m) room) (c : m ≡ m′) where
-  pub room-enough : r ≡ true → p * m′ ≤ room
-  room-enough t = subst (λ (k : ℕ). p * k ≤ room) c (leb-true (p * m) room (sym e ∙ t))
+-- where as many are repaired as there are marks, each mark is
+pub mended-all : (marks : List ℕ) (n : ℕ) (w : Window) (step : ℕ) → Marking marks n w step → (i : ℕ) → i < n
+    → mended marks n w step ≡ n → mendable w step (marked marks n) (getD marks i 0) ≡ true
+mended-all marks n w step m i h e =
+    let long : length (take n marks) ≡ n = length-take-le n marks (m .held) in
+    ap (mendable w step (marked marks n)) (sym (getD-take n marks i 0 h))
+    ∙ count-all (mendable w step (marked marks n)) (take n marks) i (omega arith) (e ∙ sym long)
 
-  pub settled-done : {A : Type 0} (s s′ new : List A) (n : ℕ) (o : Fixed) → r ≡ true → o ≡ F.Done m (n - m) → s′ ≡ new → Settled s s′ new p room n m′ o
-  settled-done s s′ new n o t d f =
-      subst (λ (o : Fixed). Settled s s′ new p room n m′ o) (sym d)
+-- the values of every mark, in numbers of 64 bits; with room for them there is room for those of the marks that are repaired
+pub marks-few : (marks : List ℕ) (n : ℕ) (w : Window) (step : ℕ) → Marking marks n w step → w .planes * n ≤ 8 * n
+marks-few marks n w step m = mul-le-mul-right n (m .fits .planes)
+
+pub room-all : (marks : List ℕ) (n : ℕ) (w : Window) (step : ℕ) → Marking marks n w step → (room : ℕ) → leb (w .planes * n) room ≡ true
+    → true ≡ leb (w .planes * mended marks n w step) room
+room-all marks n w step m room e =
+    sym (le-leb (w .planes * mended marks n w step) room
+    (le-trans (mul-le-mul-left (w .planes) (mended-few marks n w step m .0)) (leb-true (w .planes * n) room e)))
+
+-- the room p * m for the new values, tested
+module _ (p m room : ℕ) (r : Bool) (e : r ≡ leb (p * m) room) where
+  pub room-enough : r ≡ true → p * m ≤ room
+  room-enough t = leb-true (p * m) room (sym e ∙ t)
+
+  pub settled-done : {A : Type 0} (s s′ new : List A) (n m′ : ℕ) (o : Fixed) → r ≡ true → m′ ≡ m → o ≡ F.Done m′ (n - m′) → s′ ≡ new
+      → Settled s s′ new p room n m o
+  settled-done s s′ new n m′ o t c d f =
+      subst (λ (o : Fixed). Settled s s′ new p room n m o) (sym d)
       (record { repaired = c; left = ap (λ (k : ℕ). n - k) c; fits = room-enough t; samples = f })
 
-  pub settled-short : {A : Type 0} (s new : List A) (n : ℕ) → r ≡ false → Settled s s new p room n m′ F.Values
-  settled-short s new n t = (subst (λ (k : ℕ). room < p * k) c (leb-false (p * m) room (sym e ∙ t)), refl)
+  pub settled-short : {A : Type 0} (s new : List A) (n : ℕ) → r ≡ false → Settled s s new p room n m F.Values
+  settled-short s new n t = (leb-false (p * m) room (sym e ∙ t), refl)
 
 module _ {A : Type 0} (kind : Kind A) (w : Window) (period : ℕ) (op : Opcode) (b : List ℕ) (s : List A) (m : List ℕ) (room : ℕ) where
   -- the window is not whole: no marks

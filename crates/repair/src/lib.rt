@@ -72,6 +72,17 @@ fn mends(marks: &[u32], n: usize, w: Window, step: usize, i: usize) -> bool
     1 <= near
 }
 
+// The same where it is known how many are repaired: where all are, nothing is looked for.
+fn mends_of(marks: &[u32], n: usize, w: Window, step: usize, i: usize, repaired: usize) -> bool
+    requires { ⌜ Marking (now marks) n w step × ((i < n) × (repaired ≡ mended (now marks) n w step)) ⌝ }
+    ensures { λ r. ⌜ r ≡ mendable w step (marked (now (marks .entry)) n) (getD (now (marks .entry)) i 0) ⌝ }
+{
+    if repaired == n {
+        return true;
+    }
+    mends(marks, n, w, step, i)
+}
+
 // How many of the n marks can be repaired. It depends on the marks only, so that room for the new values is tested before any is made.
 fn repairable(marks: &[u32], n: usize, w: Window, step: usize) -> usize
     requires { ⌜ Marking (now marks) n w step ⌝ }
@@ -88,6 +99,25 @@ fn repairable(marks: &[u32], n: usize, w: Window, step: usize) -> usize
         }
     }
     count
+}
+
+// Whether so many entries hold the new values of so many marks.
+fn roomy(entries: usize, w: Window, repaired: usize) -> bool
+    requires { ⌜ w .planes * repaired < 2 ^ 64 ⌝ }
+    ensures { λ r. ⌜ r ≡ leb (w .planes * repaired) entries ⌝ }
+{
+    w.planes * repaired <= entries
+}
+
+// Whether so many entries hold the new values. Room for all the marks is enough; only with less are those that can be repaired counted.
+fn enough(entries: usize, marks: &[u32], n: usize, w: Window, step: usize) -> bool
+    requires { ⌜ Marking (now marks) n w step ⌝ }
+    ensures { λ r. ⌜ r ≡ leb (w .planes * mended (now (marks .entry)) n w step) entries ⌝ }
+{
+    if roomy(entries, w, n) {
+        return true;
+    }
+    roomy(entries, w, repairable(marks, n, w, step))
 }
 
 // ---- the new values, from the samples at the start
@@ -147,12 +177,19 @@ fn pixel_u16(
     }
 }
 
-// The new values of every mark that is repaired, one behind another, from the samples as they are at the start.
-fn fill_f32(samples: &[f32], marks: &[u32], n: usize, w: Window, step: usize, values: &mut [f32])
+// The new values of every mark that is repaired, one behind another, from the samples as they are at the start; and how many marks they are.
+fn fill_f32(
+    samples: &[f32],
+    marks: &[u32],
+    n: usize,
+    w: Window,
+    step: usize,
+    values: &mut [f32],
+) -> usize
     requires { ⌜ Marking (now marks) n w step
         × ((complete w (length (now samples)) ≡ true) × (w .planes * mended (now marks) n w step ≤ length (now values))) ⌝ }
     ensures { λ r.
-        ⌜ Filled (w .planes) n (mendable w step (marked (now (marks .entry)) n))
+        ⌜ (r ≡ mended (now (marks .entry)) n w step) × Filled (w .planes) n (mendable w step (marked (now (marks .entry)) n))
         (meanAt nan (λ u. u) w step (marked (now (marks .entry)) n) (now (samples .entry))) (now (marks .entry)) (now (values .exit)) ⌝ }
 {
     let mut at = 0;
@@ -166,14 +203,22 @@ fn fill_f32(samples: &[f32], marks: &[u32], n: usize, w: Window, step: usize, va
             i += 1;
         }
     }
+    at / w.planes
 }
 
 // The same of u16 samples.
-fn fill_u16(samples: &[u16], marks: &[u32], n: usize, w: Window, step: usize, values: &mut [f32])
+fn fill_u16(
+    samples: &[u16],
+    marks: &[u32],
+    n: usize,
+    w: Window,
+    step: usize,
+    values: &mut [f32],
+) -> usize
     requires { ⌜ Marking (now marks) n w step
         × ((complete w (length (now samples)) ≡ true) × (w .planes * mended (now marks) n w step ≤ length (now values))) ⌝ }
     ensures { λ r.
-        ⌜ Filled (w .planes) n (mendable w step (marked (now (marks .entry)) n))
+        ⌜ (r ≡ mended (now (marks .entry)) n w step) × Filled (w .planes) n (mendable w step (marked (now (marks .entry)) n))
         (meanAt 0 (λ u. wholeIn binary32 u) w step (marked (now (marks .entry)) n) (now (samples .entry))) (now (marks .entry)) (now (values .exit)) ⌝ }
 {
     let mut at = 0;
@@ -187,6 +232,7 @@ fn fill_u16(samples: &[u16], marks: &[u32], n: usize, w: Window, step: usize, va
             i += 1;
         }
     }
+    at / w.planes
 }
 
 // ---- the samples
@@ -228,11 +274,20 @@ fn put_u16(samples: &mut [u16], from: usize, planes: usize, values: &[f32], at: 
 }
 
 // The values of every mark that is repaired into the samples.
-fn write_f32(samples: &mut [f32], marks: &[u32], n: usize, w: Window, step: usize, values: &[f32])
+fn write_f32(
+    samples: &mut [f32],
+    marks: &[u32],
+    n: usize,
+    w: Window,
+    step: usize,
+    repaired: usize,
+    values: &[f32],
+)
     requires { ⌜ Marking (now marks) n w step
         × ((complete w (length (now samples)) ≡ true) × ((w .planes * mended (now marks) n w step ≤ length (now values))
-        × Filled (w .planes) n (mendable w step (marked (now marks) n))
-        (meanAt nan (λ u. u) w step (marked (now marks) n) (now samples)) (now marks) (now values))) ⌝ }
+        × (Filled (w .planes) n (mendable w step (marked (now marks) n))
+        (meanAt nan (λ u. u) w step (marked (now marks) n) (now samples)) (now marks) (now values)
+        × (repaired ≡ mended (now marks) n w step)))) ⌝ }
     ensures { λ r.
         ⌜ now (samples .exit)
         ≡ each (repairAt nan (λ u. u) (λ u. u) w step (marked (now (marks .entry)) n) (now (samples .entry))) (now (samples .entry)) ⌝ }
@@ -240,7 +295,7 @@ fn write_f32(samples: &mut [f32], marks: &[u32], n: usize, w: Window, step: usiz
     let mut at = 0;
     let mut i = 0;
     while i < n {
-        if mends(marks, n, w, step, i) {
+        if mends_of(marks, n, w, step, i, repaired) {
             let from = first(w, marks[i] as usize);
             put_f32(samples, from, w.planes, values, at);
             at += w.planes;
@@ -252,11 +307,20 @@ fn write_f32(samples: &mut [f32], marks: &[u32], n: usize, w: Window, step: usiz
 }
 
 // The same of u16 samples.
-fn write_u16(samples: &mut [u16], marks: &[u32], n: usize, w: Window, step: usize, values: &[f32])
+fn write_u16(
+    samples: &mut [u16],
+    marks: &[u32],
+    n: usize,
+    w: Window,
+    step: usize,
+    repaired: usize,
+    values: &[f32],
+)
     requires { ⌜ Marking (now marks) n w step
         × ((complete w (length (now samples)) ≡ true) × ((w .planes * mended (now marks) n w step ≤ length (now values))
-        × Filled (w .planes) n (mendable w step (marked (now marks) n))
-        (meanAt 0 (λ u. wholeIn binary32 u) w step (marked (now marks) n) (now samples)) (now marks) (now values))) ⌝ }
+        × (Filled (w .planes) n (mendable w step (marked (now marks) n))
+        (meanAt 0 (λ u. wholeIn binary32 u) w step (marked (now marks) n) (now samples)) (now marks) (now values)
+        × (repaired ≡ mended (now marks) n w step)))) ⌝ }
     ensures { λ r.
         ⌜ now (samples .exit)
         ≡ each (repairAt 0 (λ u. wholeIn binary32 u) (λ u. roundHeld 65535 u) w step (marked (now (marks .entry)) n) (now (samples .entry)))
@@ -265,7 +329,7 @@ fn write_u16(samples: &mut [u16], marks: &[u32], n: usize, w: Window, step: usiz
     let mut at = 0;
     let mut i = 0;
     while i < n {
-        if mends(marks, n, w, step, i) {
+        if mends_of(marks, n, w, step, i, repaired) {
             let from = first(w, marks[i] as usize);
             put_u16(samples, from, w.planes, values, at);
             at += w.planes;
@@ -277,14 +341,6 @@ fn write_u16(samples: &mut [u16], marks: &[u32], n: usize, w: Window, step: usiz
 }
 
 // ---- the repair, its marks at the front of the scratch
-
-// Whether so many entries hold the new values.
-fn roomy(entries: usize, w: Window, repaired: usize) -> bool
-    requires { ⌜ w .planes * repaired < 2 ^ 64 ⌝ }
-    ensures { λ r. ⌜ r ≡ leb (w .planes * repaired) entries ⌝ }
-{
-    w.planes * repaired <= entries
-}
 
 // So many of n marks repaired, the others left.
 fn done(n: usize, repaired: usize) -> Fixed
@@ -310,10 +366,9 @@ fn settle_f32(
         (each (repairAt nan (λ u. u) (λ u. u) w step (marked (now (marks .entry)) n) (now (samples .entry))) (now (samples .entry)))
         (w .planes) (length (now (values .entry))) n (mended (now (marks .entry)) n w step) r ⌝ }
 {
-    let repaired = repairable(marks, n, w, step);
-    if roomy(values.len(), w, repaired) {
-        fill_f32(samples, marks, n, w, step, values);
-        write_f32(samples, marks, n, w, step, values);
+    if enough(values.len(), marks, n, w, step) {
+        let repaired = fill_f32(samples, marks, n, w, step, values);
+        write_f32(samples, marks, n, w, step, repaired, values);
         done(n, repaired)
     } else {
         Fixed::Values
@@ -335,10 +390,9 @@ fn settle_u16(
         (each (repairAt 0 (λ u. wholeIn binary32 u) (λ u. roundHeld 65535 u) w step (marked (now (marks .entry)) n) (now (samples .entry)))
         (now (samples .entry))) (w .planes) (length (now (values .entry))) n (mended (now (marks .entry)) n w step) r ⌝ }
 {
-    let repaired = repairable(marks, n, w, step);
-    if roomy(values.len(), w, repaired) {
-        fill_u16(samples, marks, n, w, step, values);
-        write_u16(samples, marks, n, w, step, values);
+    if enough(values.len(), marks, n, w, step) {
+        let repaired = fill_u16(samples, marks, n, w, step, values);
+        write_u16(samples, marks, n, w, step, repaired, values);
         done(n, repaired)
     } else {
         Fixed::Values

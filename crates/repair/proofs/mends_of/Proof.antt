@@ -1,0 +1,24 @@
+-- `repair::mends_of` meets its contract: where all are repaired, mark i is. Assumes nothing.
+use mathlib.Core.Path.{sym, _∙_}
+use borrow.Author.Needs.{needs}
+use Rattle.repair.proofs.Gathering.{mended-all}
+use Rattle.repair.proofs.mends_of.Statement.{statement}
+use Rattle.repair.proofs.mends_of.Tie as tie
+use Rattle.repair.proofs.mends_of.Reads as reads
+use Rattle.repair.proofs.mends_of.Lts as lts
+use Rattle.repair.proofs.mends.Reads as mends-reads
+
+returns : tie.Need-returns
+returns c =
+    let s = c .before .before in
+    let a = s .args in
+    sym (mended-all (a .marks .now) (a .n) (a .w) (a .step) (s .pre .0) (a .i) (s .pre .1 .0) (sym (s .pre .1 .1) ∙ c .if1 .taken))
+
+mends-requires : tie.Need-mends-requires
+mends-requires c κs = search needs
+
+returns-2 : tie.Need-returns-2
+returns-2 c = search needs
+
+pub mends-of-spec : {M : Type 1} → statement M
+mends-of-spec = tie.close (tie.spec returns mends-requires returns-2)
