@@ -1,14 +1,14 @@
 -- What a sum over sound neighbours asks of its caller and answers, and the steps and neighbours as the code has them.
 -- Document 01, 'What each does to a value', Repair.
 use Prim.Native.Nat.{ℕ, _+_, _*_, _≤_, _<_}
-use mathlib.Core.Bool.{Bool, true, not, _&&_, cond}
-use mathlib.Core.List.{List}
+use mathlib.Core.Bool.{Bool, true, false, not, _&&_, cond}
+use mathlib.Core.List.{List, [], _∷_}
 use mathlib.Core.Path.{_≡_}
 use lib.Dec.{leb, ltb, eqb}
 use lib.IntN.{ℤ, pos, negsuc}
 use lib.ListN.{length, take}
 use Rattle.dng.specs.declared.Window.{Window}
-use Rattle.dng.specs.Repair.{Tally, complete, sound}
+use Rattle.dng.specs.Repair.{Tally, complete, steps, moved, sound}
 use Rattle.marks.specs.Marks.{Fits}
 use Rattle.sorts.specs.Sorts.{has, Rises}
 use Rattle.means.specs.declared.Step.{Step}
@@ -35,6 +35,18 @@ pub record Looks (samples : ℕ) (marks : List ℕ) (n : ℕ) (w : Window) (peri
 -- the first n entries as marks
 abbrev pub marked : List ℕ → ℕ → ℕ → Bool
 marked marks n = has (take n marks)
+
+-- none of these steps leads to a marked position of the window
+unfoldable pub LoneOn : (ℕ → Bool) → Window → (period x y : ℕ) → List (ℤ × ℤ) → Type 0
+LoneOn bad w period x y [] = Unit
+LoneOn bad w period x y (d ∷ ds) =
+    (moved x (d .0) period (w .width) < w .width → moved y (d .1) period (w .height) < w .height
+    → bad (moved y (d .1) period (w .height) * w .width + moved x (d .0) period (w .width)) ≡ false)
+    × LoneOn bad w period x y ds
+
+-- no neighbour is marked
+unfoldable pub Lone : (ℕ → Bool) → Window → (period x y : ℕ) → Type 0
+Lone bad w period x y = LoneOn bad w period x y steps
 
 -- a sum and its count as the definition has them
 abbrev pub tallyOf : Sum → Tally

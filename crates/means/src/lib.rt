@@ -3,13 +3,14 @@ ghost use mathlib.Core.Path.{_≡_};
 ghost use mathlib.Core.Bool.{true};
 ghost use lib.Ieee.{nan, binary32};
 ghost use mathlib.Core.List.{map};
-ghost use Prim.Native.Nat.{_≤_};
-ghost use lib.ListN.{length, take};
+ghost use Prim.Native.Nat.{_+_, _-_, _*_, _/_, _%_, _≤_, _<_};
+ghost use lib.Dec.{leb};
+ghost use lib.ListN.{length, take, getD};
 ghost use Rattle.convert.specs.Convert.{wholeIn};
 ghost use Rattle.dng.specs.Repair.{sampleAt, steps, moved, soundOn, tallyAt, meanOf};
 ghost use Rattle.marks.specs.Marks.{Fits};
 ghost use Rattle.sorts.specs.Sorts.{Rises};
-ghost use Rattle.means.specs.Looks.{Asks, Looks, tallyOf, marked, pairOf, oneStep, openAt, soundOf};
+ghost use Rattle.means.specs.Looks.{Asks, Looks, Lone, tallyOf, marked, pairOf, oneStep, openAt, soundOf};
 use dng::Window;
 
 // One step to a neighbour, in columns and rows of the period.
@@ -96,8 +97,85 @@ fn beside(
     sound_at(marks, n, w, xx, yy)
 }
 
-// The sum of the sound neighbours' samples in one plane, in the order of the steps, from 0.
-pub fn sum_f32(
+// ---- lone marks: none of the eight neighbours is marked, and no search is needed
+
+// How far apart two positions are that stand in one column, one step from each other.
+fn reach(w: Window, period: usize) -> usize
+    requires { ⌜ Fits w × (period ≤ 65536) ⌝ }
+    ensures { λ r. ⌜ (r ≡ period * w .width) × ((period ≤ r) × (r ≤ 4294967296)) ⌝ }
+{
+    period * w.width
+}
+
+// a - b, and 0 where that is below 0.
+fn less(a: usize, b: usize) -> usize
+    ensures { λ r. ⌜ r ≡ a - b ⌝ }
+{
+    if a < b { 0 } else { a - b }
+}
+
+// The position of mark i.
+fn mark(marks: &[u32], i: usize) -> usize
+    requires { ⌜ i < length (now marks) ⌝ }
+    ensures { λ r. ⌜ (r ≡ getD (now (marks .entry)) i 0) × (r < 4294967296) ⌝ }
+{
+    marks[i] as usize
+}
+
+// The first entry at or after `from` that is not below lo.
+fn onward(marks: &[u32], n: usize, from: usize, lo: usize) -> usize
+    requires { ⌜ n ≤ length (now marks) ⌝ }
+{
+    let mut at = from;
+    while at < n {
+        if lo <= mark(marks, at) {
+            return at;
+        }
+        at += 1;
+    }
+    at
+}
+
+// Where the neighbours of mark i in the row above would stand among the marks, sought from an earlier answer on. Only speed depends on it.
+pub fn above_from(marks: &[u32], n: usize, w: Window, period: usize, i: usize, from: usize) -> usize
+    requires { ⌜ (i < n) × Asks (now marks) n w period (getD (now marks) i 0 % w .width) (getD (now marks) i 0 / w .width) ⌝ }
+{
+    let q = mark(marks, i);
+    let lo = less(q, reach(w, period) + period);
+    onward(marks, n, from, lo)
+}
+
+// The same of the row below.
+pub fn below_from(marks: &[u32], n: usize, w: Window, period: usize, i: usize, from: usize) -> usize
+    requires { ⌜ (i < n) × Asks (now marks) n w period (getD (now marks) i 0 % w .width) (getD (now marks) i 0 / w .width) ⌝ }
+{
+    let q = mark(marks, i);
+    let lo = q + reach(w, period) - period;
+    onward(marks, n, from, lo)
+}
+
+// Whether mark i is known to be lone. The places are hints: where they are not those of the rows above and below, the answer is no.
+pub fn alone(
+    marks: &[u32],
+    n: usize,
+    w: Window,
+    period: usize,
+    i: usize,
+    up: usize,
+    down: usize,
+) -> bool
+    requires { ⌜ (i < n) × Asks (now marks) n w period (getD (now marks) i 0 % w .width) (getD (now marks) i 0 / w .width) ⌝ }
+    ensures { λ r.
+        ⌜ (r ≡ true
+        → Lone (marked (now (marks .entry)) n) w period (getD (now (marks .entry)) i 0 % w .width) (getD (now (marks .entry)) i 0 / w .width)) ⌝ }
+{
+    false
+}
+
+// ---- sums
+
+// The sum of the sound neighbours' samples in one plane, each neighbour searched for among the marks.
+fn searched_f32(
     samples: &[f32],
     marks: &[u32],
     n: usize,
@@ -135,8 +213,29 @@ pub fn sum_f32(
     Sum { sum, n: count }
 }
 
+// The sum of the sound neighbours' samples in one plane, in the order of the steps, from 0.
+pub fn sum_f32(
+    samples: &[f32],
+    marks: &[u32],
+    n: usize,
+    w: Window,
+    period: usize,
+    x: usize,
+    y: usize,
+    plane: usize,
+    lone: bool,
+) -> Sum
+    requires { ⌜ Looks (length (now samples)) (now marks) n w period x y plane × (lone ≡ true → Lone (marked (now marks) n) w period x y) ⌝ }
+    ensures { λ r.
+        ⌜ tallyOf r
+        ≡ tallyAt (w .width) (w .height) period (marked (now (marks .entry)) n)
+        (λ xx yy. sampleAt nan w (now (samples .entry)) xx yy plane) x y ⌝ }
+{
+    searched_f32(samples, marks, n, w, period, x, y, plane)
+}
+
 // The same of u16 samples, each exact in an f32.
-pub fn sum_u16(
+fn searched_u16(
     samples: &[u16],
     marks: &[u32],
     n: usize,
@@ -174,8 +273,29 @@ pub fn sum_u16(
     Sum { sum, n: count }
 }
 
+// The same of u16 samples.
+pub fn sum_u16(
+    samples: &[u16],
+    marks: &[u32],
+    n: usize,
+    w: Window,
+    period: usize,
+    x: usize,
+    y: usize,
+    plane: usize,
+    lone: bool,
+) -> Sum
+    requires { ⌜ Looks (length (now samples)) (now marks) n w period x y plane × (lone ≡ true → Lone (marked (now marks) n) w period x y) ⌝ }
+    ensures { λ r.
+        ⌜ tallyOf r
+        ≡ tallyAt (w .width) (w .height) period (marked (now (marks .entry)) n)
+        (λ xx yy. wholeIn binary32 (sampleAt 0 w (now (samples .entry)) xx yy plane)) x y ⌝ }
+{
+    searched_u16(samples, marks, n, w, period, x, y, plane)
+}
+
 // How many sound neighbours a position has: whether it can be repaired at all depends on the marks only.
-pub fn sound_count(marks: &[u32], n: usize, w: Window, period: usize, x: usize, y: usize) -> u32
+fn sound_count(marks: &[u32], n: usize, w: Window, period: usize, x: usize, y: usize) -> u32
     requires { ⌜ Asks (now marks) n w period x y ⌝ }
     ensures { λ r. ⌜ r ≡ soundOn (w .width) (w .height) period (marked (now (marks .entry)) n) x y steps ⌝ }
 {
@@ -196,6 +316,22 @@ pub fn sound_count(marks: &[u32], n: usize, w: Window, period: usize, x: usize, 
         }
     }
     count
+}
+
+// Whether a position has a sound neighbour.
+pub fn any_sound(
+    marks: &[u32],
+    n: usize,
+    w: Window,
+    period: usize,
+    x: usize,
+    y: usize,
+    lone: bool,
+) -> bool
+    requires { ⌜ Asks (now marks) n w period x y × (lone ≡ true → Lone (marked (now marks) n) w period x y) ⌝ }
+    ensures { λ r. ⌜ r ≡ leb 1 (soundOn (w .width) (w .height) period (marked (now (marks .entry)) n) x y steps) ⌝ }
+{
+    1 <= sound_count(marks, n, w, period, x, y)
 }
 
 // The mean: one division.

@@ -30,7 +30,7 @@ use Rattle.points.specs.Points.{each}
 use Rattle.repair.specs.declared.Fixed.{Fixed}
 use Rattle.repair.specs.declared.Fixed.the-variants as F
 use Rattle.repair.specs.Fixes.{Fixes}
-use Rattle.repair.specs.Works.{Ranges, Marking, mended, mendable, countIn, Settled}
+use Rattle.repair.specs.Works.{Ranges, Marking, mended, mendable, Told, countIn, Settled}
 use Rattle.repair.proofs.Counting.{count-few, count-all, count-none}
 use Rattle.repair.proofs.Totals.{fixes-none, fixes-marks, fixes-settled}
 
@@ -122,6 +122,10 @@ marking w bad m m′ n period step f far e h same =
       rises = rw (h .front) (chosen-rises bad 0 (positions w));
       inside = λ q i. omega (arith, chosen-in bad 0 (positions w) q (has-true (chosen bad 0 (positions w)) q (rw (h .front) at i)) .0);
     }
+
+-- nothing is told: then nothing is to be shown
+pub told-nothing : (bad : ℕ → Bool) (w : Window) (step q : ℕ) → Told false bad w step q
+told-nothing bad w step q e = absurd (let z : _≡_ {A = ℕ} 0 1 = cc in omega arith)
 
 -- how many are repaired, and their values, in numbers of 64 bits
 pub mended-few : (marks : List ℕ) (n : ℕ) (w : Window) (step : ℕ) → Marking marks n w step

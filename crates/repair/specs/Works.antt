@@ -9,7 +9,7 @@ use lib.ListN.{length, getD, take}
 use Rattle.dng.specs.declared.Window.{Window}
 use Rattle.dng.specs.Repair.{Tally, complete, positions, sampleAt, steps, soundOn, tallyAt, meanOf}
 use Rattle.marks.specs.Marks.{Fits}
-use Rattle.means.specs.Looks.{Asks, marked}
+use Rattle.means.specs.Looks.{Asks, Lone, marked}
 use Rattle.sorts.specs.Sorts.{has, Rises}
 use Rattle.repair.specs.declared.Fixed.{Fixed}
 use Rattle.repair.specs.declared.Fixed.the-variants as F
@@ -40,6 +40,10 @@ pub record Marking (marks : List ℕ) (n : ℕ) (w : Window) (step : ℕ) : Type
 -- position q has a sound neighbour
 unfoldable pub mendable : Window → (step : ℕ) → (ℕ → Bool) → ℕ → Bool
 mendable w step bad q = leb 1 (soundOn (w .width) (w .height) step bad (q % w .width) (q / w .width) steps)
+
+-- what a mark may be told to be: where `lone` says so, no neighbour of position q is marked
+abbrev pub Told : (lone : Bool) → (ℕ → Bool) → Window → (step q : ℕ) → Type 0
+Told lone bad w step q = lone ≡ true → Lone bad w step (q % w .width) (q / w .width)
 
 -- at how many entries of a list
 unfoldable pub countIn : (ℕ → Bool) → List ℕ → ℕ

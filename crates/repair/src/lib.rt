@@ -17,6 +17,7 @@ ghost use Rattle.repair.specs.Works.{
   Marking,
   mendable,
   mended,
+  Told,
   pixelOf,
   meanAt,
   Filled,
@@ -62,14 +63,13 @@ fn full(n: usize, w: Window) -> bool
 
 // ---- the marks
 
-// Whether mark i has a sound neighbour.
-fn mends(marks: &[u32], n: usize, w: Window, step: usize, i: usize) -> bool
-    requires { ⌜ Marking (now marks) n w step × (i < n) ⌝ }
+// Whether mark i has a sound neighbour. One that is known to be lone needs no search.
+fn mends(marks: &[u32], n: usize, w: Window, step: usize, i: usize, lone: bool) -> bool
+    requires { ⌜ Marking (now marks) n w step × ((i < n) × Told lone (marked (now marks) n) w step (getD (now marks) i 0)) ⌝ }
     ensures { λ r. ⌜ r ≡ mendable w step (marked (now (marks .entry)) n) (getD (now (marks .entry)) i 0) ⌝ }
 {
     let q = marks[i] as usize;
-    let near = means::sound_count(marks, n, w, step, q % w.width, q / w.width);
-    1 <= near
+    means::any_sound(marks, n, w, step, q % w.width, q / w.width, lone)
 }
 
 // The same where it is known how many are repaired: where all are, nothing is looked for.
@@ -80,7 +80,7 @@ fn mends_of(marks: &[u32], n: usize, w: Window, step: usize, i: usize, repaired:
     if repaired == n {
         return true;
     }
-    mends(marks, n, w, step, i)
+    mends(marks, n, w, step, i, false)
 }
 
 // How many of the n marks can be repaired. It depends on the marks only, so that room for the new values is tested before any is made.
@@ -91,7 +91,7 @@ fn repairable(marks: &[u32], n: usize, w: Window, step: usize) -> usize
     let mut count = 0;
     let mut i = 0;
     while i < n {
-        if mends(marks, n, w, step, i) {
+        if mends(marks, n, w, step, i, false) {
             count += 1;
             i += 1;
         } else {
@@ -130,11 +130,12 @@ fn pixel_f32(
     w: Window,
     step: usize,
     q: usize,
+    lone: bool,
     values: &mut [f32],
     at: usize,
 )
     requires { ⌜ Asks (now marks) n w step (q % w .width) (q / w .width)
-        × ((complete w (length (now samples)) ≡ true) × (at + w .planes ≤ length (now values))) ⌝ }
+        × ((complete w (length (now samples)) ≡ true) × ((at + w .planes ≤ length (now values)) × Told lone (marked (now marks) n) w step q)) ⌝ }
     ensures { λ r.
         ⌜ now (values .exit)
         ≡ each (between at (at + w .planes)
@@ -144,7 +145,7 @@ fn pixel_f32(
     let y = q / w.width;
     let mut k = 0;
     while k < w.planes {
-        values[at + k] = means::mean(means::sum_f32(samples, marks, n, w, step, x, y, k));
+        values[at + k] = means::mean(means::sum_f32(samples, marks, n, w, step, x, y, k, lone));
         k += 1;
     }
 }
@@ -157,11 +158,12 @@ fn pixel_u16(
     w: Window,
     step: usize,
     q: usize,
+    lone: bool,
     values: &mut [f32],
     at: usize,
 )
     requires { ⌜ Asks (now marks) n w step (q % w .width) (q / w .width)
-        × ((complete w (length (now samples)) ≡ true) × (at + w .planes ≤ length (now values))) ⌝ }
+        × ((complete w (length (now samples)) ≡ true) × ((at + w .planes ≤ length (now values)) × Told lone (marked (now marks) n) w step q)) ⌝ }
     ensures { λ r.
         ⌜ now (values .exit)
         ≡ each (between at (at + w .planes)
@@ -172,12 +174,13 @@ fn pixel_u16(
     let y = q / w.width;
     let mut k = 0;
     while k < w.planes {
-        values[at + k] = means::mean(means::sum_u16(samples, marks, n, w, step, x, y, k));
+        values[at + k] = means::mean(means::sum_u16(samples, marks, n, w, step, x, y, k, lone));
         k += 1;
     }
 }
 
 // The new values of every mark that is repaired, one behind another, from the samples as they are at the start; and how many marks they are.
+// The places of the rows above and below move on with the marks, so that a lone mark is known without a search.
 fn fill_f32(
     samples: &[f32],
     marks: &[u32],
@@ -193,10 +196,25 @@ fn fill_f32(
         (meanAt nan (λ u. u) w step (marked (now (marks .entry)) n) (now (samples .entry))) (now (marks .entry)) (now (values .exit)) ⌝ }
 {
     let mut at = 0;
+    let mut up = 0;
+    let mut down = 0;
     let mut i = 0;
     while i < n {
-        if mends(marks, n, w, step, i) {
-            pixel_f32(samples, marks, n, w, step, marks[i] as usize, values, at);
+        up = means::above_from(marks, n, w, step, i, up);
+        down = means::below_from(marks, n, w, step, i, down);
+        let lone = means::alone(marks, n, w, step, i, up, down);
+        if mends(marks, n, w, step, i, lone) {
+            pixel_f32(
+                samples,
+                marks,
+                n,
+                w,
+                step,
+                marks[i] as usize,
+                lone,
+                values,
+                at,
+            );
             at += w.planes;
             i += 1;
         } else {
@@ -222,10 +240,25 @@ fn fill_u16(
         (meanAt 0 (λ u. wholeIn binary32 u) w step (marked (now (marks .entry)) n) (now (samples .entry))) (now (marks .entry)) (now (values .exit)) ⌝ }
 {
     let mut at = 0;
+    let mut up = 0;
+    let mut down = 0;
     let mut i = 0;
     while i < n {
-        if mends(marks, n, w, step, i) {
-            pixel_u16(samples, marks, n, w, step, marks[i] as usize, values, at);
+        up = means::above_from(marks, n, w, step, i, up);
+        down = means::below_from(marks, n, w, step, i, down);
+        let lone = means::alone(marks, n, w, step, i, up, down);
+        if mends(marks, n, w, step, i, lone) {
+            pixel_u16(
+                samples,
+                marks,
+                n,
+                w,
+                step,
+                marks[i] as usize,
+                lone,
+                values,
+                at,
+            );
             at += w.planes;
             i += 1;
         } else {

@@ -1,7 +1,7 @@
 -- `repair::mends_of` meets its contract: where all are repaired, mark i is. Assumes nothing.
 use mathlib.Core.Path.{sym, _∙_}
 use borrow.Author.Needs.{needs}
-use Rattle.repair.proofs.Gathering.{mended-all}
+use Rattle.repair.proofs.Gathering.{told-nothing, mended-all}
 use Rattle.repair.proofs.mends_of.Statement.{statement}
 use Rattle.repair.proofs.mends_of.Tie as tie
 use Rattle.repair.proofs.mends_of.Reads as reads
@@ -15,7 +15,7 @@ returns c =
     sym (mended-all (a .marks .now) (a .n) (a .w) (a .step) (s .pre .0) (a .i) (s .pre .1 .0) (sym (s .pre .1 .1) ∙ c .if1 .taken))
 
 mends-requires : tie.Need-mends-requires
-mends-requires c κs = search needs
+mends-requires c κs = let s = c .before .before in (s .pre .0, (s .pre .1 .0, told-nothing _ _ _ _))
 
 returns-2 : tie.Need-returns-2
 returns-2 c = search needs

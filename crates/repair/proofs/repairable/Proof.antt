@@ -7,6 +7,7 @@ use lib.ListN.{take}
 use Rattle.means.specs.Looks.{marked}
 use Rattle.repair.specs.Works.{mendable, countIn}
 use Rattle.repair.proofs.Counting.{count-yes, count-no, count-end}
+use Rattle.repair.proofs.Gathering.{told-nothing}
 use Rattle.repair.proofs.repairable.Statement.{statement}
 use Rattle.repair.proofs.repairable.Tie as tie
 use Rattle.repair.proofs.repairable.Reads as reads
@@ -24,7 +25,7 @@ unfolding countIn
 loop-holds c = (omega arith, (omega arith, refl))
 
 mends-requires : tie.Need-mends-requires Inv-loop μ-loop
-mends-requires c κs = (c .before .before .before .pre, c .loop-test .taken)
+mends-requires c κs = (c .before .before .before .pre, (c .loop-test .taken, told-nothing _ _ _ _))
 
 add-count : tie.Need-add-count Inv-loop μ-loop
 add-count c = omega arith

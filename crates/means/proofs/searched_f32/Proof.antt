@@ -1,4 +1,4 @@
--- `means::sum_f32` meets its contract: the walk over the steps, with the f32 samples as values. Assumes nothing.
+-- `means::searched_f32` meets its contract: the walk over the steps, with the f32 samples as values. Assumes nothing.
 use Prim.Native.Nat.{ℕ, _-_, _<_}
 use mathlib.Core.Path.{_≡_, ap}
 use mathlib.Core.List.{List, map}
@@ -12,8 +12,8 @@ use Rattle.scan.proofs.Places.{place-in}
 use Rattle.means.specs.declared.Step.{Step}
 use Rattle.means.specs.Looks.{marked, pairOf}
 use Rattle.means.proofs.Walking.{Walked, walk-start, walk-at, walk-missing, walk-end, stepOn, step-one, step-in}
-use Rattle.means.proofs.sum_f32.Statement.{statement}
-use Rattle.means.proofs.sum_f32.Tie as tie
+use Rattle.means.proofs.searched_f32.Statement.{statement}
+use Rattle.means.proofs.searched_f32.Tie as tie
 
 abbrev Inv-loop : tie.InvT-loop
 Inv-loop samples marks n w period x y plane all sum₀ count₀ i₀ sum count i =
@@ -124,8 +124,8 @@ loop-again-2 c =
 returns : tie.Need-returns Inv-loop μ-loop
 returns c = walk-end (c .before .loop .inv) (c .loop-test .left)
 
-pub sum-f32-spec : {M : Type 1} → statement M
-sum-f32-spec =
+pub searched-f32-spec : {M : Type 1} → statement M
+searched-f32-spec =
     tie.close
     (tie.spec
     Inv-loop
