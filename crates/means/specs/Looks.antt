@@ -6,7 +6,7 @@ use mathlib.Core.List.{List, [], _∷_}
 use mathlib.Core.Path.{_≡_}
 use lib.Dec.{leb, ltb, eqb}
 use lib.IntN.{ℤ, pos, negsuc}
-use lib.ListN.{length, take}
+use lib.ListN.{length, getD, take}
 use Rattle.dng.specs.declared.Window.{Window}
 use Rattle.dng.specs.Repair.{Tally, complete, steps, moved, sound}
 use Rattle.marks.specs.Marks.{Fits}
@@ -36,6 +36,10 @@ pub record Looks (samples : ℕ) (marks : List ℕ) (n : ℕ) (w : Window) (peri
 abbrev pub marked : List ℕ → ℕ → ℕ → Bool
 marked marks n = has (take n marks)
 
+-- no mark at all
+abbrev pub none : ℕ → Bool
+none q = false
+
 -- none of these steps leads to a marked position of the window
 unfoldable pub LoneOn : (ℕ → Bool) → Window → (period x y : ℕ) → List (ℤ × ℤ) → Type 0
 LoneOn bad w period x y [] = Unit
@@ -47,6 +51,17 @@ LoneOn bad w period x y (d ∷ ds) =
 -- no neighbour is marked
 unfoldable pub Lone : (ℕ → Bool) → Window → (period x y : ℕ) → Type 0
 Lone bad w period x y = LoneOn bad w period x y steps
+
+-- every entry before `at` is below lo; those from it on, of the first n, are above hi
+abbrev pub Under : List ℕ → (at lo : ℕ) → Type 0
+Under marks at lo = (j : ℕ) → j < at → getD marks j 0 < lo
+
+abbrev pub Over : List ℕ → (n at hi : ℕ) → Type 0
+Over marks n at hi = (j : ℕ) → at ≤ j → j < n → hi < getD marks j 0
+
+-- no position from lo up to hi is marked
+abbrev pub Free : List ℕ → (n lo hi : ℕ) → Type 0
+Free marks n lo hi = (t : ℕ) → lo ≤ t → t ≤ hi → marked marks n t ≡ false
 
 -- a sum and its count as the definition has them
 abbrev pub tallyOf : Sum → Tally

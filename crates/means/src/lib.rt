@@ -10,7 +10,7 @@ ghost use Rattle.convert.specs.Convert.{wholeIn};
 ghost use Rattle.dng.specs.Repair.{sampleAt, steps, moved, soundOn, tallyAt, meanOf};
 ghost use Rattle.marks.specs.Marks.{Fits};
 ghost use Rattle.sorts.specs.Sorts.{Rises};
-ghost use Rattle.means.specs.Looks.{Asks, Looks, Lone, tallyOf, marked, pairOf, oneStep, openAt, soundOf};
+ghost use Rattle.means.specs.Looks.{Asks, Looks, none, Lone, Under, Over, Free, tallyOf, marked, pairOf, oneStep, openAt, soundOf};
 use dng::Window;
 
 // One step to a neighbour, in columns and rows of the period.
@@ -154,6 +154,42 @@ pub fn below_from(marks: &[u32], n: usize, w: Window, period: usize, i: usize, f
     onward(marks, n, from, lo)
 }
 
+// Whether every mark before entry `at` is below lo: the one before it is the last of them.
+fn under(marks: &[u32], n: usize, at: usize, lo: usize) -> bool
+    requires { ⌜ (at ≤ n) × ((n ≤ length (now marks)) × Rises 0 (take n (now marks))) ⌝ }
+    ensures { λ r. ⌜ (r ≡ true → Under (now (marks .entry)) at lo) ⌝ }
+{
+    if at == 0 {
+        return true;
+    }
+    mark(marks, at - 1) < lo
+}
+
+// Whether every mark from entry `at` on is above hi.
+fn over(marks: &[u32], n: usize, at: usize, hi: usize) -> bool
+    requires { ⌜ (at ≤ n) × ((n ≤ length (now marks)) × Rises 0 (take n (now marks))) ⌝ }
+    ensures { λ r. ⌜ (r ≡ true → Over (now (marks .entry)) n at hi) ⌝ }
+{
+    if at == n {
+        return true;
+    }
+    hi < mark(marks, at)
+}
+
+// Whether entry `at` shows that no position from lo up to hi is marked.
+fn free(marks: &[u32], n: usize, at: usize, lo: usize, hi: usize) -> bool
+    requires { ⌜ (n ≤ length (now marks)) × Rises 0 (take n (now marks)) ⌝ }
+    ensures { λ r. ⌜ (r ≡ true → Free (now (marks .entry)) n lo hi) ⌝ }
+{
+    if n < at {
+        return false;
+    }
+    if under(marks, n, at, lo) {
+        return over(marks, n, at, hi);
+    }
+    false
+}
+
 // Whether mark i is known to be lone. The places are hints: where they are not those of the rows above and below, the answer is no.
 pub fn alone(
     marks: &[u32],
@@ -169,7 +205,18 @@ pub fn alone(
         ⌜ (r ≡ true
         → Lone (marked (now (marks .entry)) n) w period (getD (now (marks .entry)) i 0 % w .width) (getD (now (marks .entry)) i 0 / w .width)) ⌝ }
 {
-    false
+    let q = mark(marks, i);
+    let far = reach(w, period);
+    if !under(marks, n, i, less(q, period)) {
+        return false;
+    }
+    if !over(marks, n, i + 1, q + period) {
+        return false;
+    }
+    if !free(marks, n, up, less(q, far + period), less(q + period, far)) {
+        return false;
+    }
+    free(marks, n, down, q + far - period, q + far + period)
 }
 
 // ---- sums
@@ -318,7 +365,24 @@ fn sound_count(marks: &[u32], n: usize, w: Window, period: usize, x: usize, y: u
     count
 }
 
-// Whether a position has a sound neighbour.
+// Whether any neighbour lies in the window: beside one on the diagonal lie two others.
+fn any_inside(w: Window, period: usize, x: usize, y: usize) -> bool
+    requires { ⌜ Fits w × ((x < w .width) × ((y < w .height) × (period ≤ 65536))) ⌝ }
+    ensures { λ r. ⌜ r ≡ leb 1 (soundOn (w .width) (w .height) period none x y steps) ⌝ }
+{
+    if period <= x {
+        return true;
+    }
+    if period <= y {
+        return true;
+    }
+    if x + period < w.width {
+        return true;
+    }
+    y + period < w.height
+}
+
+// Whether a position has a sound neighbour. Of a lone one every neighbour in the window is.
 pub fn any_sound(
     marks: &[u32],
     n: usize,
@@ -331,6 +395,9 @@ pub fn any_sound(
     requires { ⌜ Asks (now marks) n w period x y × (lone ≡ true → Lone (marked (now marks) n) w period x y) ⌝ }
     ensures { λ r. ⌜ r ≡ leb 1 (soundOn (w .width) (w .height) period (marked (now (marks .entry)) n) x y steps) ⌝ }
 {
+    if lone {
+        return any_inside(w, period, x, y);
+    }
     1 <= sound_count(marks, n, w, period, x, y)
 }
 

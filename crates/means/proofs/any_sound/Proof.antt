@@ -1,16 +1,29 @@
 -- `means::any_sound` meets its contract: whether the count is not 0. Assumes nothing.
-use borrow.Author.Needs.{needs}
-use mathlib.Core.Path.{ap}
 use Prim.Native.Nat.{ℕ}
+use mathlib.Core.Path.{ap, _∙_}
+use borrow.Author.Needs.{needs}
 use lib.Dec.{leb}
+use Rattle.means.specs.Looks.{marked}
+use Rattle.means.proofs.Unmarked.{lone-count}
 use Rattle.means.proofs.any_sound.Statement.{statement}
 use Rattle.means.proofs.any_sound.Tie as tie
+
+any-inside-requires : tie.Need-any-inside-requires
+any-inside-requires c κs = search needs
+
+returns : tie.Need-returns
+returns c =
+    let s = c .before .before .before in
+    let a = s .args in
+    c .any-inside .ensures
+    ∙ ap (λ (k : ℕ). leb 1 k)
+    (lone-count (marked (a .marks .now) (a .n)) (a .w) (a .period) (a .x) (a .y) (s .pre .1 (c .before .if1 .taken)))
 
 sound-count-requires : tie.Need-sound-count-requires
 sound-count-requires c κs = search needs
 
-returns : tie.Need-returns
-returns c = ap (λ (k : ℕ). leb 1 k) (c .sound-count .ensures)
+returns-2 : tie.Need-returns-2
+returns-2 c = ap (λ (k : ℕ). leb 1 k) (c .sound-count .ensures)
 
 pub any-sound-spec : {M : Type 1} → statement M
-any-sound-spec = tie.close (tie.spec sound-count-requires returns)
+any-sound-spec = tie.close (tie.spec any-inside-requires returns sound-count-requires returns-2)

@@ -1,0 +1,24 @@
+-- `means::over` meets its contract: the marks ascend. Assumes nothing.
+use mathlib.Core.Path.{subst}
+use Prim.Native.Nat.{ℕ, _<_}
+use native.Mathlib.Omega.{arith}
+use borrow.Author.Needs.{needs}
+use borrow.Author.Tests.{ltb-true}
+use Rattle.means.proofs.Apart.{over-from}
+use Rattle.means.proofs.over.Statement.{statement}
+use Rattle.means.proofs.over.Tie as tie
+
+returns : tie.Need-returns
+returns c = search needs
+
+mark-requires : tie.Need-mark-requires
+mark-requires c κs = search needs
+
+returns-2 : tie.Need-returns-2
+returns-2 c = λ e.
+    let s = c .before .before .before in
+    over-from (s .args .marks .now) (s .args .n) (s .pre .1 .0) (s .pre .1 .1) (s .args .at) (s .args .hi)
+    (subst (λ (z : ℕ). s .args .hi < z) (c .mark .ensures .0) (ltb-true (s .args .hi) (c .mark .result) e))
+
+pub over-spec : {M : Type 1} → statement M
+over-spec = tie.close (tie.spec returns mark-requires returns-2)
