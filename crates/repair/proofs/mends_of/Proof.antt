@@ -1,5 +1,6 @@
 -- `repair::mends_of` meets its contract: where all are repaired, mark i is. Assumes nothing.
-use mathlib.Core.Path.{sym, _∙_}
+use mathlib.Core.Path.{sym}
+use native.Mathlib.Omega.{arith}
 use borrow.Author.Needs.{needs}
 use Rattle.repair.proofs.Gathering.{told-nothing, mended-all}
 use Rattle.repair.proofs.mends_of.Statement.{statement}
@@ -12,7 +13,7 @@ returns : tie.Need-returns
 returns c =
     let s = c .before .before in
     let a = s .args in
-    sym (mended-all (a .marks .now) (a .n) (a .w) (a .step) (s .pre .0) (a .i) (s .pre .1 .0) (sym (s .pre .1 .1) ∙ c .if1 .taken))
+    sym (mended-all (a .marks .now) (a .n) (a .w) (a .step) (s .pre .0) (a .i) (s .pre .1 .0) (omega (arith, s .pre .1 .1, c .if1 .taken)))
 
 mends-requires : tie.Need-mends-requires
 mends-requires c κs = let s = c .before .before in (s .pre .0, (s .pre .1 .0, told-nothing _ _ _ _))
