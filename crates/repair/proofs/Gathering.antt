@@ -1,14 +1,12 @@
 -- The marks of an opcode by its kind, and what a repair asks and answers around its stages. Over any sample kind. Assumes nothing.
-use Prim.Native.Nat.{ℕ, zero, suc, _+_, _-_, _*_, _≤_, _<_}
+use Prim.Native.Nat.{ℕ, zero, suc, _-_, _*_, _≤_}
 use mathlib.Core.Path.{_≡_, refl, sym, ap, subst, fun-ext, _∙_}
-use mathlib.Core.Bool.{Bool, true, false, _&&_, cond}
+use mathlib.Core.Bool.{Bool, true, false}
 use mathlib.Core.List.{List, [], _∷_}
-use native.Mathlib.Nat.{mul-le-mul-left, mul-le-mul-right, le-trans}
 use native.Mathlib.Omega.{arith}
-use borrow.Author.Tests.{leb-true, leb-false, le-leb}
+use borrow.Author.Tests.{leb-true, leb-false}
 use lib.Dec.{leb}
-use lib.ListN.{length, getD, take}
-use lib.Seq.{getD-take, length-take-le}
+use lib.ListN.{length}
 use types.Run.{OneOf, miss}
 use denote.Enum.Declared.{tagOf}
 use Rattle.dng.proofs.Opcode.{the-type}
@@ -16,7 +14,7 @@ use Rattle.dng.specs.declared.Window.{Window}
 use Rattle.dng.specs.declared.Opcode.{Opcode}
 use Rattle.dng.specs.declared.Opcode.the-variants.{WarpRectilinear, WarpFisheye, FixVignetteRadial, FixBadPixelsConstant, FixBadPixelsList, TrimBounds, MapTable, MapPolynomial, GainMap, DeltaPerRow, DeltaPerColumn, ScalePerRow, ScalePerColumn, Other}
 use Rattle.dng.specs.Repair.{complete, positions, stepOf, badValue, markedIn, marksOn, marksOf, repairAt}
-use Rattle.dng.specs.Run.{Kind, Room}
+use Rattle.dng.specs.Run.{Kind}
 use Rattle.dng.specs.Answer.{inRange}
 use Rattle.marks.specs.declared.Marked.{Marked}
 use Rattle.marks.specs.declared.Marked.the-variants as M
@@ -24,14 +22,14 @@ use Rattle.marks.specs.Marks.{Fits, Gathered, Holds, chosen, listedAt}
 use Rattle.marks.proofs.Chosen.{chosen-rises, chosen-in}
 use Rattle.means.specs.Looks.{marked}
 use Rattle.scan.proofs.Places.{and-first, and-second}
-use Rattle.sorts.specs.Sorts.{occ, has, Rises}
 use Rattle.sorts.proofs.Occ.{has-true}
 use Rattle.points.specs.Points.{each}
 use Rattle.repair.specs.declared.Fixed.{Fixed}
 use Rattle.repair.specs.declared.Fixed.the-variants as F
 use Rattle.repair.specs.Fixes.{Fixes}
-use Rattle.repair.specs.Works.{Ranges, Marking, mended, mendable, Told, countIn, Settled}
-use Rattle.repair.proofs.Counting.{count-few, count-all, count-none}
+use Rattle.fills.specs.Fills.{Marking, mended}
+use Rattle.repair.specs.Works.{Ranges, Settled}
+use Rattle.repair.proofs.Counting.{count-none}
 use Rattle.repair.proofs.Totals.{fixes-none, fixes-marks, fixes-settled}
 
 -- ---- what the ranges say
@@ -122,36 +120,6 @@ marking w bad m m′ n period step f far e h same =
       rises = rw (h .front) (chosen-rises bad 0 (positions w));
       inside = λ q i. omega (arith, chosen-in bad 0 (positions w) q (has-true (chosen bad 0 (positions w)) q (rw (h .front) at i)) .0);
     }
-
--- nothing is told: then nothing is to be shown
-pub told-nothing : (bad : ℕ → Bool) (w : Window) (step q : ℕ) → Told false bad w step q
-told-nothing bad w step q e = absurd (let z : _≡_ {A = ℕ} 0 1 = cc in omega arith)
-
--- how many are repaired, and their values, in numbers of 64 bits
-pub mended-few : (marks : List ℕ) (n : ℕ) (w : Window) (step : ℕ) → Marking marks n w step
-    → (mended marks n w step ≤ n) × (w .planes * mended marks n w step ≤ 8 * n)
-mended-few marks n w step m =
-    let few : mended marks n w step ≤ n =
-    subst (λ (k : ℕ). mended marks n w step ≤ k) (length-take-le n marks (m .held)) (count-few (mendable w step (marked marks n)) (take n marks)) in
-    (few, omega (arith, few, mul-le-mul-right (mended marks n w step) (m .fits .planes)))
-
--- where as many are repaired as there are marks, each mark is
-pub mended-all : (marks : List ℕ) (n : ℕ) (w : Window) (step : ℕ) → Marking marks n w step → (i : ℕ) → i < n
-    → mended marks n w step ≡ n → mendable w step (marked marks n) (getD marks i 0) ≡ true
-mended-all marks n w step m i h e =
-    let long : length (take n marks) ≡ n = length-take-le n marks (m .held) in
-    ap (mendable w step (marked marks n)) (sym (getD-take n marks i 0 h))
-    ∙ count-all (mendable w step (marked marks n)) (take n marks) i (omega arith) (e ∙ sym long)
-
--- the values of every mark, in numbers of 64 bits; with room for them there is room for those of the marks that are repaired
-pub marks-few : (marks : List ℕ) (n : ℕ) (w : Window) (step : ℕ) → Marking marks n w step → w .planes * n ≤ 8 * n
-marks-few marks n w step m = mul-le-mul-right n (m .fits .planes)
-
-pub room-all : (marks : List ℕ) (n : ℕ) (w : Window) (step : ℕ) → Marking marks n w step → (room : ℕ) → leb (w .planes * n) room ≡ true
-    → true ≡ leb (w .planes * mended marks n w step) room
-room-all marks n w step m room e =
-    sym (le-leb (w .planes * mended marks n w step) room
-    (le-trans (mul-le-mul-left (w .planes) (mended-few marks n w step m .0)) (leb-true (w .planes * n) room e)))
 
 -- the room p * m for the new values, tested
 module _ (p m room : ℕ) (r : Bool) (e : r ≡ leb (p * m) room) where

@@ -6,15 +6,16 @@ use lib.ListN.{length}
 use Rattle.points.specs.Points.{each}
 use Rattle.dng.specs.Repair.{repairAt}
 use Rattle.means.specs.Looks.{marked}
-use Rattle.repair.specs.Works.{mended}
-use Rattle.repair.proofs.Gathering.{mended-few, room-enough, settled-done, settled-short}
+use Rattle.fills.specs.Fills.{mended}
+use Rattle.fills.proofs.Rooms.{mended-few}
+use Rattle.repair.proofs.Gathering.{room-enough, settled-done, settled-short}
 use Rattle.repair.proofs.settle_f32.Statement.{statement}
 use Rattle.repair.proofs.settle_f32.Tie as tie
 use Rattle.repair.proofs.settle_f32.Reads as reads
 use Rattle.repair.proofs.settle_f32.Lts as lts
 use Rattle.repair.proofs.done.Reads as done-reads
-use Rattle.repair.proofs.enough.Reads as enough-reads
-use Rattle.repair.proofs.fill_f32.Reads as fill-f32-reads
+use Rattle.fills.proofs.enough.Reads as enough-reads
+use Rattle.fills.proofs.fill_f32.Reads as fill-f32-reads
 use Rattle.repair.proofs.write_f32.Reads as write-f32-reads
 
 enough-requires : tie.Need-enough-requires

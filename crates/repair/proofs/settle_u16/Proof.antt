@@ -8,15 +8,16 @@ use lib.ListN.{length}
 use Rattle.points.specs.Points.{each}
 use Rattle.dng.specs.Repair.{repairAt}
 use Rattle.means.specs.Looks.{marked}
-use Rattle.repair.specs.Works.{mended}
-use Rattle.repair.proofs.Gathering.{mended-few, room-enough, settled-done, settled-short}
+use Rattle.fills.specs.Fills.{mended}
+use Rattle.fills.proofs.Rooms.{mended-few}
+use Rattle.repair.proofs.Gathering.{room-enough, settled-done, settled-short}
 use Rattle.repair.proofs.settle_u16.Statement.{statement}
 use Rattle.repair.proofs.settle_u16.Tie as tie
 use Rattle.repair.proofs.settle_u16.Reads as reads
 use Rattle.repair.proofs.settle_u16.Lts as lts
 use Rattle.repair.proofs.done.Reads as done-reads
-use Rattle.repair.proofs.enough.Reads as enough-reads
-use Rattle.repair.proofs.fill_u16.Reads as fill-u16-reads
+use Rattle.fills.proofs.enough.Reads as enough-reads
+use Rattle.fills.proofs.fill_u16.Reads as fill-u16-reads
 use Rattle.repair.proofs.write_u16.Reads as write-u16-reads
 
 enough-requires : tie.Need-enough-requires

@@ -5,16 +5,17 @@ use native.Mathlib.Omega.{arith}
 use lib.ListN.{length, getD}
 use lib.Ieee.{nan}
 use Rattle.means.specs.Looks.{marked}
-use Rattle.repair.specs.Works.{mendable, meanIn}
-use Rattle.repair.proofs.Placing.{mark-in, pixel-in}
-use Rattle.repair.proofs.Filling.{next-room}
+use Rattle.fills.specs.Fills.{mendable, meanIn}
+use Rattle.fills.proofs.Lying.{mark-in}
+use Rattle.repair.proofs.Placing.{pixel-in}
+use Rattle.fills.proofs.Filling.{next-room}
 use Rattle.repair.proofs.Writing.{Written, newAt, write-start, write-put, write-no, write-repair}
 use Rattle.repair.proofs.write_f32.Statement.{statement}
 use Rattle.repair.proofs.write_f32.Tie as tie
 use Rattle.repair.proofs.write_f32.Reads as reads
 use Rattle.repair.proofs.write_f32.Lts as lts
 use Rattle.repair.proofs.first.Reads as first-reads
-use Rattle.repair.proofs.mends_of.Reads as mends-of-reads
+use Rattle.fills.proofs.mends_of.Reads as mends-of-reads
 use Rattle.repair.proofs.put_f32.Reads as put-f32-reads
 
 abbrev Inv-loop : tie.InvT-loop

@@ -7,16 +7,17 @@ use lib.Ieee.{binary32}
 use Rattle.convert.specs.Convert.{wholeIn}
 use Rattle.whole.specs.Whole.{roundHeld}
 use Rattle.means.specs.Looks.{marked}
-use Rattle.repair.specs.Works.{mendable, meanIn}
-use Rattle.repair.proofs.Placing.{mark-in, pixel-in}
-use Rattle.repair.proofs.Filling.{next-room}
+use Rattle.fills.specs.Fills.{mendable, meanIn}
+use Rattle.fills.proofs.Lying.{mark-in}
+use Rattle.repair.proofs.Placing.{pixel-in}
+use Rattle.fills.proofs.Filling.{next-room}
 use Rattle.repair.proofs.Writing.{Written, newAt, write-start, write-put, write-no, write-repair}
 use Rattle.repair.proofs.write_u16.Statement.{statement}
 use Rattle.repair.proofs.write_u16.Tie as tie
 use Rattle.repair.proofs.write_u16.Reads as reads
 use Rattle.repair.proofs.write_u16.Lts as lts
 use Rattle.repair.proofs.first.Reads as first-reads
-use Rattle.repair.proofs.mends_of.Reads as mends-of-reads
+use Rattle.fills.proofs.mends_of.Reads as mends-of-reads
 use Rattle.repair.proofs.put_u16.Reads as put-u16-reads
 
 abbrev Inv-loop : tie.InvT-loop

@@ -1,13 +1,13 @@
--- `repair::mends_of` meets its contract: where all are repaired, mark i is. Assumes nothing.
+-- `fills::mends_of` meets its contract: where all are repaired, mark i is. Assumes nothing.
 use mathlib.Core.Path.{sym}
 use native.Mathlib.Omega.{arith}
 use borrow.Author.Needs.{needs}
-use Rattle.repair.proofs.Gathering.{told-nothing, mended-all}
-use Rattle.repair.proofs.mends_of.Statement.{statement}
-use Rattle.repair.proofs.mends_of.Tie as tie
-use Rattle.repair.proofs.mends_of.Reads as reads
-use Rattle.repair.proofs.mends_of.Lts as lts
-use Rattle.repair.proofs.mends.Reads as mends-reads
+use Rattle.fills.proofs.Rooms.{told-nothing, mended-all}
+use Rattle.fills.proofs.mends_of.Statement.{statement}
+use Rattle.fills.proofs.mends_of.Tie as tie
+use Rattle.fills.proofs.mends_of.Reads as reads
+use Rattle.fills.proofs.mends_of.Lts as lts
+use Rattle.fills.proofs.mends.Reads as mends-reads
 
 returns : tie.Need-returns
 returns c =

@@ -1,26 +1,27 @@
--- `repair::fill_f32` meets its contract: the values of the marks before i stand one behind another. Assumes nothing.
+-- `fills::fill_u16` meets its contract: the values of the marks before i stand one behind another. Assumes nothing.
 use Prim.Native.Nat.{_+_, _-_, _≤_}
 use mathlib.Core.Path.{sym, _∙_}
 use native.Mathlib.Omega.{arith}
-use lib.ListN.{length, getD}
-use lib.Ieee.{nan}
+use lib.ListN.{length}
+use lib.Ieee.{binary32}
+use Rattle.convert.specs.Convert.{wholeIn}
 use Rattle.means.specs.Looks.{marked}
-use Rattle.repair.specs.Works.{mendable, meanAt}
-use Rattle.repair.proofs.Placing.{mark-asks}
-use Rattle.repair.proofs.Filling.{Filling, next-room, fill-start, fill-yes, fill-no, fill-end, fill-count}
-use Rattle.repair.proofs.fill_f32.Statement.{statement}
-use Rattle.repair.proofs.fill_f32.Tie as tie
-use Rattle.repair.proofs.fill_f32.Reads as reads
-use Rattle.repair.proofs.fill_f32.Lts as lts
+use Rattle.fills.specs.Fills.{mendable, meanAt}
+use Rattle.fills.proofs.Lying.{mark-asks}
+use Rattle.fills.proofs.Filling.{Filling, next-room, fill-start, fill-yes, fill-no, fill-end, fill-count}
+use Rattle.fills.proofs.fill_u16.Statement.{statement}
+use Rattle.fills.proofs.fill_u16.Tie as tie
+use Rattle.fills.proofs.fill_u16.Reads as reads
+use Rattle.fills.proofs.fill_u16.Lts as lts
 use Rattle.means.proofs.above_from.Reads as above-from-reads
 use Rattle.means.proofs.alone.Reads as alone-reads
 use Rattle.means.proofs.below_from.Reads as below-from-reads
-use Rattle.repair.proofs.mends.Reads as mends-reads
-use Rattle.repair.proofs.pixel_f32.Reads as pixel-f32-reads
+use Rattle.fills.proofs.mends.Reads as mends-reads
+use Rattle.fills.proofs.pixel_u16.Reads as pixel-u16-reads
 
 abbrev Inv-loop : tie.InvT-loop
 Inv-loop samples marks n w step values₀ at₀ up₀ down₀ i₀ values at up down i =
-    Filling (w .planes) n (mendable w step (marked marks n)) (meanAt nan (λ u. u) w step (marked marks n) samples) marks values₀ values at i
+    Filling (w .planes) n (mendable w step (marked marks n)) (meanAt 0 (λ u. wholeIn binary32 u) w step (marked marks n) samples) marks values₀ values at i
 
 abbrev μ-loop : tie.MeasureT-loop
 μ-loop samples marks n w step values₀ at₀ up₀ down₀ i₀ values at up down i = n - i
@@ -54,16 +55,16 @@ mends-requires c κs =
     let s = c .before .before .before .before .before .before .before .before in
     (s .pre .0, (c .before .before .before .loop-test .taken, c .alone .ensures))
 
-mul-pixel-f32 : tie.Need-mul-pixel-f32 Inv-loop μ-loop
-mul-pixel-f32 c = let s = c .before .before .before .before .before .before .before .before .before .before in omega (arith, s .pre .0 .held, s .good .1 .0 .1)
+mul-pixel-u16 : tie.Need-mul-pixel-u16 Inv-loop μ-loop
+mul-pixel-u16 c = let s = c .before .before .before .before .before .before .before .before .before .before in omega (arith, s .pre .0 .held, s .good .1 .0 .1)
 
-shared-slice-read-pixel-f32 : tie.Need-shared-slice-read-pixel-f32 Inv-loop μ-loop
-shared-slice-read-pixel-f32 c =
+shared-slice-read-pixel-u16 : tie.Need-shared-slice-read-pixel-u16 Inv-loop μ-loop
+shared-slice-read-pixel-u16 c =
     let s = c .before .before .before .before .before .before .before .before .before .before .before in
     omega (arith, s .pre .0 .held)
 
-cast-pixel-f32 : tie.Need-cast-pixel-f32 Inv-loop μ-loop
-cast-pixel-f32 c = omega (arith, c .shared-slice-known3 .given (c .before .before .before .before .before .before .before .loop .i))
+cast-pixel-u16 : tie.Need-cast-pixel-u16 Inv-loop μ-loop
+cast-pixel-u16 c = omega (arith, c .shared-slice-known3 .given (c .before .before .before .before .before .before .before .loop .i))
 
 -- the values of the mark have room
 there : (c : tie.After-shared-slice-known3 Inv-loop μ-loop)
@@ -79,8 +80,8 @@ there c =
     (sym (c .before .before .mends .ensures) ∙ c .before .if1 .taken) (s .pre .1 .1) in
     omega (arith, room, at .inv .same)
 
-pixel-f32-requires : tie.Need-pixel-f32-requires Inv-loop μ-loop
-pixel-f32-requires c κs =
+pixel-u16-requires : tie.Need-pixel-u16-requires Inv-loop μ-loop
+pixel-u16-requires c κs =
     let s = c .before .before .before .before .before .before .before .before .before .before .before .before in
     let a = s .args in
     let at = c .before .before .before .before .before .before .before .before .loop in (
@@ -109,9 +110,9 @@ loop-again c =
     let a = s .args in
     let at = c .before .before .before .before .before .before .before .before .before .before .before .before .loop in
     let test = mendable (a .w) (a .step) (marked (a .marks .now) (a .n)) in
-    let mean = meanAt nan (λ u. u) (a .w) (a .step) (marked (a .marks .now) (a .n)) (a .samples .now) in
+    let mean = meanAt 0 (λ u. wholeIn binary32 u) (a .w) (a .step) (marked (a .marks .now) (a .n)) (a .samples .now) in
     let taken = c .before .before .before .before .before .before .before .before .before .before .before .loop-test .taken in
-    let put = c .before .before .before .pixel-f32 in
+    let put = c .before .before .before .pixel-u16 in
     fill-yes (a .w .planes) (a .n) test mean (a .marks .now) (a .values .now) (at .values) (at .at) (at .i) (at .inv) (s .pre .0 .held) taken
     (put .last .1 .1 .1 .1 .1 .1 .1 .0)
     (sym (c .before .before .before .before .before .before .before .mends .ensures) ∙ c .before .before .before .before .before .before .if1 .taken)
@@ -129,7 +130,7 @@ loop-again-2 c =
     let a = s .args in
     let at = c .before .before .before .before .before .before .loop in
     let test = mendable (a .w) (a .step) (marked (a .marks .now) (a .n)) in
-    let mean = meanAt nan (λ u. u) (a .w) (a .step) (marked (a .marks .now) (a .n)) (a .samples .now) in
+    let mean = meanAt 0 (λ u. wholeIn binary32 u) (a .w) (a .step) (marked (a .marks .now) (a .n)) (a .samples .now) in
     fill-no (a .w .planes) (a .n) test mean (a .marks .now) (a .values .now) (at .values) (at .at) (at .i) (at .inv) (s .pre .0 .held)
     (c .before .before .before .before .before .loop-test .taken) (sym (c .before .mends .ensures) ∙ c .if1 .left)
 
@@ -146,13 +147,13 @@ returns c =
     let at = c .before .before .loop in
     let out = c .before .loop-test .left in
     let test = mendable (a .w) (a .step) (marked (a .marks .now) (a .n)) in
-    let mean = meanAt nan (λ u. u) (a .w) (a .step) (marked (a .marks .now) (a .n)) (a .samples .now) in (
+    let mean = meanAt 0 (λ u. wholeIn binary32 u) (a .w) (a .step) (marked (a .marks .now) (a .n)) (a .samples .now) in (
       fill-count (a .w .planes) (a .n) test mean (a .marks .now) (a .values .now) (at .values) (at .at) (at .i) (at .inv) out (s .pre .0 .fits .some),
       fill-end (a .w .planes) (a .n) test mean (a .marks .now) (a .values .now) (at .values) (at .at) (at .i) (at .inv) out,
     )
 
-pub fill-f32-spec : {M : Type 1} → statement M
-fill-f32-spec =
+pub fill-u16-spec : {M : Type 1} → statement M
+fill-u16-spec =
     tie.close
     (tie.spec
     Inv-loop
@@ -162,10 +163,10 @@ fill-f32-spec =
     below-from-requires
     alone-requires
     mends-requires
-    mul-pixel-f32
-    shared-slice-read-pixel-f32
-    cast-pixel-f32
-    pixel-f32-requires
+    mul-pixel-u16
+    shared-slice-read-pixel-u16
+    cast-pixel-u16
+    pixel-u16-requires
     add-at
     add-i
     loop-less

@@ -1,16 +1,16 @@
--- `repair::enough` meets its contract: room for all the marks, or for those that can be repaired. Assumes nothing.
+-- `fills::enough` meets its contract: room for all the marks, or for those that can be repaired. Assumes nothing.
 use Prim.Native.Nat.{ℕ, _*_, _^_, _<_}
 use mathlib.Core.Path.{sym, ap, subst, _∙_}
 use native.Mathlib.Omega.{arith}
 use borrow.Author.Needs.{needs}
 use lib.Dec.{leb}
-use Rattle.repair.proofs.Gathering.{mended-few, marks-few, room-all}
-use Rattle.repair.proofs.enough.Statement.{statement}
-use Rattle.repair.proofs.enough.Tie as tie
-use Rattle.repair.proofs.enough.Reads as reads
-use Rattle.repair.proofs.enough.Lts as lts
-use Rattle.repair.proofs.repairable.Reads as repairable-reads
-use Rattle.repair.proofs.roomy.Reads as roomy-reads
+use Rattle.fills.proofs.Rooms.{mended-few, marks-few, room-all}
+use Rattle.fills.proofs.enough.Statement.{statement}
+use Rattle.fills.proofs.enough.Tie as tie
+use Rattle.fills.proofs.enough.Reads as reads
+use Rattle.fills.proofs.enough.Lts as lts
+use Rattle.fills.proofs.repairable.Reads as repairable-reads
+use Rattle.fills.proofs.roomy.Reads as roomy-reads
 
 roomy-requires : tie.Need-roomy-requires
 roomy-requires c κs =

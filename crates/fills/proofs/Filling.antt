@@ -1,5 +1,5 @@
 -- The new values of the marks that are repaired stand one behind another in the scratch: turn by turn, over any means. Assumes nothing.
-use Prim.Native.Nat.{ℕ, zero, suc, _+_, _-_, _*_, _/_, _≤_, _<_}
+use Prim.Native.Nat.{ℕ, _+_, _-_, _*_, _/_, _≤_, _<_}
 use mathlib.Core.Path.{_≡_, refl, sym, ap, subst, _∙_}
 use mathlib.Core.Bool.{Bool, true, false}
 use mathlib.Core.List.{List}
@@ -16,8 +16,8 @@ use Rattle.means.specs.declared.Sum.{Sum}
 use Rattle.means.specs.Looks.{tallyOf}
 use Rattle.means.proofs.Tallies.{tally-few}
 use Rattle.sorts.proofs.Occ.{equal-or}
-use Rattle.repair.specs.Works.{countIn, meanIn, Filled}
-use Rattle.repair.proofs.Counting.{count-yes, count-no, count-end, place-next, count-more}
+use Rattle.fills.specs.Fills.{countIn, meanIn, Filled}
+use Rattle.fills.proofs.Counting.{count-yes, count-no, count-end, place-next}
 
 -- ---- one mark, plane by plane
 

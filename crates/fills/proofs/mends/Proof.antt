@@ -1,12 +1,12 @@
--- `repair::mends` meets its contract: a sound neighbour of the mark's row and column. Assumes nothing.
+-- `fills::mends` meets its contract: a sound neighbour of the mark's row and column. Assumes nothing.
 use native.Mathlib.Omega.{arith}
 use borrow.Author.Needs.{needs}
-use Rattle.repair.specs.Works.{mendable}
-use Rattle.repair.proofs.Placing.{mark-asks}
-use Rattle.repair.proofs.mends.Statement.{statement}
-use Rattle.repair.proofs.mends.Tie as tie
-use Rattle.repair.proofs.mends.Reads as reads
-use Rattle.repair.proofs.mends.Lts as lts
+use Rattle.fills.specs.Fills.{mendable}
+use Rattle.fills.proofs.Lying.{mark-asks}
+use Rattle.fills.proofs.mends.Statement.{statement}
+use Rattle.fills.proofs.mends.Tie as tie
+use Rattle.fills.proofs.mends.Reads as reads
+use Rattle.fills.proofs.mends.Lts as lts
 use Rattle.means.proofs.any_sound.Reads as any-sound-reads
 
 mul-q : tie.Need-mul-q
