@@ -7,11 +7,12 @@ use native.Mathlib.Omega.{arith}
 use borrow.Author.Tests.{lt-ltb, le-ltb, ltb-true, le-leb, lt-leb}
 use lib.Dec.{leb, ltb}
 use lib.IntN.{ℤ, pos, negsuc}
-use lib.Ieee.{Float}
+use lib.Ieee.{Float, binary32, add}
 use Rattle.dng.specs.declared.Window.{Window}
 use Rattle.dng.specs.Repair.{Tally, steps, moved, sound, tallyOn, tallyAt, soundOn}
 use Rattle.dng.specs.Value.{nought}
-use Rattle.means.specs.Looks.{LoneOn, Lone, none}
+use Rattle.sorts.specs.Sorts.{occ, has, Rises}
+use Rattle.means.specs.Looks.{Asks, Inside, LoneOn, Lone, marked, none}
 use Rattle.means.proofs.Moving.{moved-none, moved-on, moved-out, moved-back}
 use Rattle.means.proofs.Tallies.{more}
 
@@ -55,6 +56,65 @@ module _ (bad : ℕ → Bool) (w : Window) (period x y : ℕ) where
       → soundOn (w .width) (w .height) period none x y steps ≡ soundOn (w .width) (w .height) period bad x y steps
   unfolding Lone
   lone-count l = lone-count-on steps l
+
+-- a front of none has no marks
+pub front-none : (marks : List ℕ) (w : Window) (period : ℕ) (value : ℕ → ℕ → Float) (x y : ℕ)
+    → tallyAt (w .width) (w .height) period (marked marks 0) value x y ≡ tallyAt (w .width) (w .height) period none value x y
+unfolding has occ
+front-none marks w period value x y = refl
+
+pub asks-none : {marks : List ℕ} {n : ℕ} {w : Window} {period x y : ℕ} → Asks marks n w period x y → Asks marks 0 w period x y
+unfolding Rises
+asks-none k =
+    record { fits = k .fits; column = k .column; row = k .row; step = k .step; far = k .far; held = omega arith; rises = tt }
+
+-- ---- all eight in the window
+
+abbrev plus : Float → Float → Float
+plus s v = add binary32 s v
+
+-- the sum of eight values, from 0
+abbrev pub sumOf : (a b c d e f g h : Float) → Float
+sumOf a b c d e f g h = plus (plus (plus (plus (plus (plus (plus (plus nought a) b) c) d) e) f) g) h
+
+module _ (w : Window) (period x y : ℕ) (value : ℕ → ℕ → Float) where
+  -- one step of a tally
+  step-in : (d : ℤ × ℤ) (ds : List (ℤ × ℤ)) (t : Tally) {v : Float} (xx yy : ℕ) → xx ≡ moved x (d .0) period (w .width)
+      → yy ≡ moved y (d .1) period (w .height) → xx < w .width → yy < w .height → v ≡ value xx yy
+      → tallyOn (w .width) (w .height) period none value x y (d ∷ ds) t
+      ≡ tallyOn (w .width) (w .height) period none value x y ds (record { sum = add binary32 (t .sum) v; n = t .n + 1 })
+  unfolding tallyOn sound
+  step-in d ds t xx yy e f h k u = rw (← e, ← f, lt-ltb xx (w .width) h, lt-ltb yy (w .height) k, u) refl
+
+  no-step : (t : Tally) → tallyOn (w .width) (w .height) period none value x y [] t ≡ t
+  unfolding tallyOn
+  no-step t = refl
+
+  pub eight-tally : Inside w period x y → {a b c d e f g h : Float}
+      → a ≡ value (x - period) y → b ≡ value (x + period) y → c ≡ value x (y - period) → d ≡ value x (y + period)
+      → e ≡ value (x - period) (y - period) → f ≡ value (x + period) (y + period) → g ≡ value (x - period) (y + period)
+      → h ≡ value (x + period) (y - period)
+      → tallyAt (w .width) (w .height) period none value x y ≡ record { sum = sumOf a b c d e f g h; n = 8 }
+  eight-tally i p q r s t u v z =
+      let left = moved-back x period (w .width) (negsuc 0) refl (i .left) in
+      let right = moved-on x period (w .width) (pos 1) refl in
+      let column = moved-none x period (w .width) (pos 0) refl in
+      let up = moved-back y period (w .height) (negsuc 0) refl (i .up) in
+      let down = moved-on y period (w .height) (pos 1) refl in
+      let row = moved-none y period (w .height) (pos 0) refl in
+      let hx : x < w .width = omega (arith, i .right) in
+      let hy : y < w .height = omega (arith, i .down) in
+      let hl : x - period < w .width = omega arith in
+      let hu : y - period < w .height = omega arith in
+      step-in (negsuc 0, pos 0) _ _ (x - period) y left row hl hy p
+      ∙ step-in (pos 1, pos 0) _ _ (x + period) y right row (i .right) hy q
+      ∙ step-in (pos 0, negsuc 0) _ _ x (y - period) column up hx hu r
+      ∙ step-in (pos 0, pos 1) _ _ x (y + period) column down hx (i .down) s
+      ∙ step-in (negsuc 0, negsuc 0) _ _ (x - period) (y - period) left up hl hu t
+      ∙ step-in (pos 1, pos 1) _ _ (x + period) (y + period) right down (i .right) (i .down) u
+      ∙ step-in (negsuc 0, pos 1) _ _ (x - period) (y + period) left down hl (i .down) v
+      ∙ step-in (pos 1, negsuc 0) _ _ (x + period) (y - period) right up (i .right) hu z
+      ∙ no-step _
 
 -- ---- whether there is a neighbour in the window: one on the diagonal has one beside it
 

@@ -32,6 +32,19 @@ pub record Looks (samples : ℕ) (marks : List ℕ) (n : ℕ) (w : Window) (peri
   pub full : complete w samples ≡ true
   pub layer : plane < w .planes
 
+-- a plane of a window whose samples are all there
+pub record Stands (samples : ℕ) (w : Window) (plane : ℕ) : Type 0 where
+  pub fits : Fits w
+  pub full : complete w samples ≡ true
+  pub layer : plane < w .planes
+
+-- all eight neighbours lie in the window
+pub record Inside (w : Window) (period x y : ℕ) : Type 0 where
+  pub left : period ≤ x
+  pub right : x + period < w .width
+  pub up : period ≤ y
+  pub down : y + period < w .height
+
 -- the first n entries as marks
 abbrev pub marked : List ℕ → ℕ → ℕ → Bool
 marked marks n = has (take n marks)

@@ -10,7 +10,7 @@ ghost use Rattle.convert.specs.Convert.{wholeIn};
 ghost use Rattle.dng.specs.Repair.{sampleAt, steps, moved, soundOn, tallyAt, meanOf};
 ghost use Rattle.marks.specs.Marks.{Fits};
 ghost use Rattle.sorts.specs.Sorts.{Rises};
-ghost use Rattle.means.specs.Looks.{Asks, Looks, none, Lone, Under, Over, Free, tallyOf, marked, pairOf, oneStep, openAt, soundOf};
+ghost use Rattle.means.specs.Looks.{Asks, Looks, Stands, Inside, none, Lone, Under, Over, Free, tallyOf, marked, pairOf, oneStep, openAt, soundOf};
 use dng::Window;
 
 // One step to a neighbour, in columns and rows of the period.
@@ -221,6 +221,23 @@ pub fn alone(
 
 // ---- sums
 
+// Whether all eight neighbours lie in the window.
+fn inside(w: Window, period: usize, x: usize, y: usize) -> bool
+    requires { ⌜ (x ≤ 65536) × ((y ≤ 65536) × (period ≤ 65536)) ⌝ }
+    ensures { λ r. ⌜ (r ≡ true → Inside w period x y) ⌝ }
+{
+    if x < period {
+        return false;
+    }
+    if y < period {
+        return false;
+    }
+    if w.width <= x + period {
+        return false;
+    }
+    y + period < w.height
+}
+
 // The sum of the sound neighbours' samples in one plane, each neighbour searched for among the marks.
 fn searched_f32(
     samples: &[f32],
@@ -260,7 +277,37 @@ fn searched_f32(
     Sum { sum, n: count }
 }
 
-// The sum of the sound neighbours' samples in one plane, in the order of the steps, from 0.
+// The sample at (x, y).
+fn at_f32(samples: &[f32], w: Window, x: usize, y: usize, plane: usize) -> f32
+    requires { ⌜ Stands (length (now samples)) w plane × ((x < w .width) × (y < w .height)) ⌝ }
+    ensures { λ r. ⌜ r ≡ sampleAt nan w (now (samples .entry)) x y plane ⌝ }
+{
+    let at = scan::place(w, x, y, plane);
+    samples[at]
+}
+
+// The sum over all eight neighbours, none marked and each in the window: one by one, so that no array of steps and no test is left of it.
+fn eight_f32(samples: &[f32], w: Window, period: usize, x: usize, y: usize, plane: usize) -> Sum
+    requires { ⌜ Stands (length (now samples)) w plane × Inside w period x y ⌝ }
+    ensures { λ r. ⌜ tallyOf r ≡ tallyAt (w .width) (w .height) period none (λ xx yy. sampleAt nan w (now (samples .entry)) xx yy plane) x y ⌝ }
+{
+    let left = x - period;
+    let right = x + period;
+    let up = y - period;
+    let down = y + period;
+    let a = at_f32(samples, w, left, y, plane);
+    let b = at_f32(samples, w, right, y, plane);
+    let c = at_f32(samples, w, x, up, plane);
+    let d = at_f32(samples, w, x, down, plane);
+    let e = at_f32(samples, w, left, up, plane);
+    let f = at_f32(samples, w, right, down, plane);
+    let g = at_f32(samples, w, left, down, plane);
+    let h = at_f32(samples, w, right, up, plane);
+    let sum = 0.0 + a + b + c + d + e + f + g + h;
+    Sum { sum, n: 8 }
+}
+
+// The sum of the sound neighbours' samples in one plane, in the order of the steps, from 0. Of a lone position no mark is looked at.
 pub fn sum_f32(
     samples: &[f32],
     marks: &[u32],
@@ -278,6 +325,12 @@ pub fn sum_f32(
         ≡ tallyAt (w .width) (w .height) period (marked (now (marks .entry)) n)
         (λ xx yy. sampleAt nan w (now (samples .entry)) xx yy plane) x y ⌝ }
 {
+    if lone {
+        if inside(w, period, x, y) {
+            return eight_f32(samples, w, period, x, y, plane);
+        }
+        return searched_f32(samples, marks, 0, w, period, x, y, plane);
+    }
     searched_f32(samples, marks, n, w, period, x, y, plane)
 }
 
@@ -320,6 +373,36 @@ fn searched_u16(
     Sum { sum, n: count }
 }
 
+// As for f32.
+fn at_u16(samples: &[u16], w: Window, x: usize, y: usize, plane: usize) -> f32
+    requires { ⌜ Stands (length (now samples)) w plane × ((x < w .width) × (y < w .height)) ⌝ }
+    ensures { λ r. ⌜ r ≡ wholeIn binary32 (sampleAt 0 w (now (samples .entry)) x y plane) ⌝ }
+{
+    let at = scan::place(w, x, y, plane);
+    convert::f32_of_u16(samples[at])
+}
+
+// As for f32.
+fn eight_u16(samples: &[u16], w: Window, period: usize, x: usize, y: usize, plane: usize) -> Sum
+    requires { ⌜ Stands (length (now samples)) w plane × Inside w period x y ⌝ }
+    ensures { λ r. ⌜ tallyOf r ≡ tallyAt (w .width) (w .height) period none (λ xx yy. wholeIn binary32 (sampleAt 0 w (now (samples .entry)) xx yy plane)) x y ⌝ }
+{
+    let left = x - period;
+    let right = x + period;
+    let up = y - period;
+    let down = y + period;
+    let a = at_u16(samples, w, left, y, plane);
+    let b = at_u16(samples, w, right, y, plane);
+    let c = at_u16(samples, w, x, up, plane);
+    let d = at_u16(samples, w, x, down, plane);
+    let e = at_u16(samples, w, left, up, plane);
+    let f = at_u16(samples, w, right, down, plane);
+    let g = at_u16(samples, w, left, down, plane);
+    let h = at_u16(samples, w, right, up, plane);
+    let sum = 0.0 + a + b + c + d + e + f + g + h;
+    Sum { sum, n: 8 }
+}
+
 // The same of u16 samples.
 pub fn sum_u16(
     samples: &[u16],
@@ -338,6 +421,12 @@ pub fn sum_u16(
         ≡ tallyAt (w .width) (w .height) period (marked (now (marks .entry)) n)
         (λ xx yy. wholeIn binary32 (sampleAt 0 w (now (samples .entry)) xx yy plane)) x y ⌝ }
 {
+    if lone {
+        if inside(w, period, x, y) {
+            return eight_u16(samples, w, period, x, y, plane);
+        }
+        return searched_u16(samples, marks, 0, w, period, x, y, plane);
+    }
     searched_u16(samples, marks, n, w, period, x, y, plane)
 }
 
