@@ -1,14 +1,12 @@
 -- The marks of an opcode by its kind, and what a repair asks and answers around its stages. Over any sample kind. Assumes nothing.
-use Prim.Native.Nat.{ℕ, zero, suc, _+_, _-_, _*_, _≤_, _<_}
+use Prim.Native.Nat.{ℕ, zero, suc, _-_, _*_, _≤_}
 use mathlib.Core.Path.{_≡_, refl, sym, ap, subst, fun-ext, _∙_}
-use mathlib.Core.Bool.{Bool, true, false, _&&_, cond}
+use mathlib.Core.Bool.{Bool, true, false}
 use mathlib.Core.List.{List, [], _∷_}
-use native.Mathlib.Nat.{mul-le-mul-right}
 use native.Mathlib.Omega.{arith}
 use borrow.Author.Tests.{leb-true, leb-false}
 use lib.Dec.{leb}
-use lib.ListN.{length, take}
-use lib.Seq.{length-take-le}
+use lib.ListN.{length}
 use types.Run.{OneOf, miss}
 use denote.Enum.Declared.{tagOf}
 use Rattle.dng.proofs.Opcode.{the-type}
@@ -16,7 +14,7 @@ use Rattle.dng.specs.declared.Window.{Window}
 use Rattle.dng.specs.declared.Opcode.{Opcode}
 use Rattle.dng.specs.declared.Opcode.the-variants.{WarpRectilinear, WarpFisheye, FixVignetteRadial, FixBadPixelsConstant, FixBadPixelsList, TrimBounds, MapTable, MapPolynomial, GainMap, DeltaPerRow, DeltaPerColumn, ScalePerRow, ScalePerColumn, Other}
 use Rattle.dng.specs.Repair.{complete, positions, stepOf, badValue, markedIn, marksOn, marksOf, repairAt}
-use Rattle.dng.specs.Run.{Kind, Room}
+use Rattle.dng.specs.Run.{Kind}
 use Rattle.dng.specs.Answer.{inRange}
 use Rattle.marks.specs.declared.Marked.{Marked}
 use Rattle.marks.specs.declared.Marked.the-variants as M
@@ -24,14 +22,14 @@ use Rattle.marks.specs.Marks.{Fits, Gathered, Holds, chosen, listedAt}
 use Rattle.marks.proofs.Chosen.{chosen-rises, chosen-in}
 use Rattle.means.specs.Looks.{marked}
 use Rattle.scan.proofs.Places.{and-first, and-second}
-use Rattle.sorts.specs.Sorts.{occ, has, Rises}
 use Rattle.sorts.proofs.Occ.{has-true}
 use Rattle.points.specs.Points.{each}
 use Rattle.repair.specs.declared.Fixed.{Fixed}
 use Rattle.repair.specs.declared.Fixed.the-variants as F
 use Rattle.repair.specs.Fixes.{Fixes}
-use Rattle.repair.specs.Works.{Ranges, Marking, mended, mendable, countIn, Settled}
-use Rattle.repair.proofs.Counting.{count-few, count-none}
+use Rattle.fills.specs.Fills.{Marking, mended}
+use Rattle.repair.specs.Works.{Ranges, Settled}
+use Rattle.repair.proofs.Counting.{count-none}
 use Rattle.repair.proofs.Totals.{fixes-none, fixes-marks, fixes-settled}
 
 -- ---- what the ranges say
@@ -123,26 +121,19 @@ marking w bad m m′ n period step f far e h same =
       inside = λ q i. omega (arith, chosen-in bad 0 (positions w) q (has-true (chosen bad 0 (positions w)) q (rw (h .front) at i)) .0);
     }
 
--- how many are repaired, and their values, in numbers of 64 bits
-pub mended-few : (marks : List ℕ) (n : ℕ) (w : Window) (step : ℕ) → Marking marks n w step
-    → (mended marks n w step ≤ n) × (w .planes * mended marks n w step ≤ 8 * n)
-mended-few marks n w step m =
-    let few : mended marks n w step ≤ n =
-    subst (λ (k : ℕ). mended marks n w step ≤ k) (length-take-le n marks (m .held)) (count-few (mendable w step (marked marks n)) (take n marks)) in
-    (few, omega (arith, few, mul-le-mul-right (mended marks n w step) (m .fits .planes)))
+-- the room p * m for the new values, tested
+module _ (p m room : ℕ) (r : Bool) (e : r ≡ leb (p * m) room) where
+  pub room-enough : r ≡ true → p * m ≤ room
+  room-enough t = leb-true (p * m) room (sym e ∙ t)
 
--- the room for the new values, tested with the number m that was counted
-module _ (p m m′ room : ℕ) (r : Bool) (e : r ≡ leb (p * m) room) (c : m ≡ m′) where
-  pub room-enough : r ≡ true → p * m′ ≤ room
-  room-enough t = subst (λ (k : ℕ). p * k ≤ room) c (leb-true (p * m) room (sym e ∙ t))
-
-  pub settled-done : {A : Type 0} (s s′ new : List A) (n : ℕ) (o : Fixed) → r ≡ true → o ≡ F.Done m (n - m) → s′ ≡ new → Settled s s′ new p room n m′ o
-  settled-done s s′ new n o t d f =
-      subst (λ (o : Fixed). Settled s s′ new p room n m′ o) (sym d)
+  pub settled-done : {A : Type 0} (s s′ new : List A) (n m′ : ℕ) (o : Fixed) → r ≡ true → m′ ≡ m → o ≡ F.Done m′ (n - m′) → s′ ≡ new
+      → Settled s s′ new p room n m o
+  settled-done s s′ new n m′ o t c d f =
+      subst (λ (o : Fixed). Settled s s′ new p room n m o) (sym d)
       (record { repaired = c; left = ap (λ (k : ℕ). n - k) c; fits = room-enough t; samples = f })
 
-  pub settled-short : {A : Type 0} (s new : List A) (n : ℕ) → r ≡ false → Settled s s new p room n m′ F.Values
-  settled-short s new n t = (subst (λ (k : ℕ). room < p * k) c (leb-false (p * m) room (sym e ∙ t)), refl)
+  pub settled-short : {A : Type 0} (s new : List A) (n : ℕ) → r ≡ false → Settled s s new p room n m F.Values
+  settled-short s new n t = (leb-false (p * m) room (sym e ∙ t), refl)
 
 module _ {A : Type 0} (kind : Kind A) (w : Window) (period : ℕ) (op : Opcode) (b : List ℕ) (s : List A) (m : List ℕ) (room : ℕ) where
   -- the window is not whole: no marks

@@ -1,6 +1,5 @@
 pub mod Counting
 pub mod Placing
-pub mod Filling
 pub mod Writing
 pub mod Totals
 pub mod Gathering

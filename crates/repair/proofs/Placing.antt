@@ -1,25 +1,20 @@
 -- Where a mark lies: its row and column in the window, the samples of its pixel, and which sample belongs to which position.
 -- Assumes nothing.
-use Prim.Native.Nat.{ℕ, zero, suc, _+_, _-_, _*_, _/_, _%_, _≤_, _<_}
-use mathlib.Core.Path.{_≡_, refl, sym, ap, ap₂, subst, _∙_}
-use mathlib.Core.Bool.{Bool, true, false, _&&_, cond, and-false}
-use mathlib.Core.List.{List, [], _∷_}
-use native.Mathlib.Nat.{mod-lt, div-add-mod', div-lt-iff-lt-mul, mul-comm, le-trans, lt-of-lt-of-le, mul-le-mul-left, mul-le-mul-right}
+use Prim.Native.Nat.{ℕ, _+_, _-_, _*_, _/_, _%_, _≤_, _<_}
+use mathlib.Core.Path.{_≡_, refl, sym, ap, ap₂, _∙_}
+use mathlib.Core.Bool.{true, false, _&&_, and-false}
+use native.Mathlib.Nat.{mod-lt, div-add-mod', le-trans, mul-le-mul-left}
 use native.Mathlib.Omega.{arith}
 use borrow.Author.Tests.{leb-true, ltb-true, le-leb, lt-ltb, lt-leb}
-use lib.Arith.{digits-lt, digits-div, digits-mod}
+use lib.Arith.{digits-div, digits-mod}
 use lib.Dec.{leb, ltb}
-use lib.ListN.{length, getD, take}
-use lib.Seq.{getD-take, length-take-le}
 use Rattle.dng.specs.declared.Window.{Window}
 use Rattle.dng.specs.Select.{active, inWindow, rowOf, columnOf, planeOf}
 use Rattle.dng.specs.Repair.{complete, positions}
 use Rattle.marks.specs.Marks.{Fits}
-use Rattle.means.specs.Looks.{Asks}
 use Rattle.scan.proofs.Places.{and-first, and-second, place-in}
-use Rattle.sorts.specs.Sorts.{occ, has}
-use Rattle.sorts.proofs.Occ.{occ-at, some-has}
-use Rattle.repair.specs.Works.{Ranges, Marking, pixelOf}
+use Rattle.fills.proofs.Lying.{column-in, row-in}
+use Rattle.repair.specs.Works.{Ranges, pixelOf}
 
 -- ---- the window
 
@@ -76,41 +71,13 @@ fits-of w n r e =
 -- ---- a mark
 
 module _ (w : Window) (f : Fits w) (q : ℕ) (h : q < positions w) where
-  pub column-in : q % w .width < w .width
-  column-in = mod-lt q (f .wide)
-
-  pub row-in : q / w .width < w .height
-  row-in = div-lt-iff-lt-mul (f .wide) .1 (subst (λ (n : ℕ). q < n) (mul-comm (w .width) (w .height)) h)
-
   -- its samples are there
   pub pixel-in : (n : ℕ) → complete w n ≡ true → pixelOf w q + w .planes ≤ n
   pixel-in n e =
-      omega (arith, f .some, place-in w (q % w .width) (q / w .width) column-in row-in n (w .planes - 1) (omega (arith, f .some)) e)
+      omega (arith, f .some, place-in w (q % w .width) (q / w .width) (column-in w f q h) (row-in w f q h) n (w .planes - 1) (omega (arith, f .some)) e)
 
 pub position-is : (w : Window) (q : ℕ) → q / w .width * w .width + q % w .width ≡ q
 position-is w q = div-add-mod' q (w .width)
-
-module _ (marks : List ℕ) (n : ℕ) (w : Window) (step : ℕ) (m : Marking marks n w step) (i : ℕ) (h : i < n) where
-  pub mark-has : has (take n marks) (getD marks i 0) ≡ true
-  mark-has =
-      some-has (take n marks) (getD marks i 0)
-      (subst (λ (q : ℕ). 1 ≤ occ (take n marks) q) (getD-take n marks i 0 h)
-      (occ-at (take n marks) i (omega (arith, length-take-le n marks (m .held)))))
-
-  pub mark-in : getD marks i 0 < positions w
-  mark-in = m .inside (getD marks i 0) mark-has
-
-  pub mark-asks : Asks marks n w step (getD marks i 0 % w .width) (getD marks i 0 / w .width)
-  mark-asks =
-      record {
-        fits = m .fits;
-        column = column-in w (m .fits) (getD marks i 0) mark-in;
-        row = row-in w (m .fits) (getD marks i 0) mark-in;
-        step = m .low;
-        far = m .far;
-        held = m .held;
-        rises = m .rises;
-      }
 
 -- ---- a sample
 

@@ -1,36 +1,34 @@
 -- The totals are those of the definition, and what the stages answer is what the run's definition has. Over any sample kind.
 -- Assumes nothing.
-use Prim.Native.Nat.{ℕ, zero, suc, _+_, _-_, _*_, _/_, _%_, _≤_, _<_, max}
-use mathlib.Core.Path.{_≡_, refl, sym, ap, ap₂, subst, fun-ext, _∙_}
+use Prim.Native.Nat.{ℕ, _+_, _-_, _*_, _/_, _%_, _≤_, _<_}
+use mathlib.Core.Path.{_≡_, refl, ap, subst, _∙_}
 use mathlib.Core.Bool.{Bool, true, false, not, _&&_, cond, and-false}
-use mathlib.Core.List.{List, []}
+use mathlib.Core.List.{List}
 use native.Mathlib.Nat.{mul-zero}
 use native.Mathlib.Omega.{arith}
-use borrow.Author.Tests.{eq-eqb, ne-eqb, leb-true, le-leb, lt-leb}
+use borrow.Author.Tests.{eq-eqb, ne-eqb, le-leb, lt-leb}
 use lib.Dec.{leb, eqb}
 use lib.Ieee.{Float}
-use lib.ListN.{length, take}
+use lib.ListN.{take}
 use Rattle.points.specs.Points.{each}
 use Rattle.points.proofs.Each.{each-agree, each-none}
 use Rattle.dng.specs.declared.Window.{Window}
-use Rattle.dng.specs.declared.Opcode.{Opcode}
 use Rattle.dng.specs.Select.{inWindow, rowOf, columnOf, planeOf}
-use Rattle.dng.specs.Repair.{countBelow, complete, positions, sampleAt, steps, stepOf, soundAt, markedIn, repairedIn, leftIn, repairAt, marksOn, marksOf}
-use Rattle.dng.specs.Run.{Kind, Room, Progress, going, marksFull, valuesFull, repairOn}
-use Rattle.dng.specs.Answer.{inRange}
-use Rattle.marks.specs.declared.Marked.{Marked}
+use Rattle.dng.specs.Repair.{positions, sampleAt, steps, stepOf, soundAt, markedIn, repairedIn, leftIn, repairAt}
+use Rattle.dng.specs.Run.{Kind, Room, going, marksFull, valuesFull, repairOn}
 use Rattle.marks.specs.declared.Marked.the-variants as M
-use Rattle.marks.specs.Marks.{Fits, Gathered, Holds, chosen}
-use Rattle.marks.proofs.Chosen.{count-same, chosen-rises, chosen-in, chosen-has}
+use Rattle.marks.specs.Marks.{chosen}
+use Rattle.marks.proofs.Chosen.{count-same, chosen-has}
 use Rattle.means.specs.Looks.{marked}
 use Rattle.means.proofs.Tallies.{sound-on-ext, tally-ext}
-use Rattle.scan.proofs.Places.{position-in, and-first, and-second}
-use Rattle.sorts.specs.Sorts.{has, Rises}
-use Rattle.sorts.proofs.Occ.{by-cases, equal-or, has-true}
+use Rattle.scan.proofs.Places.{position-in}
+use Rattle.sorts.specs.Sorts.{has}
+use Rattle.sorts.proofs.Occ.{by-cases, equal-or}
 use Rattle.repair.specs.declared.Fixed.{Fixed}
 use Rattle.repair.specs.declared.Fixed.the-variants as F
-use Rattle.repair.specs.Fixes.{progressOf, Fixes}
-use Rattle.repair.specs.Works.{Ranges, Marking, mendable, countIn, mended, Mended, Settled}
+use Rattle.repair.specs.Fixes.{Fixes}
+use Rattle.fills.specs.Fills.{mendable, countIn, mended}
+use Rattle.repair.specs.Works.{Settled}
 use Rattle.repair.proofs.Placing.{row-of, column-of}
 use Rattle.repair.proofs.Counting.{count-chosen, count-parts, count-none, count-below}
 

@@ -1,13 +1,13 @@
 -- The new values put back: a pixel's samples are one run, the marks before i are done, and all marks done is the repair.
 -- Over any sample kind A and any new values. Assumes nothing.
-use Prim.Native.Nat.{ℕ, zero, suc, _+_, _-_, _*_, _/_, _%_, _≤_, _<_, max}
-use mathlib.Core.Path.{_≡_, refl, sym, ap, ap₂, subst, _∙_}
+use Prim.Native.Nat.{ℕ, _+_, _-_, _*_, _/_, _%_, _≤_, _<_, max}
+use mathlib.Core.Path.{_≡_, refl, sym, ap, subst, _∙_}
 use mathlib.Core.Bool.{Bool, true, false, _&&_, _||_, cond, and-false, or-false, or-true}
-use mathlib.Core.List.{List, []}
-use native.Mathlib.Nat.{mul-zero, add-sub-cancel-left, add-assoc, add-zero}
+use mathlib.Core.List.{List}
+use native.Mathlib.Nat.{mul-zero, add-sub-cancel-left, add-assoc}
 use native.Mathlib.Numerals.{add-one}
 use native.Mathlib.Omega.{arith}
-use borrow.Author.Tests.{eq-eqb, ne-eqb, eqb-true, le-leb, lt-leb}
+use borrow.Author.Tests.{eq-eqb, ne-eqb, le-leb, lt-leb}
 use lib.Dec.{leb, eqb}
 use lib.Ieee.{Float, nan}
 use lib.ListN.{length, getD, take, set, length-set}
@@ -17,16 +17,18 @@ use Rattle.points.proofs.Each.{below-or, length-each, each-agree, each-none, ea
 use Rattle.points.proofs.Parts.{between-in, between-low, between-high, each-between-empty, store}
 use Rattle.dng.specs.declared.Window.{Window}
 use Rattle.dng.specs.Select.{inWindow, rowOf, columnOf, planeOf}
-use Rattle.dng.specs.Repair.{Tally, positions, sampleAt, stepOf, steps, soundOn, tallyAt, meanOf, repairAt}
+use Rattle.dng.specs.Repair.{Tally, positions, sampleAt, tallyAt, meanOf, repairAt}
 use Rattle.marks.specs.Marks.{Fits}
 use Rattle.means.specs.Looks.{marked}
 use Rattle.means.proofs.Tallies.{tally-count}
 use Rattle.scan.proofs.Places.{position-in}
 use Rattle.sorts.specs.Sorts.{occ, has}
 use Rattle.sorts.proofs.Occ.{by-cases, equal-or, has-append, has-one}
-use Rattle.repair.specs.Works.{Marking, mendable, countIn, meanIn, meanAt, pixelOf, Filled}
-use Rattle.repair.proofs.Placing.{column-in, row-in, position-is, mark-in, plane-at, column-at, row-at, window-at, row-of, column-of, row-from, column-from, pixel-of}
-use Rattle.repair.proofs.Filling.{next-yes, next-no}
+use Rattle.fills.specs.Fills.{mendable, countIn, meanIn, Filled}
+use Rattle.repair.specs.Works.{pixelOf}
+use Rattle.fills.proofs.Lying.{column-in, row-in}
+use Rattle.repair.proofs.Placing.{position-is, plane-at, column-at, row-at, window-at, row-of, column-of, row-from, column-from, pixel-of}
+use Rattle.fills.proofs.Filling.{next-yes, next-no}
 
 -- ---- one pixel, plane by plane
 

@@ -1,27 +1,18 @@
 // The repairs over a window, f32 and u16: marks into the u32 scratch, new values into the f32 scratch, then the samples.
 ghost use mathlib.Core.Path.{_≡_};
 ghost use mathlib.Core.Bool.{true};
-ghost use Prim.Native.Nat.{_+_, _-_, _*_, _/_, _%_, _^_, _≤_, _<_};
-ghost use lib.Dec.{leb};
+ghost use Prim.Native.Nat.{_+_, _-_, _*_, _/_, _%_, _≤_, _<_};
 ghost use lib.Ieee.{nan, binary32};
-ghost use lib.ListN.{length, getD, take};
+ghost use lib.ListN.{length, getD};
 ghost use Rattle.convert.specs.Convert.{wholeIn};
 ghost use Rattle.whole.specs.Whole.{roundHeld};
 ghost use Rattle.points.specs.Points.{each, between};
 ghost use Rattle.dng.specs.Repair.{complete, positions, stepOf, marksOn, marksOf, repairAt};
 ghost use Rattle.marks.specs.Marks.{Fits, Gathered};
-ghost use Rattle.means.specs.Looks.{Asks, marked};
+ghost use Rattle.means.specs.Looks.{marked};
+ghost use Rattle.fills.specs.Fills.{Marking, mendable, mended, meanAt, Filled};
 ghost use Rattle.repair.specs.Fixes.{Fixes};
-ghost use Rattle.repair.specs.Works.{
-  Ranges,
-  Marking,
-  mendable,
-  mended,
-  pixelOf,
-  meanAt,
-  Filled,
-  Settled,
-};
+ghost use Rattle.repair.specs.Works.{Ranges, pixelOf, Settled};
 ghost use Rattle.scan.specs.Parts.{Whole};
 ghost use Rattle.dng.specs.Run.{f32Kind, u16Kind};
 ghost use Rattle.dng.specs.Answer.{frameOf, inRange};
@@ -58,135 +49,6 @@ fn full(n: usize, w: Window) -> bool
         return false;
     }
     ((w.height - 1) * w.stride + w.width) * w.planes <= n
-}
-
-// ---- the marks
-
-// Whether mark i has a sound neighbour.
-fn mends(marks: &[u32], n: usize, w: Window, step: usize, i: usize) -> bool
-    requires { ⌜ Marking (now marks) n w step × (i < n) ⌝ }
-    ensures { λ r. ⌜ r ≡ mendable w step (marked (now (marks .entry)) n) (getD (now (marks .entry)) i 0) ⌝ }
-{
-    let q = marks[i] as usize;
-    let near = means::sound_count(marks, n, w, step, q % w.width, q / w.width);
-    1 <= near
-}
-
-// How many of the n marks can be repaired. It depends on the marks only, so that room for the new values is tested before any is made.
-fn repairable(marks: &[u32], n: usize, w: Window, step: usize) -> usize
-    requires { ⌜ Marking (now marks) n w step ⌝ }
-    ensures { λ r. ⌜ r ≡ mended (now (marks .entry)) n w step ⌝ }
-{
-    let mut count = 0;
-    let mut i = 0;
-    while i < n {
-        if mends(marks, n, w, step, i) {
-            count += 1;
-            i += 1;
-        } else {
-            i += 1;
-        }
-    }
-    count
-}
-
-// ---- the new values, from the samples at the start
-
-// The means of position q, plane by plane, from `at` on.
-fn pixel_f32(
-    samples: &[f32],
-    marks: &[u32],
-    n: usize,
-    w: Window,
-    step: usize,
-    q: usize,
-    values: &mut [f32],
-    at: usize,
-)
-    requires { ⌜ Asks (now marks) n w step (q % w .width) (q / w .width)
-        × ((complete w (length (now samples)) ≡ true) × (at + w .planes ≤ length (now values))) ⌝ }
-    ensures { λ r.
-        ⌜ now (values .exit)
-        ≡ each (between at (at + w .planes)
-        (λ j v. meanAt nan (λ u. u) w step (marked (now (marks .entry)) n) (now (samples .entry)) q (j - at))) (now (values .entry)) ⌝ }
-{
-    let x = q % w.width;
-    let y = q / w.width;
-    let mut k = 0;
-    while k < w.planes {
-        values[at + k] = means::mean(means::sum_f32(samples, marks, n, w, step, x, y, k));
-        k += 1;
-    }
-}
-
-// The same of u16 samples.
-fn pixel_u16(
-    samples: &[u16],
-    marks: &[u32],
-    n: usize,
-    w: Window,
-    step: usize,
-    q: usize,
-    values: &mut [f32],
-    at: usize,
-)
-    requires { ⌜ Asks (now marks) n w step (q % w .width) (q / w .width)
-        × ((complete w (length (now samples)) ≡ true) × (at + w .planes ≤ length (now values))) ⌝ }
-    ensures { λ r.
-        ⌜ now (values .exit)
-        ≡ each (between at (at + w .planes)
-        (λ j v. meanAt 0 (λ u. wholeIn binary32 u) w step (marked (now (marks .entry)) n) (now (samples .entry)) q (j - at)))
-        (now (values .entry)) ⌝ }
-{
-    let x = q % w.width;
-    let y = q / w.width;
-    let mut k = 0;
-    while k < w.planes {
-        values[at + k] = means::mean(means::sum_u16(samples, marks, n, w, step, x, y, k));
-        k += 1;
-    }
-}
-
-// The new values of every mark that is repaired, one behind another, from the samples as they are at the start.
-fn fill_f32(samples: &[f32], marks: &[u32], n: usize, w: Window, step: usize, values: &mut [f32])
-    requires { ⌜ Marking (now marks) n w step
-        × ((complete w (length (now samples)) ≡ true) × (w .planes * mended (now marks) n w step ≤ length (now values))) ⌝ }
-    ensures { λ r.
-        ⌜ Filled (w .planes) n (mendable w step (marked (now (marks .entry)) n))
-        (meanAt nan (λ u. u) w step (marked (now (marks .entry)) n) (now (samples .entry))) (now (marks .entry)) (now (values .exit)) ⌝ }
-{
-    let mut at = 0;
-    let mut i = 0;
-    while i < n {
-        if mends(marks, n, w, step, i) {
-            pixel_f32(samples, marks, n, w, step, marks[i] as usize, values, at);
-            at += w.planes;
-            i += 1;
-        } else {
-            i += 1;
-        }
-    }
-}
-
-// The same of u16 samples.
-fn fill_u16(samples: &[u16], marks: &[u32], n: usize, w: Window, step: usize, values: &mut [f32])
-    requires { ⌜ Marking (now marks) n w step
-        × ((complete w (length (now samples)) ≡ true) × (w .planes * mended (now marks) n w step ≤ length (now values))) ⌝ }
-    ensures { λ r.
-        ⌜ Filled (w .planes) n (mendable w step (marked (now (marks .entry)) n))
-        (meanAt 0 (λ u. wholeIn binary32 u) w step (marked (now (marks .entry)) n) (now (samples .entry))) (now (marks .entry)) (now (values .exit)) ⌝ }
-{
-    let mut at = 0;
-    let mut i = 0;
-    while i < n {
-        if mends(marks, n, w, step, i) {
-            pixel_u16(samples, marks, n, w, step, marks[i] as usize, values, at);
-            at += w.planes;
-            i += 1;
-        } else {
-            i += 1;
-        }
-    }
 }
 
 // ---- the samples
@@ -228,11 +90,20 @@ fn put_u16(samples: &mut [u16], from: usize, planes: usize, values: &[f32], at: 
 }
 
 // The values of every mark that is repaired into the samples.
-fn write_f32(samples: &mut [f32], marks: &[u32], n: usize, w: Window, step: usize, values: &[f32])
+fn write_f32(
+    samples: &mut [f32],
+    marks: &[u32],
+    n: usize,
+    w: Window,
+    step: usize,
+    repaired: usize,
+    values: &[f32],
+)
     requires { ⌜ Marking (now marks) n w step
         × ((complete w (length (now samples)) ≡ true) × ((w .planes * mended (now marks) n w step ≤ length (now values))
-        × Filled (w .planes) n (mendable w step (marked (now marks) n))
-        (meanAt nan (λ u. u) w step (marked (now marks) n) (now samples)) (now marks) (now values))) ⌝ }
+        × (Filled (w .planes) n (mendable w step (marked (now marks) n))
+        (meanAt nan (λ u. u) w step (marked (now marks) n) (now samples)) (now marks) (now values)
+        × (repaired ≡ mended (now marks) n w step)))) ⌝ }
     ensures { λ r.
         ⌜ now (samples .exit)
         ≡ each (repairAt nan (λ u. u) (λ u. u) w step (marked (now (marks .entry)) n) (now (samples .entry))) (now (samples .entry)) ⌝ }
@@ -240,7 +111,7 @@ fn write_f32(samples: &mut [f32], marks: &[u32], n: usize, w: Window, step: usiz
     let mut at = 0;
     let mut i = 0;
     while i < n {
-        if mends(marks, n, w, step, i) {
+        if fills::mends_of(marks, n, w, step, i, repaired) {
             let from = first(w, marks[i] as usize);
             put_f32(samples, from, w.planes, values, at);
             at += w.planes;
@@ -252,11 +123,20 @@ fn write_f32(samples: &mut [f32], marks: &[u32], n: usize, w: Window, step: usiz
 }
 
 // The same of u16 samples.
-fn write_u16(samples: &mut [u16], marks: &[u32], n: usize, w: Window, step: usize, values: &[f32])
+fn write_u16(
+    samples: &mut [u16],
+    marks: &[u32],
+    n: usize,
+    w: Window,
+    step: usize,
+    repaired: usize,
+    values: &[f32],
+)
     requires { ⌜ Marking (now marks) n w step
         × ((complete w (length (now samples)) ≡ true) × ((w .planes * mended (now marks) n w step ≤ length (now values))
-        × Filled (w .planes) n (mendable w step (marked (now marks) n))
-        (meanAt 0 (λ u. wholeIn binary32 u) w step (marked (now marks) n) (now samples)) (now marks) (now values))) ⌝ }
+        × (Filled (w .planes) n (mendable w step (marked (now marks) n))
+        (meanAt 0 (λ u. wholeIn binary32 u) w step (marked (now marks) n) (now samples)) (now marks) (now values)
+        × (repaired ≡ mended (now marks) n w step)))) ⌝ }
     ensures { λ r.
         ⌜ now (samples .exit)
         ≡ each (repairAt 0 (λ u. wholeIn binary32 u) (λ u. roundHeld 65535 u) w step (marked (now (marks .entry)) n) (now (samples .entry)))
@@ -265,7 +145,7 @@ fn write_u16(samples: &mut [u16], marks: &[u32], n: usize, w: Window, step: usiz
     let mut at = 0;
     let mut i = 0;
     while i < n {
-        if mends(marks, n, w, step, i) {
+        if fills::mends_of(marks, n, w, step, i, repaired) {
             let from = first(w, marks[i] as usize);
             put_u16(samples, from, w.planes, values, at);
             at += w.planes;
@@ -277,14 +157,6 @@ fn write_u16(samples: &mut [u16], marks: &[u32], n: usize, w: Window, step: usiz
 }
 
 // ---- the repair, its marks at the front of the scratch
-
-// Whether so many entries hold the new values.
-fn roomy(entries: usize, w: Window, repaired: usize) -> bool
-    requires { ⌜ w .planes * repaired < 2 ^ 64 ⌝ }
-    ensures { λ r. ⌜ r ≡ leb (w .planes * repaired) entries ⌝ }
-{
-    w.planes * repaired <= entries
-}
 
 // So many of n marks repaired, the others left.
 fn done(n: usize, repaired: usize) -> Fixed
@@ -310,10 +182,9 @@ fn settle_f32(
         (each (repairAt nan (λ u. u) (λ u. u) w step (marked (now (marks .entry)) n) (now (samples .entry))) (now (samples .entry)))
         (w .planes) (length (now (values .entry))) n (mended (now (marks .entry)) n w step) r ⌝ }
 {
-    let repaired = repairable(marks, n, w, step);
-    if roomy(values.len(), w, repaired) {
-        fill_f32(samples, marks, n, w, step, values);
-        write_f32(samples, marks, n, w, step, values);
+    if fills::enough(values.len(), marks, n, w, step) {
+        let repaired = fills::fill_f32(samples, marks, n, w, step, values);
+        write_f32(samples, marks, n, w, step, repaired, values);
         done(n, repaired)
     } else {
         Fixed::Values
@@ -335,10 +206,9 @@ fn settle_u16(
         (each (repairAt 0 (λ u. wholeIn binary32 u) (λ u. roundHeld 65535 u) w step (marked (now (marks .entry)) n) (now (samples .entry)))
         (now (samples .entry))) (w .planes) (length (now (values .entry))) n (mended (now (marks .entry)) n w step) r ⌝ }
 {
-    let repaired = repairable(marks, n, w, step);
-    if roomy(values.len(), w, repaired) {
-        fill_u16(samples, marks, n, w, step, values);
-        write_u16(samples, marks, n, w, step, values);
+    if fills::enough(values.len(), marks, n, w, step) {
+        let repaired = fills::fill_u16(samples, marks, n, w, step, values);
+        write_u16(samples, marks, n, w, step, repaired, values);
         done(n, repaired)
     } else {
         Fixed::Values

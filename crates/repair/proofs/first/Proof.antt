@@ -1,5 +1,5 @@
 -- `repair::first` meets its contract: the place of plane 0 of the position's row and column. Assumes nothing.
-use Rattle.repair.proofs.Placing.{column-in, row-in}
+use Rattle.fills.proofs.Lying.{column-in, row-in}
 use borrow.Author.Needs.{needs}
 use Rattle.repair.proofs.first.Statement.{statement}
 use Rattle.repair.proofs.first.Tie as tie

@@ -1,5 +1,5 @@
 -- `repair::put_u16` meets its contract: the samples of the planes before k are written. Assumes nothing.
-use Prim.Native.Nat.{_+_, _-_}
+use Prim.Native.Nat.{_-_}
 use native.Mathlib.Omega.{arith}
 use borrow.Author.Needs.{needs}
 use Rattle.whole.specs.Whole.{roundHeld}

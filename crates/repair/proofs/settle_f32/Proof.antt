@@ -1,6 +1,4 @@
--- `repair::settle_f32` meets its contract: the count, the room for the new values, the values, and the samples. Assumes nothing.
-use Prim.Native.Nat.{ℕ, _*_, _^_, _<_}
-use mathlib.Core.Path.{sym, subst}
+-- `repair::settle_f32` meets its contract: the room for the new values, the values, and the samples. Assumes nothing.
 use native.Mathlib.Omega.{arith}
 use borrow.Author.Needs.{needs}
 use lib.Ieee.{nan}
@@ -8,58 +6,50 @@ use lib.ListN.{length}
 use Rattle.points.specs.Points.{each}
 use Rattle.dng.specs.Repair.{repairAt}
 use Rattle.means.specs.Looks.{marked}
-use Rattle.repair.specs.Works.{mended}
-use Rattle.repair.proofs.Gathering.{mended-few, room-enough, settled-done, settled-short}
+use Rattle.fills.specs.Fills.{mended}
+use Rattle.fills.proofs.Rooms.{mended-few}
+use Rattle.repair.proofs.Gathering.{room-enough, settled-done, settled-short}
 use Rattle.repair.proofs.settle_f32.Statement.{statement}
 use Rattle.repair.proofs.settle_f32.Tie as tie
 use Rattle.repair.proofs.settle_f32.Reads as reads
 use Rattle.repair.proofs.settle_f32.Lts as lts
 use Rattle.repair.proofs.done.Reads as done-reads
-use Rattle.repair.proofs.fill_f32.Reads as fill-f32-reads
-use Rattle.repair.proofs.repairable.Reads as repairable-reads
-use Rattle.repair.proofs.roomy.Reads as roomy-reads
+use Rattle.fills.proofs.enough.Reads as enough-reads
+use Rattle.fills.proofs.fill_f32.Reads as fill-f32-reads
 use Rattle.repair.proofs.write_f32.Reads as write-f32-reads
 
-repairable-requires : tie.Need-repairable-requires
-repairable-requires c κs = search needs
-
-roomy-requires : tie.Need-roomy-requires
-roomy-requires c κs =
-    let s = c .before .before .before .before in
-    let a = s .args in
-    subst (λ (m : ℕ). a .w .planes * m < 2 ^ 64) (sym (c .repairable .ensures))
-    (omega (arith, mended-few (a .marks .now) (a .n) (a .w) (a .step) (s .pre .0) .1, s .pre .0 .held, s .good .1 .0 .1))
+enough-requires : tie.Need-enough-requires
+enough-requires c κs = search needs
 
 fill-f32-requires : tie.Need-fill-f32-requires
 fill-f32-requires c κs =
-    let s = c .before .before .before .before .before .before .before .before in
+    let s = c .before .before .before .before .before .before .before in
     let a = s .args in
-    let count = c .before .before .before .before .repairable in
-    let test = c .before .before .before .roomy in (
+    let test = c .before .before .before .enough in (
       s .pre .0,
       (
         s .pre .1,
-        room-enough (a .w .planes) (count .result) (mended (a .marks .now) (a .n) (a .w) (a .step)) (length (a .values .now))
-            (test .result) (test .ensures) (count .ensures) (c .before .before .if1 .taken),
+        room-enough (a .w .planes) (mended (a .marks .now) (a .n) (a .w) (a .step)) (length (a .values .now)) (test .result) (test .ensures)
+            (c .before .before .if1 .taken),
       ),
     )
 
 write-f32-requires : tie.Need-write-f32-requires
 write-f32-requires c κs =
-    let s = c .before .before .before .before .before .before .before .before .before .before .before .before .before in
+    let s = c .before .before .before .before .before .before .before .before .before .before .before .before in
     let a = s .args in
-    let count = c .before .before .before .before .before .before .before .before .before .repairable in
-    let test = c .before .before .before .before .before .before .before .before .roomy in
+    let test = c .before .before .before .before .before .before .before .before .enough in
     let filled = c .before .before .before .before .fill-f32 in
-    let room = room-enough (a .w .planes) (count .result) (mended (a .marks .now) (a .n) (a .w) (a .step)) (length (a .values .now))
-    (test .result) (test .ensures) (count .ensures) (c .before .before .before .before .before .before .before .if1 .taken) in
-    (s .pre .0, (s .pre .1, (omega (arith, room, filled .kept .1 .1 .1 .1 .1 .0), filled .ensures)))
+    let room = room-enough (a .w .planes) (mended (a .marks .now) (a .n) (a .w) (a .step)) (length (a .values .now)) (test .result) (test .ensures)
+    (c .before .before .before .before .before .before .before .if1 .taken) in
+    (s .pre .0, (s .pre .1, (omega (arith, room, filled .kept .1 .1 .1 .1 .1 .0), (filled .ensures .1, filled .ensures .0))))
 
 done-requires : tie.Need-done-requires
 done-requires c κs =
-    let s = c .before .before .before .before .before .before .before .before .before .before .before .before .before .before .before .before in
+    let s = c .before .before .before .before .before .before .before .before .before .before .before .before .before .before .before in
     let a = s .args in
-    omega (arith, mended-few (a .marks .now) (a .n) (a .w) (a .step) (s .pre .0) .0, c .before .before .before .before .before .before .before .before .before .before .before .before .repairable .ensures)
+    let filled = c .before .before .before .before .before .before .before .fill-f32 in
+    omega (arith, mended-few (a .marks .now) (a .n) (a .w) (a .step) (s .pre .0) .0, filled .ensures .0)
 
 same-length : tie.Need-same-length
 same-length c = search needs
@@ -69,22 +59,21 @@ same-length-2 c = search needs
 
 returns : tie.Need-returns
 returns c =
-    let a = c .before .before .before .before .before .before .before .before .before .before .before .before .before .before .before .before .before .args in
-    let count = c .before .before .before .before .before .before .before .before .before .before .before .before .before .repairable in
-    let test = c .before .before .before .before .before .before .before .before .before .before .before .before .roomy in
+    let a = c .before .before .before .before .before .before .before .before .before .before .before .before .before .before .before .before .args in
+    let test = c .before .before .before .before .before .before .before .before .before .before .before .before .enough in
+    let filled = c .before .before .before .before .before .before .before .before .fill-f32 in
     let written = c .before .before .before .write-f32 in
-    settled-done (a .w .planes) (count .result) (mended (a .marks .now) (a .n) (a .w) (a .step)) (length (a .values .now)) (test .result) (test .ensures)
-    (count .ensures) (a .samples .now) (written .last .0)
+    settled-done (a .w .planes) (mended (a .marks .now) (a .n) (a .w) (a .step)) (length (a .values .now)) (test .result) (test .ensures)
+    (a .samples .now) (written .last .0)
     (each (repairAt nan (λ u. u) (λ u. u) (a .w) (a .step) (marked (a .marks .now) (a .n)) (a .samples .now)) (a .samples .now))
-    (a .n) (c .done .result) (c .before .before .before .before .before .before .before .before .before .before .before .if1 .taken) (c .done .ensures) (written .ensures)
+    (a .n) (filled .result) (c .done .result) (c .before .before .before .before .before .before .before .before .before .before .before .if1 .taken)
+    (filled .ensures .0) (c .done .ensures) (written .ensures)
 
 returns-2 : tie.Need-returns-2
 returns-2 c =
-    let a = c .before .before .before .before .before .before .args in
-    let count = c .before .before .repairable in
-    let test = c .before .roomy in
-    settled-short (a .w .planes) (count .result) (mended (a .marks .now) (a .n) (a .w) (a .step)) (length (a .values .now)) (test .result) (test .ensures)
-    (count .ensures) (a .samples .now)
+    let a = c .before .before .before .before .before .args in
+    let test = c .before .enough in
+    settled-short (a .w .planes) (mended (a .marks .now) (a .n) (a .w) (a .step)) (length (a .values .now)) (test .result) (test .ensures) (a .samples .now)
     (each (repairAt nan (λ u. u) (λ u. u) (a .w) (a .step) (marked (a .marks .now) (a .n)) (a .samples .now)) (a .samples .now))
     (a .n) (c .if1 .left)
 
@@ -92,8 +81,7 @@ pub settle-f32-spec : {M : Type 1} → statement M
 settle-f32-spec =
     tie.close
     (tie.spec
-    repairable-requires
-    roomy-requires
+    enough-requires
     fill-f32-requires
     write-f32-requires
     done-requires

@@ -1,17 +1,17 @@
--- `repair::repairable` meets its contract: the count over the first i marks. Assumes nothing.
+-- `fills::repairable` meets its contract: the count over the first i marks. Assumes nothing.
 use Prim.Native.Nat.{ℕ, _+_, _-_, _≤_}
 use mathlib.Core.Path.{_≡_, refl, sym, ap, _∙_}
 use native.Mathlib.Omega.{arith}
-use borrow.Author.Needs.{needs}
 use lib.ListN.{take}
 use Rattle.means.specs.Looks.{marked}
-use Rattle.repair.specs.Works.{mendable, countIn}
-use Rattle.repair.proofs.Counting.{count-yes, count-no, count-end}
-use Rattle.repair.proofs.repairable.Statement.{statement}
-use Rattle.repair.proofs.repairable.Tie as tie
-use Rattle.repair.proofs.repairable.Reads as reads
-use Rattle.repair.proofs.repairable.Lts as lts
-use Rattle.repair.proofs.mends.Reads as mends-reads
+use Rattle.fills.specs.Fills.{mendable, countIn}
+use Rattle.fills.proofs.Counting.{count-yes, count-no, count-end}
+use Rattle.fills.proofs.Rooms.{told-nothing}
+use Rattle.fills.proofs.repairable.Statement.{statement}
+use Rattle.fills.proofs.repairable.Tie as tie
+use Rattle.fills.proofs.repairable.Reads as reads
+use Rattle.fills.proofs.repairable.Lts as lts
+use Rattle.fills.proofs.mends.Reads as mends-reads
 
 abbrev Inv-loop : tie.InvT-loop
 Inv-loop marks n w step count₀ i₀ count i = (i ≤ n) × ((count ≤ i) × (count ≡ countIn (mendable w step (marked marks n)) (take i marks)))
@@ -24,7 +24,7 @@ unfolding countIn
 loop-holds c = (omega arith, (omega arith, refl))
 
 mends-requires : tie.Need-mends-requires Inv-loop μ-loop
-mends-requires c κs = (c .before .before .before .pre, c .loop-test .taken)
+mends-requires c κs = (c .before .before .before .pre, (c .loop-test .taken, told-nothing _ _ _ _))
 
 add-count : tie.Need-add-count Inv-loop μ-loop
 add-count c = omega arith

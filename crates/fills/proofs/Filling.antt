@@ -1,9 +1,9 @@
 -- The new values of the marks that are repaired stand one behind another in the scratch: turn by turn, over any means. Assumes nothing.
-use Prim.Native.Nat.{ℕ, zero, suc, _+_, _-_, _*_, _≤_, _<_}
+use Prim.Native.Nat.{ℕ, _+_, _-_, _*_, _/_, _≤_, _<_}
 use mathlib.Core.Path.{_≡_, refl, sym, ap, subst, _∙_}
 use mathlib.Core.Bool.{Bool, true, false}
 use mathlib.Core.List.{List}
-use native.Mathlib.Nat.{not-suc-le-zero, mul-add, mul-one, mul-zero, add-sub-cancel-left, add-assoc}
+use native.Mathlib.Nat.{not-suc-le-zero, mul-add, mul-one, mul-zero, mul-div-cancel-left, add-sub-cancel-left, add-assoc}
 use native.Mathlib.Omega.{arith}
 use lib.Ieee.{Float, nan}
 use lib.ListN.{length, getD, take, set, length-set}
@@ -16,8 +16,8 @@ use Rattle.means.specs.declared.Sum.{Sum}
 use Rattle.means.specs.Looks.{tallyOf}
 use Rattle.means.proofs.Tallies.{tally-few}
 use Rattle.sorts.proofs.Occ.{equal-or}
-use Rattle.repair.specs.Works.{countIn, meanIn, Filled}
-use Rattle.repair.proofs.Counting.{count-yes, count-no, place-next, count-more}
+use Rattle.fills.specs.Fills.{countIn, meanIn, Filled}
+use Rattle.fills.proofs.Counting.{count-yes, count-no, count-end, place-next}
 
 -- ---- one mark, plane by plane
 
@@ -138,6 +138,12 @@ module _ (p n : ℕ) (test : ℕ → Bool) (mean : ℕ → ℕ → Float) (marks
         here j d k m =
             subst (λ (y : ℕ). getD values′ (p * countIn test (take y marks) + k) nan ≡ mean (getD marks y 0) k) (sym d)
             (subst (λ (a : ℕ). getD values′ (a + k) nan ≡ mean (getD marks i 0) k) (f .next) (there k m))
+
+  -- how many marks have their values: as many as the places that these take
+  pub fill-count : (values : List Float) (at i : ℕ) → Filling p n test mean marks values₀ values at i → n ≤ i → 1 ≤ p
+      → at / p ≡ countIn test (take n marks)
+  fill-count values at i f h some =
+      ap (λ (k : ℕ). k / p) (f .next) ∙ mul-div-cancel-left (countIn test (take i marks)) some ∙ count-end test marks i n (f .within) h
 
   pub fill-end : (values : List Float) (at i : ℕ) → Filling p n test mean marks values₀ values at i → n ≤ i → Filled p n test mean marks values
   fill-end values at i f h j l u k m = f .filled j (omega (arith, f .within)) u k m

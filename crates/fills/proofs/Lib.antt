@@ -1,0 +1,4 @@
+pub mod Counting
+pub mod Lying
+pub mod Filling
+pub mod Rooms

@@ -1,0 +1,45 @@
+-- Where a mark lies: its row and column in the window. Assumes nothing.
+use Prim.Native.Nat.{ℕ, _/_, _%_, _≤_, _<_}
+use mathlib.Core.Path.{_≡_, subst}
+use mathlib.Core.Bool.{true}
+use mathlib.Core.List.{List}
+use native.Mathlib.Nat.{mod-lt, div-lt-iff-lt-mul, mul-comm}
+use native.Mathlib.Omega.{arith}
+use lib.ListN.{getD, take}
+use lib.Seq.{getD-take, length-take-le}
+use Rattle.dng.specs.declared.Window.{Window}
+use Rattle.dng.specs.Repair.{positions}
+use Rattle.marks.specs.Marks.{Fits}
+use Rattle.means.specs.Looks.{Asks}
+use Rattle.sorts.specs.Sorts.{occ, has}
+use Rattle.sorts.proofs.Occ.{occ-at, some-has}
+use Rattle.fills.specs.Fills.{Marking}
+
+module _ (w : Window) (f : Fits w) (q : ℕ) (h : q < positions w) where
+  pub column-in : q % w .width < w .width
+  column-in = mod-lt q (f .wide)
+
+  pub row-in : q / w .width < w .height
+  row-in = div-lt-iff-lt-mul (f .wide) .1 (subst (λ (n : ℕ). q < n) (mul-comm (w .width) (w .height)) h)
+
+module _ (marks : List ℕ) (n : ℕ) (w : Window) (step : ℕ) (m : Marking marks n w step) (i : ℕ) (h : i < n) where
+  pub mark-has : has (take n marks) (getD marks i 0) ≡ true
+  mark-has =
+      some-has (take n marks) (getD marks i 0)
+      (subst (λ (q : ℕ). 1 ≤ occ (take n marks) q) (getD-take n marks i 0 h)
+      (occ-at (take n marks) i (omega (arith, length-take-le n marks (m .held)))))
+
+  pub mark-in : getD marks i 0 < positions w
+  mark-in = m .inside (getD marks i 0) mark-has
+
+  pub mark-asks : Asks marks n w step (getD marks i 0 % w .width) (getD marks i 0 / w .width)
+  mark-asks =
+      record {
+        fits = m .fits;
+        column = column-in w (m .fits) (getD marks i 0) mark-in;
+        row = row-in w (m .fits) (getD marks i 0) mark-in;
+        step = m .low;
+        far = m .far;
+        held = m .held;
+        rises = m .rises;
+      }

@@ -1,0 +1,25 @@
+-- `fills::mends_of` meets its contract: where all are repaired, mark i is. Assumes nothing.
+use mathlib.Core.Path.{sym}
+use native.Mathlib.Omega.{arith}
+use borrow.Author.Needs.{needs}
+use Rattle.fills.proofs.Rooms.{told-nothing, mended-all}
+use Rattle.fills.proofs.mends_of.Statement.{statement}
+use Rattle.fills.proofs.mends_of.Tie as tie
+use Rattle.fills.proofs.mends_of.Reads as reads
+use Rattle.fills.proofs.mends_of.Lts as lts
+use Rattle.fills.proofs.mends.Reads as mends-reads
+
+returns : tie.Need-returns
+returns c =
+    let s = c .before .before in
+    let a = s .args in
+    sym (mended-all (a .marks .now) (a .n) (a .w) (a .step) (s .pre .0) (a .i) (s .pre .1 .0) (omega (arith, s .pre .1 .1, c .if1 .taken)))
+
+mends-requires : tie.Need-mends-requires
+mends-requires c κs = let s = c .before .before in (s .pre .0, (s .pre .1 .0, told-nothing _ _ _ _))
+
+returns-2 : tie.Need-returns-2
+returns-2 c = search needs
+
+pub mends-of-spec : {M : Type 1} → statement M
+mends-of-spec = tie.close (tie.spec returns mends-requires returns-2)
