@@ -122,7 +122,7 @@ fn mark(marks: &[u32], i: usize) -> usize
     marks[i] as usize
 }
 
-// The first entry at or after `from` that is not below lo.
+// The first entry at or after `from` that is not below lo, or where that passed the first n.
 fn onward(marks: &[u32], n: usize, from: usize, lo: usize) -> usize
     requires { ⌜ n ≤ length (now marks) ⌝ }
 {
@@ -373,7 +373,7 @@ fn searched_u16(
     Sum { sum, n: count }
 }
 
-// As for f32.
+// The same of u16 samples, exact in an f32.
 fn at_u16(samples: &[u16], w: Window, x: usize, y: usize, plane: usize) -> f32
     requires { ⌜ Stands (length (now samples)) w plane × ((x < w .width) × (y < w .height)) ⌝ }
     ensures { λ r. ⌜ r ≡ wholeIn binary32 (sampleAt 0 w (now (samples .entry)) x y plane) ⌝ }
@@ -382,7 +382,7 @@ fn at_u16(samples: &[u16], w: Window, x: usize, y: usize, plane: usize) -> f32
     convert::f32_of_u16(samples[at])
 }
 
-// As for f32.
+// The same of u16 samples.
 fn eight_u16(samples: &[u16], w: Window, period: usize, x: usize, y: usize, plane: usize) -> Sum
     requires { ⌜ Stands (length (now samples)) w plane × Inside w period x y ⌝ }
     ensures { λ r. ⌜ tallyOf r ≡ tallyAt (w .width) (w .height) period none (λ xx yy. wholeIn binary32 (sampleAt 0 w (now (samples .entry)) xx yy plane)) x y ⌝ }

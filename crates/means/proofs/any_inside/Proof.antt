@@ -1,7 +1,6 @@
 -- `means::any_inside` meets its contract: the four straight steps decide. Assumes nothing.
 use Prim.Native.Nat.{_+_}
-use mathlib.Core.Path.{ap, _∙_}
-use mathlib.Core.Bool.{Bool, true, false}
+use mathlib.Core.Path.{_∙_}
 use borrow.Author.Needs.{needs}
 use borrow.Author.Tests.{ltb-true, ltb-false}
 use lib.Dec.{ltb}

@@ -1,7 +1,6 @@
 -- `means::over` meets its contract: the marks ascend. Assumes nothing.
 use mathlib.Core.Path.{subst}
 use Prim.Native.Nat.{ℕ, _<_}
-use native.Mathlib.Omega.{arith}
 use borrow.Author.Needs.{needs}
 use borrow.Author.Tests.{ltb-true}
 use Rattle.means.proofs.Apart.{over-from}

@@ -2,7 +2,6 @@
 use Prim.Native.Nat.{ℕ, _*_, _≤_}
 use native.Mathlib.Nat.{le-trans, mul-le-mul-left, mul-le-mul-right}
 use native.Mathlib.Omega.{arith}
-use borrow.Author.Needs.{needs}
 use mathlib.Core.Path.{refl}
 use Rattle.means.proofs.reach.Statement.{statement}
 use Rattle.means.proofs.reach.Tie as tie
