@@ -14,13 +14,25 @@ use dng::Window;
 
 // ---- the marks
 
-// Whether mark i has a sound neighbour. One that is known to be lone needs no search.
-fn mends(marks: &[u32], n: usize, w: Window, step: usize, i: usize, lone: bool) -> bool
-    requires { ⌜ Marking (now marks) n w step × ((i < n) × Told lone (marked (now marks) n) w step (getD (now marks) i 0)) ⌝ }
+// Whether mark i has a sound neighbour.
+fn mends(marks: &[u32], n: usize, w: Window, step: usize, i: usize) -> bool
+    requires { ⌜ Marking (now marks) n w step × (i < n) ⌝ }
     ensures { λ r. ⌜ r ≡ mendable w step (marked (now (marks .entry)) n) (getD (now (marks .entry)) i 0) ⌝ }
 {
     let q = marks[i] as usize;
-    means::any_sound(marks, n, w, step, q % w.width, q / w.width, lone)
+    means::any_sound(marks, n, w, step, q % w.width, q / w.width, false)
+}
+
+// The same of a mark that may be known to be lone: then nothing is searched for. Apart from the search, this is short enough for a loop.
+fn mends_told(marks: &[u32], n: usize, w: Window, step: usize, i: usize, lone: bool) -> bool
+    requires { ⌜ Marking (now marks) n w step × ((i < n) × Told lone (marked (now marks) n) w step (getD (now marks) i 0)) ⌝ }
+    ensures { λ r. ⌜ r ≡ mendable w step (marked (now (marks .entry)) n) (getD (now (marks .entry)) i 0) ⌝ }
+{
+    if lone {
+        let q = marks[i] as usize;
+        return means::any_sound(marks, n, w, step, q % w.width, q / w.width, true);
+    }
+    mends(marks, n, w, step, i)
 }
 
 // The same where it is known how many are repaired: where all are, nothing is looked for.
@@ -31,7 +43,7 @@ pub fn mends_of(marks: &[u32], n: usize, w: Window, step: usize, i: usize, repai
     if repaired == n {
         return true;
     }
-    mends(marks, n, w, step, i, false)
+    mends(marks, n, w, step, i)
 }
 
 // How many of the n marks can be repaired. It depends on the marks only, so that room for the new values is tested before any is made.
@@ -42,7 +54,7 @@ fn repairable(marks: &[u32], n: usize, w: Window, step: usize) -> usize
     let mut count = 0;
     let mut i = 0;
     while i < n {
-        if mends(marks, n, w, step, i, false) {
+        if mends(marks, n, w, step, i) {
             count += 1;
             i += 1;
         } else {
@@ -154,7 +166,7 @@ pub fn fill_f32(
         up = means::above_from(marks, n, w, step, i, up);
         down = means::below_from(marks, n, w, step, i, down);
         let lone = means::alone(marks, n, w, step, i, up, down);
-        if mends(marks, n, w, step, i, lone) {
+        if mends_told(marks, n, w, step, i, lone) {
             pixel_f32(
                 samples,
                 marks,
@@ -198,7 +210,7 @@ pub fn fill_u16(
         up = means::above_from(marks, n, w, step, i, up);
         down = means::below_from(marks, n, w, step, i, down);
         let lone = means::alone(marks, n, w, step, i, up, down);
-        if mends(marks, n, w, step, i, lone) {
+        if mends_told(marks, n, w, step, i, lone) {
             pixel_u16(
                 samples,
                 marks,

@@ -15,7 +15,7 @@ use Rattle.fills.proofs.fill_f32.Lts as lts
 use Rattle.means.proofs.above_from.Reads as above-from-reads
 use Rattle.means.proofs.alone.Reads as alone-reads
 use Rattle.means.proofs.below_from.Reads as below-from-reads
-use Rattle.fills.proofs.mends.Reads as mends-reads
+use Rattle.fills.proofs.mends_told.Reads as mends-told-reads
 use Rattle.fills.proofs.pixel_f32.Reads as pixel-f32-reads
 
 abbrev Inv-loop : tie.InvT-loop
@@ -49,8 +49,8 @@ alone-requires c κs =
     let taken = c .before .before .loop-test .taken in
     (taken, mark-asks (a .marks .now) (a .n) (a .w) (a .step) (s .pre .0) (c .before .before .before .loop .i) taken)
 
-mends-requires : tie.Need-mends-requires Inv-loop μ-loop
-mends-requires c κs =
+mends-told-requires : tie.Need-mends-told-requires Inv-loop μ-loop
+mends-told-requires c κs =
     let s = c .before .before .before .before .before .before .before .before in
     (s .pre .0, (c .before .before .before .loop-test .taken, c .alone .ensures))
 
@@ -76,7 +76,7 @@ there c =
     let at = c .before .before .before .before .before .before .before .loop in
     let room = next-room (a .w .planes) (a .n) (mendable (a .w) (a .step) (marked (a .marks .now) (a .n))) (a .marks .now) (at .i) (s .pre .0 .held)
     (at .at) (length (a .values .now)) (at .inv .next) (c .before .before .before .before .before .before .loop-test .taken)
-    (sym (c .before .before .mends .ensures) ∙ c .before .if1 .taken) (s .pre .1 .1) in
+    (sym (c .before .before .mends-told .ensures) ∙ c .before .if1 .taken) (s .pre .1 .1) in
     omega (arith, room, at .inv .same)
 
 pixel-f32-requires : tie.Need-pixel-f32-requires Inv-loop μ-loop
@@ -114,7 +114,7 @@ loop-again c =
     let put = c .before .before .before .pixel-f32 in
     fill-yes (a .w .planes) (a .n) test mean (a .marks .now) (a .values .now) (at .values) (at .at) (at .i) (at .inv) (s .pre .0 .held) taken
     (put .last .1 .1 .1 .1 .1 .1 .1 .0)
-    (sym (c .before .before .before .before .before .before .before .mends .ensures) ∙ c .before .before .before .before .before .before .if1 .taken)
+    (sym (c .before .before .before .before .before .before .before .mends-told .ensures) ∙ c .before .before .before .before .before .before .if1 .taken)
     (there (c .before .before .before .before .before)) (put .ensures)
 
 add-i-2 : tie.Need-add-i-2 Inv-loop μ-loop
@@ -131,7 +131,7 @@ loop-again-2 c =
     let test = mendable (a .w) (a .step) (marked (a .marks .now) (a .n)) in
     let mean = meanAt nan (λ u. u) (a .w) (a .step) (marked (a .marks .now) (a .n)) (a .samples .now) in
     fill-no (a .w .planes) (a .n) test mean (a .marks .now) (a .values .now) (at .values) (at .at) (at .i) (at .inv) (s .pre .0 .held)
-    (c .before .before .before .before .before .loop-test .taken) (sym (c .before .mends .ensures) ∙ c .if1 .left)
+    (c .before .before .before .before .before .loop-test .taken) (sym (c .before .mends-told .ensures) ∙ c .if1 .left)
 
 div-result : tie.Need-div-result Inv-loop μ-loop
 div-result c = c .before .before .before .before .before .before .pre .0 .fits .some
@@ -161,7 +161,7 @@ fill-f32-spec =
     above-from-requires
     below-from-requires
     alone-requires
-    mends-requires
+    mends-told-requires
     mul-pixel-f32
     shared-slice-read-pixel-f32
     cast-pixel-f32

@@ -16,7 +16,7 @@ use Rattle.fills.proofs.fill_u16.Lts as lts
 use Rattle.means.proofs.above_from.Reads as above-from-reads
 use Rattle.means.proofs.alone.Reads as alone-reads
 use Rattle.means.proofs.below_from.Reads as below-from-reads
-use Rattle.fills.proofs.mends.Reads as mends-reads
+use Rattle.fills.proofs.mends_told.Reads as mends-told-reads
 use Rattle.fills.proofs.pixel_u16.Reads as pixel-u16-reads
 
 abbrev Inv-loop : tie.InvT-loop
@@ -50,8 +50,8 @@ alone-requires c κs =
     let taken = c .before .before .loop-test .taken in
     (taken, mark-asks (a .marks .now) (a .n) (a .w) (a .step) (s .pre .0) (c .before .before .before .loop .i) taken)
 
-mends-requires : tie.Need-mends-requires Inv-loop μ-loop
-mends-requires c κs =
+mends-told-requires : tie.Need-mends-told-requires Inv-loop μ-loop
+mends-told-requires c κs =
     let s = c .before .before .before .before .before .before .before .before in
     (s .pre .0, (c .before .before .before .loop-test .taken, c .alone .ensures))
 
@@ -77,7 +77,7 @@ there c =
     let at = c .before .before .before .before .before .before .before .loop in
     let room = next-room (a .w .planes) (a .n) (mendable (a .w) (a .step) (marked (a .marks .now) (a .n))) (a .marks .now) (at .i) (s .pre .0 .held)
     (at .at) (length (a .values .now)) (at .inv .next) (c .before .before .before .before .before .before .loop-test .taken)
-    (sym (c .before .before .mends .ensures) ∙ c .before .if1 .taken) (s .pre .1 .1) in
+    (sym (c .before .before .mends-told .ensures) ∙ c .before .if1 .taken) (s .pre .1 .1) in
     omega (arith, room, at .inv .same)
 
 pixel-u16-requires : tie.Need-pixel-u16-requires Inv-loop μ-loop
@@ -115,7 +115,7 @@ loop-again c =
     let put = c .before .before .before .pixel-u16 in
     fill-yes (a .w .planes) (a .n) test mean (a .marks .now) (a .values .now) (at .values) (at .at) (at .i) (at .inv) (s .pre .0 .held) taken
     (put .last .1 .1 .1 .1 .1 .1 .1 .0)
-    (sym (c .before .before .before .before .before .before .before .mends .ensures) ∙ c .before .before .before .before .before .before .if1 .taken)
+    (sym (c .before .before .before .before .before .before .before .mends-told .ensures) ∙ c .before .before .before .before .before .before .if1 .taken)
     (there (c .before .before .before .before .before)) (put .ensures)
 
 add-i-2 : tie.Need-add-i-2 Inv-loop μ-loop
@@ -132,7 +132,7 @@ loop-again-2 c =
     let test = mendable (a .w) (a .step) (marked (a .marks .now) (a .n)) in
     let mean = meanAt 0 (λ u. wholeIn binary32 u) (a .w) (a .step) (marked (a .marks .now) (a .n)) (a .samples .now) in
     fill-no (a .w .planes) (a .n) test mean (a .marks .now) (a .values .now) (at .values) (at .at) (at .i) (at .inv) (s .pre .0 .held)
-    (c .before .before .before .before .before .loop-test .taken) (sym (c .before .mends .ensures) ∙ c .if1 .left)
+    (c .before .before .before .before .before .loop-test .taken) (sym (c .before .mends-told .ensures) ∙ c .if1 .left)
 
 div-result : tie.Need-div-result Inv-loop μ-loop
 div-result c = c .before .before .before .before .before .before .pre .0 .fits .some
@@ -162,7 +162,7 @@ fill-u16-spec =
     above-from-requires
     below-from-requires
     alone-requires
-    mends-requires
+    mends-told-requires
     mul-pixel-u16
     shared-slice-read-pixel-u16
     cast-pixel-u16

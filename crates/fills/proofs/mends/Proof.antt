@@ -3,6 +3,7 @@ use native.Mathlib.Omega.{arith}
 use borrow.Author.Needs.{needs}
 use Rattle.fills.specs.Fills.{mendable}
 use Rattle.fills.proofs.Lying.{mark-asks}
+use Rattle.fills.proofs.Rooms.{told-nothing}
 use Rattle.fills.proofs.mends.Statement.{statement}
 use Rattle.fills.proofs.mends.Tie as tie
 use Rattle.fills.proofs.mends.Reads as reads
@@ -27,7 +28,7 @@ div-any-sound c = search needs
 any-sound-requires : tie.Need-any-sound-requires
 any-sound-requires c κs =
     let s = c .before .before .before .before in
-    (mark-asks (s .args .marks .now) (s .args .n) (s .args .w) (s .args .step) (s .pre .0) (s .args .i) (s .pre .1 .0), s .pre .1 .1)
+    (mark-asks (s .args .marks .now) (s .args .n) (s .args .w) (s .args .step) (s .pre .0) (s .args .i) (s .pre .1), told-nothing _ _ _ _)
 
 returns : tie.Need-returns
 unfolding mendable

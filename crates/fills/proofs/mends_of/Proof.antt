@@ -2,7 +2,7 @@
 use mathlib.Core.Path.{sym}
 use native.Mathlib.Omega.{arith}
 use borrow.Author.Needs.{needs}
-use Rattle.fills.proofs.Rooms.{told-nothing, mended-all}
+use Rattle.fills.proofs.Rooms.{mended-all}
 use Rattle.fills.proofs.mends_of.Statement.{statement}
 use Rattle.fills.proofs.mends_of.Tie as tie
 use Rattle.fills.proofs.mends_of.Reads as reads
@@ -16,7 +16,7 @@ returns c =
     sym (mended-all (a .marks .now) (a .n) (a .w) (a .step) (s .pre .0) (a .i) (s .pre .1 .0) (omega (arith, s .pre .1 .1, c .if1 .taken)))
 
 mends-requires : tie.Need-mends-requires
-mends-requires c κs = let s = c .before .before in (s .pre .0, (s .pre .1 .0, told-nothing _ _ _ _))
+mends-requires c κs = search needs
 
 returns-2 : tie.Need-returns-2
 returns-2 c = search needs

@@ -6,7 +6,6 @@ use lib.ListN.{take}
 use Rattle.means.specs.Looks.{marked}
 use Rattle.fills.specs.Fills.{mendable, countIn}
 use Rattle.fills.proofs.Counting.{count-yes, count-no, count-end}
-use Rattle.fills.proofs.Rooms.{told-nothing}
 use Rattle.fills.proofs.repairable.Statement.{statement}
 use Rattle.fills.proofs.repairable.Tie as tie
 use Rattle.fills.proofs.repairable.Reads as reads
@@ -24,7 +23,7 @@ unfolding countIn
 loop-holds c = (omega arith, (omega arith, refl))
 
 mends-requires : tie.Need-mends-requires Inv-loop μ-loop
-mends-requires c κs = (c .before .before .before .pre, (c .loop-test .taken, told-nothing _ _ _ _))
+mends-requires c κs = (c .before .before .before .pre, c .loop-test .taken)
 
 add-count : tie.Need-add-count Inv-loop μ-loop
 add-count c = omega arith
