@@ -246,13 +246,6 @@ fn window_of(width: usize, height: usize) -> Window {
     }
 }
 
-// How many samples were held to the largest value: `wide` of them to 65,535 as they were rounded back, `over` of them to maxval as they were
-// encoded. No sample counts twice: one that is held to 65,535 and is then above a smaller maxval is counted by the encoder alone, and at a
-// maxval of 65,535 the encoder counts none.
-fn held_of(maxval: usize, wide: usize, over: usize) -> usize {
-    if maxval < 65535 { over } else { wide }
-}
-
 // A refusal is printed and nothing is written; otherwise the frame is, and then the answer.
 fn finish(
     out: usize,
@@ -269,7 +262,7 @@ fn finish(
     if is_done(a) {
         let over = pgm::encode(samples, maxval, &mut *raster);
         if write_pgm(out, width, height, maxval, raster) {
-            print_answer(a, form, names, held_of(maxval, wide_held, over));
+            print_answer(a, form, names, mend::held_above(maxval, wide_held, over));
         }
     } else {
         print_answer(a, form, names, 0);

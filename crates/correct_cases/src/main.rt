@@ -26,20 +26,23 @@ fn print_answer(a: Answer, form: Form, names: &[u8], held: usize) {
     print_text(&text, n);
 }
 
-// How many samples were held to the largest value: `wide` of them to 65,535 as they were rounded back, `over` of them to maxval as they were
-// encoded. No sample counts twice: one that is held to 65,535 and is then above a smaller maxval is counted by the encoder alone, and at a
-// maxval of 65,535 the encoder counts none.
-fn held_of(maxval: usize, wide: usize, over: usize) -> usize {
-    if maxval < 65535 { over } else { wide }
-}
-
 fn print_mended(m: Mended, names: &[u8], maxval: usize, over: usize) {
     match m {
         Mended::Whole { answer } => {
-            print_answer(answer, Form::Whole, names, held_of(maxval, 0, over));
+            print_answer(
+                answer,
+                Form::Whole,
+                names,
+                mend::held_above(maxval, 0, over),
+            );
         }
         Mended::Widened { answer, held } => {
-            print_answer(answer, Form::Rounded, names, held_of(maxval, held, over));
+            print_answer(
+                answer,
+                Form::Rounded,
+                names,
+                mend::held_above(maxval, held, over),
+            );
         }
         Mended::NoRoom => {
             say(b"80: no room for the samples as f32");

@@ -1,17 +1,17 @@
--- Samples turned into others place by place, and what a run leaves that does not take its list. Assumes nothing.
-use Prim.Native.Nat.{ℕ, _+_, _≤_, _<_}
+-- Samples turned into others place by place, how many are held, and what a run leaves that does not take its list. Assumes nothing.
+use Prim.Native.Nat.{ℕ, suc, _+_, _≤_, _<_, min}
 use mathlib.Core.Path.{_≡_, refl, sym, ap, ap₂, subst, _∙_}
 use mathlib.Core.Bool.{Bool, true, false, cond}
-use mathlib.Core.List.{List, map}
+use mathlib.Core.List.{List, [], _∷_, map}
 use native.Mathlib.Omega.{arith}
 use native.Mathlib.Numerals.{add-one}
-use borrow.Author.Tests.{le-leb, lt-leb}
-use lib.Dec.{leb, eqb}
-use lib.Ieee.{Float, nan}
+use borrow.Author.Tests.{le-leb, lt-leb, lt-ltb, le-ltb, eq-eqb, ne-eqb}
+use lib.Dec.{leb, ltb, eqb}
+use lib.Ieee.{Float, nan, inf, fin}
 use lib.ListN.{length, getD, drop, length-map, length-replicate, drop-of-length-le}
 use lib.Seq.{ext-getD, drop-cons}
 use Rattle.points.specs.Points.{each, between}
-use Rattle.points.proofs.Each.{length-each, getD-each}
+use Rattle.points.proofs.Each.{length-each, getD-each, below-or}
 use Rattle.points.proofs.Parts.{between-in}
 use Rattle.whole.specs.Whole.{roundHeld}
 use Rattle.dng.specs.declared.Window.{Window}
@@ -23,11 +23,12 @@ use Rattle.dng.specs.declared.Reading.the-variants as R
 use Rattle.dng.specs.List.{Item, readingOf, itemsOf}
 use Rattle.dng.specs.Run.{Class, Kind, u16Kind, Progress, going, marksFull, valuesFull, Room, performAll, namesOf, skipped16, takes16}
 use Rattle.dng.specs.Answer.{Out, Ran, inRange, unchanged, finished, ranOn, readOut, runOut, f32Out, u16Out}
-use Rattle.wholeform.specs.WholeForm.{widened, narrowed, atOne}
+use Rattle.wholeform.specs.WholeForm.{Below, widened, narrowed, atOne}
 use Rattle.wholeform.proofs.Pairs.{getD-map-in}
+use Rattle.pgm.specs.Pgm.{over}
 use Rattle.mend.specs.declared.Mended.{Mended}
 use Rattle.mend.specs.declared.Mended.the-variants.{Whole, Widened, NoRoom}
-use Rattle.mend.specs.Mend.{notTaken, early, MendOut, wholeOut, heldIn, roundedOut, mendOut, Rounded, Mends}
+use Rattle.mend.specs.Mend.{notTaken, early, MendOut, wholeOut, heldIn, roundedOut, mendOut, Rounded, Mends, heldAbove, HeldAbove}
 
 -- ---- turned
 
@@ -53,6 +54,66 @@ module _ (s : List Float) (i : ℕ) where
   pub held-end : length s ≤ i → heldIn (drop i s) ≡ 0
   unfolding heldIn
   held-end h = ap heldIn (drop-of-length-le s h)
+
+-- ---- above the largest value
+
+-- holding to less is holding once more
+lower : (v : Float) → roundHeld 65535 v ≡ min (roundHeld 65536 v) 65535
+unfolding roundHeld
+lower nan = refl
+lower (inf true) = refl
+lower (inf false) = refl
+lower (fin true m e) = refl
+lower (fin false m e) = omega arith
+
+at-most : (v : Float) → roundHeld 65536 v ≤ 65536
+unfolding roundHeld
+at-most nan = omega arith
+at-most (inf true) = omega arith
+at-most (inf false) = omega arith
+at-most (fin true m e) = omega arith
+at-most (fin false m e) = omega arith
+
+-- below 65535 it does not matter which of the two a value is held to
+same-above : (m : ℕ) (v : Float) → m < 65535 → ltb m (roundHeld 65535 v) ≡ ltb m (roundHeld 65536 v)
+same-above m v h =
+    below-or m (roundHeld 65536 v) (λ q. lt-ltb m (roundHeld 65535 v) (omega (arith, lower v)) ∙ sym (lt-ltb m (roundHeld 65536 v) q))
+    (λ q. le-ltb m (roundHeld 65535 v) (omega (arith, lower v)) ∙ sym (le-ltb m (roundHeld 65536 v) q))
+
+above-last : (v : Float) → eqb (roundHeld 65536 v) 65536 ≡ ltb 65535 (roundHeld 65536 v)
+above-last v =
+    below-or 65535 (roundHeld 65536 v) (λ q. eq-eqb (roundHeld 65536 v) 65536 (omega (arith, at-most v)) ∙ sym (lt-ltb 65535 (roundHeld 65536 v) q))
+    (λ q. ne-eqb (roundHeld 65536 v) 65536 (λ e. omega arith) ∙ sym (le-ltb 65535 (roundHeld 65536 v) q))
+
+-- the encoder finds all of them where maxval is below 65535
+over-narrowed : (m : ℕ) (s : List Float) → m < 65535 → over m (narrowed s) ≡ heldAbove m s
+unfolding over heldAbove
+over-narrowed m [] h = refl
+over-narrowed m (v ∷ s) h = ap₂ (λ (b : Bool) (n : ℕ). cond b 1 0 + n) (same-above m v h) (over-narrowed m s h)
+
+-- those that are held to 65535 are all where maxval is 65535
+pub held-last : (s : List Float) → heldIn s ≡ heldAbove 65535 s
+unfolding heldIn heldAbove
+held-last [] = refl
+held-last (v ∷ s) = ap₂ (λ (b : Bool) (n : ℕ). cond b 1 0 + n) (above-last v) (held-last s)
+
+-- and the encoder finds none
+none-over : (s : List ℕ) → Below 65536 s → 0 ≡ over 65535 s
+unfolding over
+none-over [] h = refl
+none-over (v ∷ s) h =
+    ap₂ (λ (b : Bool) (n : ℕ). cond b 1 0 + n) (sym (le-ltb 65535 v (let q = h 0 (omega arith) in omega arith))) (none-over s (λ i k. h (suc i) (omega arith)))
+
+module _ (m wide above : ℕ) where
+  pub by-encoder : m < 65535 → HeldAbove m wide above above
+  by-encoder h = record { rounded = λ s l w e. e ∙ over-narrowed m s h; whole = λ s l b w e. e }
+
+  pub by-rounding : 65535 ≤ m → HeldAbove m wide above wide
+  by-rounding h =
+      record {
+        rounded = λ s l w e. let last : 65535 ≡ m = omega arith in w ∙ held-last s ∙ ap (λ (n : ℕ). heldAbove n s) last;
+        whole = λ s l b w e. let last : 65535 ≡ m = omega arith in w ∙ none-over s b ∙ ap (λ (n : ℕ). over n s) last;
+      }
 
 -- ---- a run that is refused before its first opcode leaves all as it was
 

@@ -1,10 +1,10 @@
 -- What mending a frame of whole numbers gives: the whole-number run's result where that run takes the list; otherwise the samples as f32, the
 -- f32 run at scale 1, and each sample rounded to whole, half away from zero, and held to 0..65535.
-use Prim.Native.Nat.{ℕ, _+_}
+use Prim.Native.Nat.{ℕ, _+_, _≤_}
 use mathlib.Core.Bool.{Bool, true, false, cond}
 use mathlib.Core.List.{List, [], _∷_}
 use mathlib.Core.Path.{_≡_}
-use lib.Dec.{leb, eqb}
+use lib.Dec.{leb, ltb, eqb}
 use lib.Ieee.{Float}
 use lib.ListN.{length, replicate}
 use Rattle.whole.specs.Whole.{roundHeld}
@@ -15,7 +15,8 @@ use Rattle.dng.specs.declared.Answer.the-variants as Ans
 use Rattle.dng.specs.Value.{nought}
 use Rattle.dng.specs.Run.{Room}
 use Rattle.dng.specs.Answer.{Out, f32Out, u16Out, numbersOf as paper, wholeFrame}
-use Rattle.wholeform.specs.WholeForm.{widened, narrowed, atOne}
+use Rattle.wholeform.specs.WholeForm.{Below, widened, narrowed, atOne}
+use Rattle.pgm.specs.Pgm.{over}
 use Rattle.mend.specs.declared.Mended.{Mended}
 use Rattle.mend.specs.declared.Mended.the-variants.{Whole, Widened, NoRoom}
 
@@ -100,3 +101,17 @@ pub record Mends (o : MendOut) (room : Room) (r : Mended) (samples names marks :
 pub record MendsClear (o : MendOut) (room : Room) (n : ℕ) (r : Mended) (samples : List ℕ) (wide : List Float) (names marks : List ℕ) (values : List Float) : Type 0 where
   pub mended : Mends o room r samples names marks values
   pub wideClear : wide ≡ replicate n nought
+
+-- ---- how many samples of a result are above the largest value of the file that it is written to
+
+-- how many values are above maxval once rounded; heldIn is this at 65535. A value held to 65536 is still above every maxval up to 65535.
+unfoldable pub heldAbove : (maxval : ℕ) → List Float → ℕ
+heldAbove maxval [] = 0
+heldAbove maxval (v ∷ s) = cond (ltb maxval (roundHeld 65536 v)) 1 0 + heldAbove maxval s
+
+-- What r is, from how many samples were above 65535 when they were rounded back, `wide`, and how many of the u16 samples the encoder found above
+-- maxval, `above`: every sample above maxval counts, and none twice, though one that was held to 65535 may be in both counts.
+pub record HeldAbove (maxval wide above r : ℕ) : Type 0 where
+  pub rounded : (s : List Float) → maxval ≤ 65535 → wide ≡ heldIn s → above ≡ over maxval (narrowed s) → r ≡ heldAbove maxval s
+  -- whole numbers, of which rounding holds none
+  pub whole : (s : List ℕ) → maxval ≤ 65535 → Below 65536 s → wide ≡ 0 → above ≡ over maxval s → r ≡ over maxval s

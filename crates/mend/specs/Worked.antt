@@ -2,7 +2,7 @@
 use Prim.Native.Nat.{ℕ}
 use mathlib.Core.Path.{_≡_, refl}
 use mathlib.Core.List.{List, [], _∷_, _++_}
-use lib.Ieee.{ofBits, ofFields, ofInt, round, units, odd, size, span, climb, mul, div, add, eq}
+use lib.Ieee.{binary32, ofBits, ofFields, ofInt, round, units, odd, size, span, climb, mul, div, add, eq}
 use lib.Count.{trailingZeros}
 use Rattle.words.specs.Words.{big}
 use Rattle.points.specs.Points.{each}
@@ -19,7 +19,7 @@ use Rattle.dng.specs.Answer.{inRange, ranOn, runOut}
 use Rattle.dng.specs.Frames.{words, entry}
 use Rattle.mend.specs.declared.Mended.{Mended}
 use Rattle.mend.specs.declared.Mended.the-variants.{Whole, Widened, NoRoom}
-use Rattle.mend.specs.Mend.{MendOut, heldIn, mendOut}
+use Rattle.mend.specs.Mend.{MendOut, heldIn, mendOut, heldAbove}
 
 abbrev constant : ℕ → List ℕ
 constant c = entry 4 (words (c ∷ 0 ∷ []))
@@ -64,7 +64,10 @@ pub record Worked : Type 0 where
   pub full :
       mendOut (frame 3) 1 (record { marks = 0; values = 0 }) 3 (words (2 ∷ []) ++ (halved ++ constant 0)) (1 ∷ 0 ∷ 5 ∷ []) []
       ≡ out (Widened (Ans.Marks 1) 0) (1 ∷ 0 ∷ 3 ∷ [])
+  -- at 65535 the one that was held to it; at 200 two, of which one was held to 65535 first; 65600.0, 300.0 and 7.0 by their bits
+  pub above-last : heldAbove 65535 (ofBits binary32 0x4780_2000 ∷ []) ≡ 1
+  pub above : heldAbove 200 (ofBits binary32 0x4396_0000 ∷ ofBits binary32 0x4780_2000 ∷ ofBits binary32 0x40e0_0000 ∷ []) ≡ 2
 
 pub worked : Worked
-unfolding mendOut heldIn big each selects onColumns roundHeld readingOf itemsOf counted readFrom stepAt nextAt parsedAt countedAt onRegion onWindow inWindow active wholePixel nth scaled anyBelow countBelow complete badValue marksOf moved sound tallyOn repairAt soundOn markedIn repairedIn leftIn namesOf takes16On takes16From repairOn performAll inRange ranOn runOut ofBits ofFields odd trailingZeros ofInt round units size span climb mul div add eq
-worked = record { whole = refl; twice = refl; halves = refl; held = refl; no-room = refl; malformed = refl; full = refl }
+unfolding mendOut heldIn heldAbove big each selects onColumns roundHeld readingOf itemsOf counted readFrom stepAt nextAt parsedAt countedAt onRegion onWindow inWindow active wholePixel nth scaled anyBelow countBelow complete badValue marksOf moved sound tallyOn repairAt soundOn markedIn repairedIn leftIn namesOf takes16On takes16From repairOn performAll inRange ranOn runOut ofBits ofFields odd trailingZeros ofInt round units size span climb mul div add eq
+worked = record { whole = refl; twice = refl; halves = refl; held = refl; no-room = refl; malformed = refl; full = refl; above-last = refl; above = refl }

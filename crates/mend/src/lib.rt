@@ -10,7 +10,7 @@ ghost use lib.ListN.{length, replicate};
 ghost use Rattle.dng.specs.Value.{nought};
 ghost use Rattle.dng.specs.Answer.{f32Out};
 ghost use Rattle.wholeform.specs.WholeForm.{widened, narrowed, atOne};
-ghost use Rattle.mend.specs.Mend.{notTaken, numbersOf, wholeMended, heldIn, mendOut, Rounded, Mends, MendsClear};
+ghost use Rattle.mend.specs.Mend.{notTaken, numbersOf, wholeMended, heldIn, mendOut, Rounded, Mends, MendsClear, HeldAbove};
 
 // What mending answers.
 pub enum Mended {
@@ -220,4 +220,13 @@ pub fn is_whole(m: Mended) -> bool
         Mended::Widened { answer, held: _ } => answers::whole_frame(answer),
         Mended::NoRoom => false,
     }
+}
+
+// How many samples of a result are above maxval: `wide` of them were held to 65535 as they were rounded back, `over` of the u16 samples were
+// held to maxval as they were encoded. A sample that was held to 65535 is above any smaller maxval, so the encoder has it too; at 65535 the
+// encoder counts none.
+pub fn held_above(maxval: usize, wide: usize, over: usize) -> usize
+    ensures { λ r. ⌜ HeldAbove maxval wide over r ⌝ }
+{
+    if maxval < 65535 { over } else { wide }
 }
