@@ -13,7 +13,7 @@ use Rattle.sorts.proofs.Occ.{below-or, equal-or, occ-some, none-has, rises-plac
 use Rattle.dng.specs.declared.Window.{Window}
 use Rattle.dng.specs.Repair.{moved}
 use Rattle.means.proofs.Moving.{moved-none, moved-on, moved-out, moved-back}
-use Rattle.means.specs.Looks.{Asks, marked, Under, Over, Free, LoneOn, Lone}
+use Rattle.means.specs.Looks.{Asks, marked, Reached, Under, Over, Free, LoneOn, Lone}
 
 module _ (marks : List ℕ) (n : ℕ) (held : n ≤ length marks) (rises : Rises 0 (take n marks)) where
   long : length (take n marks) ≡ n
@@ -151,3 +151,31 @@ lone-mark marks n w period i q far least lo hi h k e f eleast elo ehi wide u o a
       above = λ t a b. above t (omega (arith, e, f, elo, a)) (omega (arith, e, f, ehi, b));
       below = λ t a b. below t (omega (arith, e, f, a, wide)) (omega (arith, e, f, b));
     })
+
+-- ---- the places that move on with the marks
+
+-- the entries from `from` up to `at` are below lo
+pub record Passing (marks : List ℕ) (n from lo at : ℕ) : Type 0 where
+  pub on : from ≤ at
+  pub within : from ≤ n → at ≤ n
+  pub stays : n ≤ from → at ≡ from
+  pub passed : (j : ℕ) → from ≤ j → j < at → getD marks j 0 < lo
+
+pub pass-start : (marks : List ℕ) (n from lo : ℕ) → Passing marks n from lo from
+pass-start marks n from lo = record { on = le-refl from; within = λ h. h; stays = λ h. refl; passed = λ j h k. absurd (omega arith) }
+
+module _ {marks : List ℕ} {n from lo at : ℕ} (k : Passing marks n from lo at) where
+  pub pass-on : at < n → getD marks at 0 < lo → Passing marks n from lo (at + 1)
+  pass-on h l =
+      record {
+        on = omega (arith, k .on);
+        within = λ m. omega arith;
+        stays = λ m. absurd (omega (arith, k .on));
+        passed = λ j m o. equal-or j at (λ e. subst (λ (z : ℕ). getD marks z 0 < lo) (sym e) l) (λ d. k .passed j m (omega arith));
+      }
+
+  pub pass-stop : lo ≤ getD marks at 0 → Reached marks n from lo at
+  pass-stop l = record { on = k .on; within = k .within; stays = k .stays; passed = k .passed; stops = λ h. l }
+
+  pub pass-end : n ≤ at → Reached marks n from lo at
+  pass-end h = record { on = k .on; within = k .within; stays = k .stays; passed = k .passed; stops = λ l. absurd (omega arith) }

@@ -10,7 +10,7 @@ ghost use Rattle.convert.specs.Convert.{wholeIn};
 ghost use Rattle.dng.specs.Repair.{sampleAt, steps, moved, soundOn, tallyAt, meanOf};
 ghost use Rattle.marks.specs.Marks.{Fits};
 ghost use Rattle.sorts.specs.Sorts.{Rises};
-ghost use Rattle.means.specs.Looks.{Asks, Looks, Stands, Inside, none, Lone, Under, Over, Free, tallyOf, marked, pairOf, oneStep, openAt, soundOf};
+ghost use Rattle.means.specs.Looks.{Asks, Looks, Stands, Inside, none, Lone, Reached, Under, Over, Free, tallyOf, marked, pairOf, oneStep, openAt, soundOf};
 use dng::Window;
 
 // One step to a neighbour, in columns and rows of the period.
@@ -125,6 +125,7 @@ fn mark(marks: &[u32], i: usize) -> usize
 // The first entry at or after `from` that is not below lo, or where that passed the first n.
 fn onward(marks: &[u32], n: usize, from: usize, lo: usize) -> usize
     requires { ⌜ n ≤ length (now marks) ⌝ }
+    ensures { λ r. ⌜ Reached (now (marks .entry)) n from lo r ⌝ }
 {
     let mut at = from;
     while at < n {
@@ -136,9 +137,10 @@ fn onward(marks: &[u32], n: usize, from: usize, lo: usize) -> usize
     at
 }
 
-// Where the neighbours of mark i in the row above would stand among the marks, sought from an earlier answer on. Only speed depends on it.
+// Where the neighbours of mark i in the row above would stand among the marks, sought from an earlier answer on. A hint: only speed depends on it.
 pub fn above_from(marks: &[u32], n: usize, w: Window, period: usize, i: usize, from: usize) -> usize
     requires { ⌜ (i < n) × Asks (now marks) n w period (getD (now marks) i 0 % w .width) (getD (now marks) i 0 / w .width) ⌝ }
+    ensures { λ r. ⌜ Reached (now (marks .entry)) n from (getD (now (marks .entry)) i 0 - (period * w .width + period)) r ⌝ }
 {
     let q = mark(marks, i);
     let lo = less(q, reach(w, period) + period);
@@ -148,6 +150,7 @@ pub fn above_from(marks: &[u32], n: usize, w: Window, period: usize, i: usize, f
 // The same of the row below.
 pub fn below_from(marks: &[u32], n: usize, w: Window, period: usize, i: usize, from: usize) -> usize
     requires { ⌜ (i < n) × Asks (now marks) n w period (getD (now marks) i 0 % w .width) (getD (now marks) i 0 / w .width) ⌝ }
+    ensures { λ r. ⌜ Reached (now (marks .entry)) n from (getD (now (marks .entry)) i 0 + period * w .width - period) r ⌝ }
 {
     let q = mark(marks, i);
     let lo = q + reach(w, period) - period;

@@ -53,11 +53,14 @@ fn full(n: usize, w: Window) -> bool
 
 // ---- the samples
 
-// Where the samples of position q start.
+// Where the samples of position q start. Where no gap lies between the rows, that takes no division.
 fn first(w: Window, q: usize) -> usize
     requires { ⌜ Fits w × (q < positions w) ⌝ }
     ensures { λ r. ⌜ r ≡ pixelOf w q ⌝ }
 {
+    if w.stride == w.width {
+        return q * w.planes;
+    }
     scan::place(w, q % w.width, q / w.width, 0)
 }
 

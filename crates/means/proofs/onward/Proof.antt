@@ -1,24 +1,25 @@
--- `means::onward` meets its contract: it reads among the first n. Its answer is a hint that no proof rests on. Assumes nothing.
+-- `means::onward` meets its contract: what it has passed is below lo. Assumes nothing.
 use Prim.Native.Nat.{_-_}
+use mathlib.Core.Path.{sym}
 use native.Mathlib.Omega.{arith}
-use borrow.Author.Needs.{needs}
+use Rattle.means.proofs.Apart.{Passing, pass-start, pass-on, pass-stop, pass-end}
 use Rattle.means.proofs.onward.Statement.{statement}
 use Rattle.means.proofs.onward.Tie as tie
 
 abbrev Inv-loop : tie.InvT-loop
-Inv-loop marks n from lo at₀ at = Unit
+Inv-loop marks n from lo at₀ at = Passing marks n from lo at
 
 abbrev μ-loop : tie.MeasureT-loop
 μ-loop marks n from lo at₀ at = n - at
 
 loop-holds : tie.Need-loop-holds Inv-loop μ-loop
-loop-holds c = tt
+loop-holds c = pass-start _ _ _ _
 
 mark-requires : tie.Need-mark-requires Inv-loop μ-loop
 mark-requires c κs = omega (arith, c .before .before .before .pre)
 
 returns : tie.Need-returns Inv-loop μ-loop
-returns c = search needs
+returns c = pass-stop (c .before .before .before .loop .inv) (rw (sym (c .before .mark .ensures .0)) (c .if1 .taken))
 
 add-at : tie.Need-add-at Inv-loop μ-loop
 add-at c = omega arith
@@ -27,10 +28,10 @@ loop-less : tie.Need-loop-less Inv-loop μ-loop
 loop-less c = omega arith
 
 loop-again : tie.Need-loop-again Inv-loop μ-loop
-loop-again c = tt
+loop-again c = pass-on (c .before .before .before .loop .inv) (c .before .before .loop-test .taken) (rw (sym (c .before .mark .ensures .0)) (c .if1 .left))
 
 returns-2 : tie.Need-returns-2 Inv-loop μ-loop
-returns-2 c = search needs
+returns-2 c = pass-end (c .before .loop .inv) (c .loop-test .left)
 
 pub onward-spec : {M : Type 1} → statement M
 onward-spec = tie.close (tie.spec Inv-loop μ-loop loop-holds mark-requires returns add-at loop-less loop-again returns-2)

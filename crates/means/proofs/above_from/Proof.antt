@@ -1,0 +1,35 @@
+-- `means::above_from` meets its contract: the first of the three above is where the search goes on to. Assumes nothing.
+use Prim.Native.Nat.{ℕ, _+_, _-_, _*_}
+use mathlib.Core.Path.{_≡_, refl, ap₂, subst, _∙_}
+use native.Mathlib.Omega.{arith}
+use borrow.Author.Needs.{needs}
+use lib.ListN.{getD}
+use Rattle.means.specs.Looks.{Reached}
+use Rattle.means.proofs.above_from.Statement.{statement}
+use Rattle.means.proofs.above_from.Tie as tie
+
+mark-requires : tie.Need-mark-requires
+mark-requires c κs = search needs
+
+reach-requires : tie.Need-reach-requires
+reach-requires c κs = search needs
+
+add-less : tie.Need-add-less
+add-less c = search needs
+
+less-requires : tie.Need-less-requires
+less-requires c κs = search needs
+
+onward-requires : tie.Need-onward-requires
+onward-requires c κs = search needs
+
+returns : tie.Need-returns
+returns c =
+    let l = c .before in
+    let a = l .before .before .before .before .args in
+    let first : l .less .result ≡ getD (a .marks .now) (a .i) 0 - (a .period * a .w .width + a .period) =
+    l .less .ensures ∙ ap₂ _-_ (l .before .before .mark .ensures .0) (ap₂ _+_ (l .before .reach .ensures .0) refl) in
+    subst (λ (z : ℕ). Reached (a .marks .now) (a .n) (a .from) z (c .onward .result)) first (c .onward .ensures)
+
+pub above-from-spec : {M : Type 1} → statement M
+above-from-spec = tie.close (tie.spec mark-requires reach-requires add-less less-requires onward-requires returns)
