@@ -206,6 +206,47 @@ impl Work {
     }
 }
 
+// n points of a window of 2048 by 1536: by chance; or half of them in order, and then each of √n others as often as leaves so many in all, so
+// that the scratch, which has room for the distinct ones alone, is nearly full while they come.
+fn points(kind: &str, n: u32) -> Vec<u32> {
+    if kind == "points" {
+        let mut seed = 12_345u32;
+        let mut next = || {
+            seed = seed.wrapping_mul(1_664_525).wrapping_add(1_013_904_223);
+            seed >> 8
+        };
+        return (0..n).map(|_| next() % 1536 * 2048 + next() % 2048).collect();
+    }
+    let often = (1..).take_while(|f| f * f <= n).count() as u32;
+    (0..n / 2).map(|i| 2 * i).chain((1..=often).flat_map(|f| (0..=often - f).map(move |_| 2 * f + 1))).collect()
+}
+
+// One list of these points, with exactly the room that it needs.
+fn named(kind: &str, n: u32) {
+    let mut at = points(kind, n);
+    let mut b = Vec::new();
+    for x in [0, at.len() as u32, 0] {
+        word(&mut b, x);
+    }
+    for q in &at {
+        word(&mut b, q / 2048);
+        word(&mut b, q % 2048);
+    }
+    let mut list = Vec::new();
+    word(&mut list, 1);
+    entry(&mut list, 5, &b);
+    at.sort_unstable();
+    at.dedup();
+    let mut samples = vec![1.0; 2048 * 1536];
+    let (mut marks, mut values) = (vec![0; at.len()], vec![0.0; at.len()]);
+    let mut room = Room { marks: &mut marks, values: &mut values, names: &mut [] };
+    let frame = Frame::new(2048, 1536, 1).period(2);
+    mark(1);
+    let done = frame.run_f32(&list, &mut samples, &mut room).number() == 0;
+    mark(2);
+    assert!(done);
+}
+
 // A list of n opcodes of one kind over a window without bad pixels, run or read once.
 fn many(kind: &str, n: u32) {
     let (w, h) = (32, 24);
@@ -227,6 +268,7 @@ fn main() {
     if args.first().is_some_and(|a| a == "many") {
         match args.len() {
             1 => MANY.iter().for_each(|kind| println!("{kind}")),
+            _ if ["points", "repeats"].contains(&args[1].as_str()) => named(&args[1], args[2].parse().expect("how many")),
             _ => many(&args[1], args[2].parse().expect("how many")),
         }
         return;
