@@ -1,4 +1,5 @@
 pub mod Chosen
 pub mod Filling
 pub mod Joining
+pub mod Runs
 pub mod Listing

@@ -1,4 +1,4 @@
--- `marks::push` meets its contract: after a compaction, or straight behind what is held.
+-- `marks::push` meets its contract: after a compaction, or behind what is held.
 -- Assumes nothing.
 use mathlib.Core.Bool.{false}
 use mathlib.Core.Path.{refl}
@@ -17,10 +17,18 @@ compact-requires c κs = search needs
 place-requires : tie.Need-place-requires
 place-requires c κs = search needs
 
+scarce-requires : tie.Need-scarce-requires
+scarce-requires c κs = search needs
+
+add-requires : tie.Need-add-requires
+add-requires c κs =
+    let at = c .before .before .before .before .before .before in
+    (at .pre .0, (omega (arith, at .pre .0 .fits, c .before .before .before .before .due .ensures (c .before .before .before .if1 .left)), at .pre .1))
+
 append-requires : tie.Need-append-requires
 append-requires c κs =
-    let at = c .before .before .before .before in
-    (at .pre .0, (omega (arith, at .pre .0 .fits, c .before .before .due .ensures (c .before .if1 .left)), at .pre .1))
+    let at = c .before .before .before .before .before .before in
+    (at .pre .0, (omega (arith, at .pre .0 .fits, c .before .before .before .before .due .ensures (c .before .before .before .if1 .left)), at .pre .1))
 
 same-length : tie.Need-same-length
 same-length c = search needs
@@ -38,6 +46,12 @@ same-length-2 c = search needs
 returns-2 : tie.Need-returns-2
 returns-2 c = search needs
 
+same-length-3 : tie.Need-same-length-3
+same-length-3 c = search needs
+
+returns-3 : tie.Need-returns-3
+returns-3 c = search needs
+
 pub push-spec : {M : Type 1} → statement M
 push-spec =
     tie.close
@@ -45,8 +59,12 @@ push-spec =
     due-requires
     compact-requires
     place-requires
-    append-requires
     same-length
     returns
+    scarce-requires
+    add-requires
+    append-requires
     same-length-2
-    returns-2)
+    returns-2
+    same-length-3
+    returns-3)
