@@ -6,7 +6,7 @@ use native.Mathlib.Omega.{arith}
 use mathlib.Core.Bool.{Bool, true, false, not, _&&_, cond}
 use lib.Arith.{le→nltb}
 use lib.Dec.{T, leb, leb→le, nleb→lt, nltb→le}
-use lib.Ieee.{Float, nan, inf, fin, Format, binary32, binary64, up, down, hid, ones, top, fits, isNan, ne, nanBits, ofBits, toBits}
+use lib.Ieee.{Float, nan, inf, fin, Format, binary32, binary64, up, down, hid, ones, top, fits, isNan, lt, ne, nanBits, ofBits, toBits}
 use lib.Ieee.Bits.{ofBits-toBits, toBits-lt, nanBits-is, nanBits-above}
 use lib.Ieee.Fits.{and-i, inf-fits, nan-fits, round-fits}
 use Rattle.narrow.specs.Narrow.{narrow}
@@ -18,6 +18,12 @@ unfolding ne isNan
 not-nan nan e = subst T e tt
 not-nan (inf s) e = tt
 not-nan (fin s m d) e = tt
+
+pub above-nought : (x : Float) → lt (ofBits binary64 0) x ≡ true → T (not (isNan x))
+unfolding lt isNan ofBits
+above-nought nan e = subst T (sym e) tt
+above-nought (inf s) e = tt
+above-nought (fin s m d) e = tt
 
 -- a pattern that without its sign is at most an infinity's is no NaN's
 pub no-nan : (f : Format) (n : ℕ) → n % top f ≤ ones f * hid f → T (not (nanBits f n))
@@ -54,40 +60,28 @@ signed b h = go (leb (2 ^ 63) b) (leb→le (2 ^ 63) b) (nleb→lt (2 ^ 63) b)
         let k = less b (g tt) in
         (k .0, k .1, zero-add (rounded (b % 2 ^ 63)) ∙ ap rounded (k .2))
 
-module _ (x : Float) (held : T (fits binary64 x)) (real : T (not (isNan x))) where
-  abbrev b : ℕ
-  b = toBits binary64 x
-
+module _ (b : ℕ) (below : b < 2 ^ 64) where
   abbrev a : ℕ
   a = b % 2 ^ 63
 
   abbrev s : Bool
   s = leb (2 ^ 63) b
 
-  pub below : b < 2 ^ 64
-  below = toBits-lt binary64 x held
-
   parts : Signed b s
   parts = signed b below
 
-  back : from64 s a ≡ x
-  back = ap (ofBits binary64) (parts .0) ∙ ofBits-toBits binary64 x held
-
-  pub at-most : a ≤ 0x7ff0_0000_0000_0000
-  at-most =
-      nltb→le 0x7ff0_0000_0000_0000 a
-      (subst (λ (t : Bool). T (not t))
-      (sym (sym (nanBits-above binary64 b) ∙ nanBits-is binary64 b ∙ ap isNan (ofBits-toBits binary64 x held))) real)
+  back : from64 s a ≡ ofBits binary64 b
+  back = ap (ofBits binary64) (parts .0)
 
   -- the pattern of an f32 without the sign, and the sign put back
-  pub by-sign : (r : ℕ) → ((t : Bool) → from32 t r ≡ narrow (from64 t a)) → ofBits binary32 (b / 2 ^ 63 * 2 ^ 31 + r) ≡ narrow x
+  pub by-sign : (r : ℕ) → ((t : Bool) → from32 t r ≡ narrow (from64 t a)) → ofBits binary32 (b / 2 ^ 63 * 2 ^ 31 + r) ≡ narrow (ofBits binary64 b)
   by-sign r h = ap (λ (z : ℕ). ofBits binary32 (z + r)) (sym (parts .1)) ∙ h s ∙ ap narrow back
 
   module _ (lo : 0x3810_0000_0000_0000 ≤ a) (hi : a < 0x47ef_ffff_f000_0000) where
-    pub by-rounding : ofBits binary64 (rounded b) ≡ narrow x
+    pub by-rounding : ofBits binary64 (rounded b) ≡ narrow (ofBits binary64 b)
     by-rounding = ap (ofBits binary64) (sym (parts .2)) ∙ to-normal a lo hi s ∙ ap narrow back
 
-    rounded-real : T (not (nanBits binary64 (rounded b)))
+    pub rounded-real : T (not (nanBits binary64 (rounded b)))
     rounded-real =
         no-nan binary64 (rounded b) (subst (λ (z : ℕ). z % 2 ^ 63 ≤ 0x7ff0_0000_0000_0000) (parts .2) (rest s (rounded a) (under a hi)))
       where
@@ -102,5 +96,22 @@ module _ (x : Float) (held : T (fits binary64 x)) (real : T (not (isNan x))) whe
     pub rounded-fits : T (fits binary32 (ofBits binary64 (rounded b)) && not (isNan (ofBits binary64 (rounded b))))
     rounded-fits =
         and-i (fits binary32 (ofBits binary64 (rounded b))) (not (isNan (ofBits binary64 (rounded b))))
-        (subst (λ (y : Float). T (fits binary32 y)) (sym by-rounding) (narrow-fits x))
+        (subst (λ (y : Float). T (fits binary32 y)) (sym by-rounding) (narrow-fits (ofBits binary64 b)))
         (subst (λ (t : Bool). T (not t)) (nanBits-is binary64 (rounded b)) rounded-real)
+
+-- ---- the bits of an f64 x
+
+module _ (x : Float) (held : T (fits binary64 x)) where
+  pub below : toBits binary64 x < 2 ^ 64
+  below = toBits-lt binary64 x held
+
+  pub of-its-bits : narrow (ofBits binary64 (toBits binary64 x)) ≡ narrow x
+  of-its-bits = ap narrow (ofBits-toBits binary64 x held)
+
+  pub at-most : T (not (isNan x)) → toBits binary64 x % 2 ^ 63 ≤ 0x7ff0_0000_0000_0000
+  at-most real =
+      nltb→le 0x7ff0_0000_0000_0000 (toBits binary64 x % 2 ^ 63)
+      (subst (λ (t : Bool). T (not t))
+      (sym
+      (sym (nanBits-above binary64 (toBits binary64 x)) ∙ nanBits-is binary64 (toBits binary64 x) ∙ ap isNan (ofBits-toBits binary64 x held)))
+      real)
