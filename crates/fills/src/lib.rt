@@ -163,9 +163,9 @@ pub fn fill_f32(
     let mut down = 0;
     let mut i = 0;
     while i < n {
-        up = means::above_from(marks, n, w, step, i, up);
-        down = means::below_from(marks, n, w, step, i, down);
-        let lone = means::alone(marks, n, w, step, i, up, down);
+        up = lone::above_from(marks, n, w, step, i, up);
+        down = lone::below_from(marks, n, w, step, i, down);
+        let lone = lone::alone(marks, n, w, step, i, up, down);
         if mends_told(marks, n, w, step, i, lone) {
             pixel_f32(
                 samples,
@@ -207,9 +207,9 @@ pub fn fill_u16(
     let mut down = 0;
     let mut i = 0;
     while i < n {
-        up = means::above_from(marks, n, w, step, i, up);
-        down = means::below_from(marks, n, w, step, i, down);
-        let lone = means::alone(marks, n, w, step, i, up, down);
+        up = lone::above_from(marks, n, w, step, i, up);
+        down = lone::below_from(marks, n, w, step, i, down);
+        let lone = lone::alone(marks, n, w, step, i, up, down);
         if mends_told(marks, n, w, step, i, lone) {
             pixel_u16(
                 samples,

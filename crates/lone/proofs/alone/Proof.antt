@@ -1,10 +1,10 @@
--- `means::alone` meets its contract: its own row on both sides, and the rows above and below. Assumes nothing.
+-- `lone::alone` meets its contract: its own row on both sides, and the rows above and below. Assumes nothing.
 use mathlib.Core.Bool.{false≢true}
 use borrow.Author.Needs.{needs}
 use borrow.Author.Tests.{not-false}
-use Rattle.means.proofs.Apart.{lone-mark}
-use Rattle.means.proofs.alone.Statement.{statement}
-use Rattle.means.proofs.alone.Tie as tie
+use Rattle.lone.proofs.Apart.{lone-mark}
+use Rattle.lone.proofs.alone.Statement.{statement}
+use Rattle.lone.proofs.alone.Tie as tie
 
 mark-requires : tie.Need-mark-requires
 mark-requires c κs = search needs

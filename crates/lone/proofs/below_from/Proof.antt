@@ -1,12 +1,12 @@
--- `means::below_from` meets its contract: the first of the three below is where the search goes on to. Assumes nothing.
+-- `lone::below_from` meets its contract: the first of the three below is where the search goes on to. Assumes nothing.
 use Prim.Native.Nat.{ℕ, _+_, _-_, _*_}
 use mathlib.Core.Path.{_≡_, refl, ap₂, subst}
 use native.Mathlib.Omega.{arith}
 use borrow.Author.Needs.{needs}
 use lib.ListN.{getD}
-use Rattle.means.specs.Looks.{Reached}
-use Rattle.means.proofs.below_from.Statement.{statement}
-use Rattle.means.proofs.below_from.Tie as tie
+use Rattle.lone.specs.Beside.{Reached}
+use Rattle.lone.proofs.below_from.Statement.{statement}
+use Rattle.lone.proofs.below_from.Tie as tie
 
 mark-requires : tie.Need-mark-requires
 mark-requires c κs = search needs

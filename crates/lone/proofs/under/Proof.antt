@@ -1,12 +1,12 @@
--- `means::under` meets its contract: the marks ascend. Assumes nothing.
+-- `lone::under` meets its contract: the marks ascend. Assumes nothing.
 use mathlib.Core.Path.{subst}
 use Prim.Native.Nat.{ℕ, _<_}
 use native.Mathlib.Omega.{arith}
 use borrow.Author.Needs.{needs}
 use borrow.Author.Tests.{ltb-true}
-use Rattle.means.proofs.Apart.{under-from}
-use Rattle.means.proofs.under.Statement.{statement}
-use Rattle.means.proofs.under.Tie as tie
+use Rattle.lone.proofs.Apart.{under-from}
+use Rattle.lone.proofs.under.Statement.{statement}
+use Rattle.lone.proofs.under.Tie as tie
 
 returns : tie.Need-returns
 returns c = search needs

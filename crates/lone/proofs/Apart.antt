@@ -12,8 +12,9 @@ use Rattle.sorts.specs.Sorts.{occ, Rises}
 use Rattle.sorts.proofs.Occ.{below-or, equal-or, occ-some, none-has, rises-places}
 use Rattle.dng.specs.declared.Window.{Window}
 use Rattle.dng.specs.Repair.{moved}
 use Rattle.means.proofs.Moving.{moved-none, moved-on, moved-out, moved-back}
-use Rattle.means.specs.Looks.{Asks, marked, Reached, Under, Over, Free, LoneOn, Lone}
+use Rattle.means.specs.Looks.{Asks, marked, LoneOn, Lone}
+use Rattle.lone.specs.Beside.{Reached, Under, Over, Free}
 
 module _ (marks : List ℕ) (n : ℕ) (held : n ≤ length marks) (rises : Rises 0 (take n marks)) where
   long : length (take n marks) ≡ n

@@ -1,10 +1,10 @@
--- `means::reach` meets its contract: at most 2^16 rows of at most 2^16 columns. Assumes nothing.
+-- `lone::reach` meets its contract: at most 2^16 rows of at most 2^16 columns. Assumes nothing.
 use Prim.Native.Nat.{ℕ, _*_, _≤_}
 use native.Mathlib.Nat.{le-trans, mul-le-mul-left, mul-le-mul-right}
 use native.Mathlib.Omega.{arith}
 use mathlib.Core.Path.{refl}
-use Rattle.means.proofs.reach.Statement.{statement}
-use Rattle.means.proofs.reach.Tie as tie
+use Rattle.lone.proofs.reach.Statement.{statement}
+use Rattle.lone.proofs.reach.Tie as tie
 
 bounded : (a b : ℕ) → a ≤ 65536 → b ≤ 65536 → a * b ≤ 4294967296
 bounded a b h k = le-trans (mul-le-mul-right b h) (mul-le-mul-left 65536 k)
