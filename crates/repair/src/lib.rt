@@ -71,11 +71,12 @@ fn row_of(q: usize, width: usize, m: usize) -> usize
     if q - e * width < width { e } else { e + 1 }
 }
 
-// Where the samples of position q start. Where no gap lies between the rows, its row is not needed.
-fn first(w: Window, m: usize, q: usize) -> usize
-    requires { ⌜ Fits w × ((m ≡ 2 ^ 32 / w .width) × (q < positions w)) ⌝ }
-    ensures { λ r. ⌜ r ≡ pixelOf w q ⌝ }
+// Where the samples of mark i start. Where no gap lies between the rows, its row is not needed.
+fn first(marks: &[u32], i: usize, w: Window, m: usize) -> usize
+    requires { ⌜ Fits w × ((m ≡ 2 ^ 32 / w .width) × ((i < length (now marks)) × (getD (now marks) i 0 < positions w))) ⌝ }
+    ensures { λ r. ⌜ r ≡ pixelOf w (getD (now (marks .entry)) i 0) ⌝ }
 {
+    let q = marks[i] as usize;
     if w.stride == w.width {
         return q * w.planes;
     }
@@ -135,7 +136,7 @@ fn write_f32(
     let mut i = 0;
     while i < n {
         if fills::mends_of(marks, n, w, step, i, repaired) {
-            let from = first(w, m, marks[i] as usize);
+            let from = first(marks, i, w, m);
             put_f32(samples, from, w.planes, values, at);
             at += w.planes;
             i += 1;
@@ -170,7 +171,7 @@ fn write_u16(
     let mut i = 0;
     while i < n {
         if fills::mends_of(marks, n, w, step, i, repaired) {
-            let from = first(w, m, marks[i] as usize);
+            let from = first(marks, i, w, m);
             put_u16(samples, from, w.planes, values, at);
             at += w.planes;
             i += 1;
