@@ -19,7 +19,7 @@ module _ (b d q m : ℕ) (some : 1 ≤ d) (h : q < b) (e : m ≡ b / d) where
       let part : m ≤ b = omega (arith, e, div-le-self b d) in
       lt-of-le-of-lt (mul-le-mul-left q part) (mul-lt-mul-of-pos-right h (omega arith))
 
-  -- m · d is at most b, and less than d below it
+  -- m · d is at most b, and at most d below it
   part-low : m * d ≤ b
   part-low = rw e (div-mul-le-self b d)
 
