@@ -79,6 +79,10 @@ module _ (w : Window) (f : Fits w) (q : ℕ) (h : q < positions w) where
 pub position-is : (w : Window) (q : ℕ) → q / w .width * w .width + q % w .width ≡ q
 position-is w q = div-add-mod' q (w .width)
 
+-- and what is left of it behind its row is the column
+pub column-is : (w : Window) (q y : ℕ) → y ≡ q / w .width → (y * w .width ≤ q) × (q - y * w .width ≡ q % w .width)
+column-is w q y e = let whole : y * w .width + q % w .width ≡ q = rw e (position-is w q) in (omega arith, omega arith)
+
 -- ---- a sample
 
 -- plane k of column x and row y

@@ -1,7 +1,7 @@
 // The repairs over a window, f32 and u16: marks into the u32 scratch, new values into the f32 scratch, then the samples.
 ghost use mathlib.Core.Path.{_≡_};
 ghost use mathlib.Core.Bool.{true};
-ghost use Prim.Native.Nat.{_+_, _-_, _*_, _/_, _%_, _≤_, _<_};
+ghost use Prim.Native.Nat.{_+_, _-_, _*_, _/_, _%_, _^_, _≤_, _<_};
 ghost use lib.Ieee.{nan, binary32};
 ghost use lib.ListN.{length, getD};
 ghost use Rattle.convert.specs.Convert.{wholeIn};
@@ -53,15 +53,35 @@ fn full(n: usize, w: Window) -> bool
 
 // ---- the samples
 
-// Where the samples of position q start. Where no gap lies between the rows, that takes no division.
-fn first(w: Window, q: usize) -> usize
-    requires { ⌜ Fits w × (q < positions w) ⌝ }
-    ensures { λ r. ⌜ r ≡ pixelOf w q ⌝ }
+// A width's reciprocal, in parts of 2^32.
+fn reciprocal(w: Window) -> usize
+    requires { ⌜ Fits w ⌝ }
+    ensures { λ r. ⌜ r ≡ 2 ^ 32 / w .width ⌝ }
 {
+    4294967296 / w.width
+}
+
+// How many rows of `width` positions lie before q, by the width's reciprocal m: the product is the row or one less, so that no
+// division is taken for a mark.
+fn row_of(q: usize, width: usize, m: usize) -> usize
+    requires { ⌜ (1 ≤ width) × ((q < 2 ^ 32) × (m ≡ 2 ^ 32 / width)) ⌝ }
+    ensures { λ r. ⌜ r ≡ q / width ⌝ }
+{
+    let e = q * m / 4294967296;
+    if q - e * width < width { e } else { e + 1 }
+}
+
+// Where the samples of mark i start. Where no gap lies between the rows, its row is not needed.
+fn first(marks: &[u32], i: usize, w: Window, m: usize) -> usize
+    requires { ⌜ Fits w × ((m ≡ 2 ^ 32 / w .width) × ((i < length (now marks)) × (getD (now marks) i 0 < positions w))) ⌝ }
+    ensures { λ r. ⌜ r ≡ pixelOf w (getD (now (marks .entry)) i 0) ⌝ }
+{
+    let q = marks[i] as usize;
     if w.stride == w.width {
         return q * w.planes;
     }
-    scan::place(w, q % w.width, q / w.width, 0)
+    let y = row_of(q, w.width, m);
+    scan::place(w, q - y * w.width, y, 0)
 }
 
 // A pixel's new values into its samples.
@@ -111,11 +131,12 @@ fn write_f32(
         ⌜ now (samples .exit)
         ≡ each (repairAt nan (λ u. u) (λ u. u) w step (marked (now (marks .entry)) n) (now (samples .entry))) (now (samples .entry)) ⌝ }
 {
+    let m = reciprocal(w);
     let mut at = 0;
     let mut i = 0;
     while i < n {
         if fills::mends_of(marks, n, w, step, i, repaired) {
-            let from = first(w, marks[i] as usize);
+            let from = first(marks, i, w, m);
             put_f32(samples, from, w.planes, values, at);
             at += w.planes;
             i += 1;
@@ -145,11 +166,12 @@ fn write_u16(
         ≡ each (repairAt 0 (λ u. wholeIn binary32 u) (λ u. roundHeld 65535 u) w step (marked (now (marks .entry)) n) (now (samples .entry)))
         (now (samples .entry)) ⌝ }
 {
+    let m = reciprocal(w);
     let mut at = 0;
     let mut i = 0;
     while i < n {
         if fills::mends_of(marks, n, w, step, i, repaired) {
-            let from = first(w, marks[i] as usize);
+            let from = first(marks, i, w, m);
             put_u16(samples, from, w.planes, values, at);
             at += w.planes;
             i += 1;
