@@ -1,6 +1,6 @@
 -- The scratch while it fills: compacting keeps what is held, a placed position is held afterwards, and one that finds no room is one too many.
 -- Assumes nothing.
-use Prim.Native.Nat.{ℕ, _+_, _≤_, _<_}
+use Prim.Native.Nat.{ℕ, _+_, _-_, _≤_, _<_}
 use mathlib.Core.Path.{_≡_, refl, sym, ap, subst, _∙_}
 use mathlib.Core.Bool.{Bool, true, false, _&&_, _||_, cond, or-false}
 use mathlib.Core.List.{List, [], _∷_, _++_}
@@ -8,13 +8,13 @@ use native.Mathlib.Numerals.{add-one}
 use native.Mathlib.Omega.{arith}
 use borrow.Author.Tests.{ne-eqb, eqb-true, leb-true}
 use lib.Dec.{leb, eqb}
-use lib.ListN.{length, take, drop, set, length-set, length-append}
-use lib.Seq.{take-take, take-append-le, take-suc-set, take-set-le, length-take-le}
+use lib.ListN.{length, take, drop, set, length-set, length-drop, length-append}
+use lib.Seq.{take-take, take-add, take-at, drop-at, take-append-le, take-suc-set, take-set-le, length-take-le}
 use Rattle.dng.specs.Repair.{countBelow}
 use Rattle.marks.specs.declared.Kept.the-variants as K
-use Rattle.sorts.specs.Sorts.{occ, has, Rises, Distinct, pastAll}
-use Rattle.marks.specs.Scratch.{Front, Packed, Gains, grownTo}
-use Rattle.sorts.proofs.Occ.{by-cases, equal-or, occ-parts, occ-some, has-true, some-has, has-append, has-one, rises-more}
+use Rattle.sorts.specs.Sorts.{occ, has, Rises, Distinct, Runs, pastAll}
+use Rattle.marks.specs.Scratch.{Front, Packed, Tidied, Gains, grownTo}
+use Rattle.sorts.proofs.Occ.{by-cases, equal-or, occ-parts, occ-some, has-true, some-has, has-append, has-one, rises-more, rises-climbs}
 use Rattle.marks.proofs.Chosen.{both, too-many}
 use Rattle.sorts.proofs.Searching.{past-above}
 
@@ -53,6 +53,71 @@ packed top s n t z d k f v e =
 
     held : (q : ℕ) → has (take k (z ++ d)) q ≡ has (take t s) q
     held q = rw front (v .same q)
+
+-- ---- what stands behind the front
+
+pub tidied : (top : ℕ) (s : List ℕ) (n t : ℕ) (z : List ℕ) (m : ℕ) → Front top s n t → Distinct (take (t - n) (drop n s)) z m
+    → length z ≡ length (take (t - n) (drop n s))
+    → Tidied top s n t (take n s ++ (z ++ drop (t - n) (drop n s))) m
+tidied top s n t z m f v e =
+    record {
+      front =
+          record {
+            order = omega arith;
+            fits = omega (arith, v .within, long, length-append (take n s) (z ++ d), length-append z d);
+            rises = rw front (f .rises);
+            below = λ q h. f .below q (sym (held q) ∙ h);
+          };
+      within = omega (arith, v .within, part, f .order);
+      behind = rw (rest, first) (v .rises);
+      same = held;
+    }
+  where
+    d : List ℕ
+    d = drop (t - n) (drop n s)
+
+    long : length (take n s) ≡ n
+    long = length-take-le n s (omega (arith, f .order, f .fits))
+
+    part : length (take (t - n) (drop n s)) ≡ t - n
+    part = length-take-le (t - n) (drop n s) (omega (arith, length-drop n s, f .fits))
+
+    front : take n (take n s ++ (z ++ d)) ≡ take n s
+    front = take-at (take n s) (z ++ d) n long
+
+    rest : drop n (take n s ++ (z ++ d)) ≡ z ++ d
+    rest = drop-at (take n s) (z ++ d) n long
+
+    first : take m (z ++ d) ≡ take m z
+    first = take-append-le m z d (omega (arith, v .within))
+
+    all : n + (t - n) ≡ t
+    all = omega (arith, f .order)
+
+    held : (q : ℕ) → has (take (n + m) (take n s ++ (z ++ d))) q ≡ has (take t s) q
+    held q =
+        rw (take-add n m (take n s ++ (z ++ d)), front, rest, first, has-append (take n s) (take m z) q, v .same q)
+        (sym (has-append (take n s) (take (t - n) (drop n s)) q) ∙ ap (λ (l : List ℕ). has l q) (sym (take-add n (t - n) s)) ∙ ap
+        (λ (k : ℕ). has (take k s) q) all)
+
+module _ (top : ℕ) (s : List ℕ) (n t : ℕ) (s₁ : List ℕ) (m : ℕ) (v : Tidied top s n t s₁ m) where
+  pub tidied-runs : n + m + m ≤ length s₁ → Runs n m s₁
+  tidied-runs h =
+      record { room = h; front = rises-climbs 0 (take n s₁) (v .front .rises); behind = rises-climbs 0 (take m (drop n s₁)) (v .behind) }
+
+  -- joined to the front
+  pub tidied-packed : (s₂ : List ℕ) (k : ℕ) → Distinct (take (n + m) s₁) s₂ k → length s₂ ≡ length s₁ → Packed top s t s₂ k
+  tidied-packed s₂ k w e =
+      record {
+        front =
+            record {
+              order = omega arith;
+              fits = omega (arith, w .within, length-take-le (n + m) s₁ (v .front .fits), v .front .fits);
+              rises = w .rises;
+              below = λ q h. v .front .below q (sym (w .same q) ∙ h);
+            };
+        same = λ q. w .same q ∙ v .same q;
+      }
 
 -- ---- placing one position
 

@@ -14,7 +14,7 @@ use Rattle.marks.specs.declared.Kept.{Kept}
 use Rattle.marks.specs.declared.Kept.the-variants as K
 use Rattle.marks.specs.Marks.{chosen}
 use Rattle.sorts.specs.Sorts.{occ, has, Rises, Cut}
-use Rattle.marks.specs.Scratch.{Front, Packed, Gains, Joined, span}
+use Rattle.marks.specs.Scratch.{Front, Packed, Tidied, Gains, Joined, span}
 use Rattle.sorts.proofs.Occ.{equal-or, occ-parts, occ-at, occ-some, has-true, some-has, rises-take, rises-drop, rises-from, rises-places}
 use Rattle.marks.proofs.Filling.{has-more}
 use Rattle.marks.proofs.Chosen.{both, count-le, count-same, chosen-full, is-chosen}
@@ -55,6 +55,9 @@ gains-held top m s n t f h =
 
 pub gains-packed : (top : ℕ) (s : List ℕ) (t : ℕ) (s₁ : List ℕ) (k : ℕ) → Packed top s t s₁ k → Gains top (λ q. false) s t s₁ k k
 gains-packed top s t s₁ k v = record { front = v .front; same = λ q l. v .same q ∙ sym (or-false (has (take t s) q)) }
+
+pub gains-tidied : (top : ℕ) (s : List ℕ) (n t : ℕ) (s₁ : List ℕ) (m : ℕ) → Tidied top s n t s₁ m → Gains top (λ q. false) s t s₁ n (n + m)
+gains-tidied top s n t s₁ m v = record { front = v .front; same = λ q l. v .same q ∙ sym (or-false (has (take t s) q)) }
 
 -- what a step leaves that found room
 pub held-front : (top : ℕ) (m : ℕ → Bool) (s : List ℕ) (t₀ : ℕ) (s₁ : List ℕ) (r : Kept) (n t : ℕ) → r ≡ K.Held n t

@@ -1,5 +1,4 @@
 pub mod Chosen
 pub mod Filling
 pub mod Joining
-pub mod Runs
 pub mod Listing

@@ -1,3 +1,4 @@
 pub mod Occ
 pub mod Sorting
+pub mod Joining
 pub mod Searching

@@ -1,22 +1,28 @@
--- `marks::compact` meets its contract: what is held comes out packed, or ascends already.
+-- `marks::compact` meets its contract: what is held ascends already, or comes out packed, or joined.
 -- Assumes nothing.
 use mathlib.Core.Path.{sym}
 use native.Mathlib.Omega.{arith}
 use borrow.Author.Needs.{needs}
 use lib.Seq.{length-take-le}
-use Rattle.marks.proofs.Filling.{packed-all, packed}
+use Rattle.marks.proofs.Filling.{packed-all, packed, tidied-runs, tidied-packed}
 use Rattle.marks.proofs.compact.Statement.{statement}
 use Rattle.marks.proofs.compact.Tie as tie
 
 returns : tie.Need-returns
 returns c = packed-all _ _ _ _ (c .before .before .pre) (c .if1 .taken)
 
+sub-if2 : tie.Need-sub-if2
+sub-if2 c = search needs
+
+sub-if2-2 : tie.Need-sub-if2-2
+sub-if2-2 c = search needs
+
 slice-relend-prefix-pack : tie.Need-slice-relend-prefix-pack
 slice-relend-prefix-pack c = search needs
 
 slice-aggregate-pack : tie.Need-slice-aggregate-pack
 slice-aggregate-pack c =
-    let f = c .before .before .before .pre in
+    let f = c .before .before .before .before .pre in
     sym (length-take-le _ _ (omega (arith, f .order, f .fits)))
 
 pack-requires : tie.Need-pack-requires
@@ -28,15 +34,38 @@ same-length c = search needs
 returns-2 : tie.Need-returns-2
 returns-2 c =
     let pack = c .before .before .pack in
-    packed _ _ _ _ _ _ _ (c .before .before .before .before .before .before .pre) (pack .ensures) (pack .kept .0)
+    packed _ _ _ _ _ _ _ (c .before .before .before .before .before .before .before .pre) (pack .ensures) (pack .kept .0)
+
+tidy-requires : tie.Need-tidy-requires
+tidy-requires c κs = search needs
+
+join-requires : tie.Need-join-requires
+join-requires c κs =
+    let tidy = c .before .before .before .tidy in
+    tidied-runs _ _ _ _ _ _ (tidy .ensures)
+    (omega (arith, tidy .ensures .within, tidy .kept .0, c .before .before .before .before .before .if2 .left, c .before .before .before .before .before .before .before .before .pre .fits))
+
+same-length-2 : tie.Need-same-length-2
+same-length-2 c = search needs
+
+returns-3 : tie.Need-returns-3
+returns-3 c =
+    let join = c .before .before .join in
+    tidied-packed _ _ _ _ _ _ (c .before .before .before .before .before .before .tidy .ensures) _ _ (join .ensures) (join .kept .0)
 
 pub compact-spec : {M : Type 1} → statement M
 compact-spec =
     tie.close
     (tie.spec
     returns
+    sub-if2
+    sub-if2-2
     slice-relend-prefix-pack
     slice-aggregate-pack
     pack-requires
     same-length
-    returns-2)
+    returns-2
+    tidy-requires
+    join-requires
+    same-length-2
+    returns-3)
