@@ -11,30 +11,8 @@ use Rattle.marks.proofs.compact.Tie as tie
 returns : tie.Need-returns
 returns c = packed-all _ _ _ _ (c .before .before .pre) (c .if1 .taken)
 
-sub-if2 : tie.Need-sub-if2
-sub-if2 c = search needs
-
-sub-if2-2 : tie.Need-sub-if2-2
-sub-if2-2 c = search needs
-
-slice-relend-prefix-pack : tie.Need-slice-relend-prefix-pack
-slice-relend-prefix-pack c = search needs
-
-slice-aggregate-pack : tie.Need-slice-aggregate-pack
-slice-aggregate-pack c =
-    let f = c .before .before .before .before .pre in
-    sym (length-take-le _ _ (omega (arith, f .order, f .fits)))
-
-pack-requires : tie.Need-pack-requires
-pack-requires c κs = search needs
-
-same-length : tie.Need-same-length
-same-length c = search needs
-
-returns-2 : tie.Need-returns-2
-returns-2 c =
-    let pack = c .before .before .pack in
-    packed _ _ _ _ _ _ _ (c .before .before .before .before .before .before .before .pre) (pack .ensures) (pack .kept .0)
+joins-requires : tie.Need-joins-requires
+joins-requires c κs = let f = c .before .before .pre in (f .order, f .fits)
 
 tidy-requires : tie.Need-tidy-requires
 tidy-requires c κs = search needs
@@ -42,30 +20,50 @@ tidy-requires c κs = search needs
 join-requires : tie.Need-join-requires
 join-requires c κs =
     let tidy = c .before .before .before .tidy in
-    tidied-runs _ _ _ _ _ _ (tidy .ensures)
-    (omega (arith, tidy .ensures .within, tidy .kept .0, c .before .before .before .before .before .if2 .left, c .before .before .before .before .before .before .before .before .pre .fits))
+    let into = c .before .before .before .before .before in
+    let start = into .before .before .before .before in
+    let room = into .before .joins .ensures (into .if2 .taken) in
+    tidied-runs _ _ _ _ _ _ (tidy .ensures) (omega (arith, tidy .ensures .within, tidy .kept .0, room, start .pre .order, start .pre .fits))
+
+same-length : tie.Need-same-length
+same-length c = search needs
+
+returns-2 : tie.Need-returns-2
+returns-2 c =
+    let join = c .before .before .join in
+    tidied-packed _ _ _ _ _ _ (c .before .before .before .before .before .before .tidy .ensures) _ _ (join .ensures) (join .kept .0)
+
+slice-relend-prefix-pack : tie.Need-slice-relend-prefix-pack
+slice-relend-prefix-pack c = search needs
+
+slice-aggregate-pack : tie.Need-slice-aggregate-pack
+slice-aggregate-pack c =
+    let f = c .before .before .before .before .before .pre in
+    sym (length-take-le _ _ (omega (arith, f .order, f .fits)))
+
+pack-requires : tie.Need-pack-requires
+pack-requires c κs = search needs
 
 same-length-2 : tie.Need-same-length-2
 same-length-2 c = search needs
 
 returns-3 : tie.Need-returns-3
 returns-3 c =
-    let join = c .before .before .join in
-    tidied-packed _ _ _ _ _ _ (c .before .before .before .before .before .before .tidy .ensures) _ _ (join .ensures) (join .kept .0)
+    let pack = c .before .before .pack in
+    packed _ _ _ _ _ _ _ (c .before .before .before .before .before .before .before .before .pre) (pack .ensures) (pack .kept .0)
 
 pub compact-spec : {M : Type 1} → statement M
 compact-spec =
     tie.close
     (tie.spec
     returns
-    sub-if2
-    sub-if2-2
+    joins-requires
+    tidy-requires
+    join-requires
+    same-length
+    returns-2
     slice-relend-prefix-pack
     slice-aggregate-pack
     pack-requires
-    same-length
-    returns-2
-    tidy-requires
-    join-requires
     same-length-2
     returns-3)
