@@ -1,5 +1,4 @@
 pub mod Literals
 pub mod Reaching
-pub mod Counting
 pub mod Pixels
 pub mod Vignetted

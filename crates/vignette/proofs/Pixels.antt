@@ -1,44 +1,21 @@
--- A row raised pixel by pixel: begun, one pixel further, ended. Assumes nothing.
-use Prim.Native.Nat.{ℕ, _+_, _*_, _/_, _≤_, _<_}
+-- A row raised pixel by pixel and block by block: begun, one further, ended. Assumes nothing.
+use Prim.Native.Nat.{ℕ, _+_, _-_, _*_, _/_, _≤_, _<_}
 use mathlib.Core.List.{List}
-use mathlib.Core.Path.{_≡_, refl, sym, ap, _∙_}
-use native.Mathlib.Nat.{add-mul, mul-one, one-mul, mul-le-mul-right, lt-of-mul-lt-mul-right}
-use native.Mathlib.Nat.{div-one, div-le-self, div-mul-le-self, le-div-iff-mul-le, div-lt-iff-lt-mul}
+use mathlib.Core.Path.{_≡_, refl, sym, ap, ap₂, _∙_}
+use native.Mathlib.Nat.{add-mul, one-mul, mul-le-mul-right, div-mul-le-self, le-div-iff-mul-le, div-lt-iff-lt-mul, add-mul-div-right}
 use native.Mathlib.Omega.{arith}
-use lib.Ieee.{Float, nan, binary32, binary64, add, sub, mul}
+use lib.Ieee.{Float, nan, binary32, binary64, sub, mul}
 use lib.ListN.{length, getD, set, length-set}
 use Rattle.points.specs.Points.{each, before, between}
-use Rattle.points.proofs.Each.{length-each}
-use Rattle.points.proofs.Parts.{between-in, each-before-zero, each-between-empty, advance, store}
+use Rattle.points.proofs.Each.{below-or, length-each, getD-each, each-agree, each-none}
+use Rattle.points.proofs.Parts.{before-in, before-out, between-in, between-low, between-high}
+use Rattle.points.proofs.Parts.{each-before-zero, each-between-empty, advance, store}
+use Rattle.narrow.specs.Narrow.{narrow}
 use Rattle.convert.specs.Convert.{wholeIn}
 use Rattle.dng.specs.declared.Radial.{Radial}
-use Rattle.dng.specs.Bounds.{RowFits}
-use Rattle.dng.specs.Value.{one}
-use Rattle.vignette.specs.Rows.{gainOf, raised, wholeOnes}
-use Rattle.vignette.proofs.Counting.{next-whole}
+use Rattle.vignette.specs.Rows.{wideGain, gainOf, wideAt, raised, raisedBy, wholeOnes}
 
--- c pixels are done: sample i is the first of the next pixel, and x its column
-pub record Upto (q : Radial) (m2 dy2 cx : Float) (x0 p : ℕ) (l row : List Float) (c i : ℕ) (x : Float) : Type 0 where
-  pub done : row ≡ each (before i (raised q m2 dy2 cx x0 p)) l
-  pub same : length row ≡ length l
-  pub place : i ≡ c * p
-  pub column : x ≡ wholeIn binary64 (x0 + c)
-  pub whole : c ≤ length l / p
-
-pub begin : {q : Radial} {m2 dy2 cx : Float} {x0 p : ℕ} {l : List Float} {x : Float} → x ≡ wholeIn binary64 x0
-    → Upto q m2 dy2 cx x0 p l l 0 0 x
-begin {l = l} e =
-    record {
-      done = sym (each-before-zero _ l);
-      same = refl;
-      place = omega arith;
-      column = e ∙ ap (wholeIn binary64) (omega arith);
-      whole = omega arith;
-    }
-
--- one plane: every pixel is whole
-pub all-whole : (n : ℕ) → n / 1 * 1 ≡ n
-all-whole n = mul-one (n / 1) ∙ div-one n
+-- ---- one pixel
 
 -- a pixel of one sample: a store
 pub stored : (row : List Float) (i : ℕ) (g : Float) → i < length row
@@ -63,57 +40,146 @@ stored-three row i g h =
     let third = store nan G i (i + 2) row (once (once row i g) (i + 1) g) _ (second ∙ until _ _ (omega arith)) refl (omega arith) (omega arith) in
     third ∙ until _ _ (omega arith)
 
-module _
-    {q : Radial} {m2 dy2 cx : Float} {x0 p : ℕ} {l row : List Float} {c i : ℕ} {x : Float}
-    (fits : RowFits x0 p 0 (length l)) (u : Upto q m2 dy2 cx x0 p l row c i x)
-  where
-    more : i < length l / p * p → c + 1 ≤ length l / p
-    more h = omega (arith, lt-of-mul-lt-mul-right p {m = c} {n = length l / p} (omega (arith, u .place)))
+-- ---- a block
 
-    -- a pixel that begins before the end of the whole ones lies in the row
-    pub inside : i < length l / p * p → i + p ≤ length l
-    inside h = omega (arith, mul-le-mul-right p (more h), add-mul c 1 p, one-mul p, u .place, div-mul-le-self (length l) p)
+-- sample k of those of p from a on that belong to pixel j
+pub pixel-of : (a p j k : ℕ) → a + j * p ≤ k → k < a + j * p + p → (k - a) / p ≡ j
+pixel-of a p j k low high =
+    let some : 1 ≤ p = omega arith in
+    let least : j ≤ (k - a) / p = le-div-iff-mul-le some .1 (omega arith) in
+    let most : (k - a) / p < j + 1 = div-lt-iff-lt-mul some .1 (omega (arith, add-mul j 1 p, one-mul p)) in
+    omega arith
 
-    column-of : (j : ℕ) → i ≤ j → j < i + p → j / p ≡ c
-    column-of j a b =
-        let low : c ≤ j / p = le-div-iff-mul-le (fits .some) .1 (omega (arith, u .place)) in
-        let high : j / p < c + 1 = div-lt-iff-lt-mul (fits .some) .1 (omega (arith, u .place, add-mul c 1 p, one-mul p)) in
-        omega arith
+-- j pixels are done, and i is the first sample of the next
+pub record Upto (gains : List Float) (a p : ℕ) (l row : List Float) (j i : ℕ) : Type 0 where
+  pub done : row ≡ each (before i (raisedBy gains a p)) l
+  pub same : length row ≡ length l
+  pub place : i ≡ a + j * p
+  pub some : j ≤ length gains
+
+module _ {gains : List Float} {a p : ℕ} {l : List Float} where
+  pub begin : {i : ℕ} → i ≡ a → Upto gains a p l l 0 i
+  unfolding raisedBy
+  begin {i} e =
+      record {
+        done = sym
+            (each-none _ l
+            (λ k v h. below-or k i (λ q. before-in i _ k v q ∙ between-low a _ _ k v (omega (arith, e))) (before-out i _ k v)));
+        same = refl;
+        place = omega (arith, e);
+        some = omega arith;
+      }
+
+  module _ {row : List Float} {j i : ℕ} (u : Upto gains a p l row j i) where
+    -- a pixel that has a gain ends where the block does, or before
+    room : j < length gains → i + p ≤ a + length gains * p
+    room h = omega (arith, mul-le-mul-right {m = j + 1} {n = length gains} p (omega arith), add-mul j 1 p, one-mul p, u .place)
+
+    pub inside : j < length gains → a + length gains * p ≤ length l → i + p ≤ length l
+    inside h fits = omega (arith, room h)
 
     -- the gain of the pixel is that of each of its samples
-    raised-by : {g : Float} → g ≡ gainOf q m2 dy2 (sub binary64 x cx) → (j : ℕ) (v : Float) → i ≤ j → j < i + p
-        → raised q m2 dy2 cx x0 p j v ≡ mul binary32 v g
-    unfolding raised
-    raised-by gain j v a b =
-        ap (mul binary32 v)
-        (ap (λ (k : ℕ). gainOf q m2 dy2 (sub binary64 (wholeIn binary64 (x0 + k)) cx)) (column-of j a b)
-        ∙ ap (λ (y : Float). gainOf q m2 dy2 (sub binary64 y cx)) (sym (u .column)) ∙ sym gain)
+    raised-by : {g : Float} → j < length gains → g ≡ narrow (getD gains j nan) → (k : ℕ) (v : Float) → i ≤ k → k < i + p
+        → raisedBy gains a p k v ≡ mul binary32 v g
+    unfolding raisedBy
+    raised-by h gain k v low high =
+        between-in a (a + length gains * p) (λ m w. mul binary32 w (narrow (getD gains ((m - a) / p) nan))) k v
+        (omega (arith, u .place)) (omega (arith, room h))
+        ∙ ap (mul binary32 v)
+        (ap (λ (m : ℕ). narrow (getD gains m nan)) (pixel-of a p j k (omega (arith, u .place)) (omega (arith, u .place))) ∙ sym gain)
 
     -- one pixel more, whose samples are multiplied by its gain
-    pub next : {row′ : List Float} {g x′ : Float} → i < length l / p * p
-        → row′ ≡ each (between i (i + p) (λ j v. mul binary32 v g)) row → g ≡ gainOf q m2 dy2 (sub binary64 x cx) → x′ ≡ add binary64 x one
-        → Upto q m2 dy2 cx x0 p l row′ (c + 1) (i + p) x′
-    next {row′} {g} {x′} h grown gain step =
+    pub next : {row′ : List Float} {g : Float} {i′ : ℕ} → j < length gains → row′ ≡ each (between i (i + p) (λ k v. mul binary32 v g)) row
+        → g ≡ narrow (getD gains j nan) → i′ ≡ i + p → Upto gains a p l row′ (j + 1) i′
+    next {row′} {g} {i′} h grown gain e =
         record {
           done = grown
               ∙ ap (each (between i (i + p) G)) (u .done)
-              ∙ advance nan (raised q m2 dy2 cx x0 p) G i (i + p) i (i + p) l (omega arith) (omega arith) (omega arith)
-              (λ j v a b k. raised-by gain j v a b ∙ sym (between-in i (i + p) G j v a b));
+              ∙ advance nan (raisedBy gains a p) G i i′ i (i + p) l (omega arith) (omega (arith, e)) (omega (arith, e))
+              (λ k v low high q.
+              raised-by h gain k v low (omega (arith, e)) ∙ sym (between-in i (i + p) G k v low (omega (arith, e))));
           same = ap length grown ∙ length-each (between i (i + p) G) row ∙ u .same;
-          place = omega (arith, u .place, add-mul c 1 p, one-mul p);
-          column = step
-              ∙ ap (λ (y : Float). add binary64 y one) (u .column)
-              ∙ next-whole (x0 + c) (omega (arith, u .whole, div-le-self (length l) p, fits .column, fits .short))
-              ∙ ap (wholeIn binary64) (omega arith);
-          whole = more h;
+          place = omega (arith, u .place, add-mul j 1 p, one-mul p, e);
+          some = omega arith;
         }
       where
         G : ℕ → Float → Float
-        G j v = mul binary32 v g
+        G k v = mul binary32 v g
+
+    -- each gain has been used
+    pub end : length gains ≤ j → row ≡ each (raisedBy gains a p) l
+    unfolding raisedBy
+    end h =
+        let e : i ≡ a + length gains * p = u .place ∙ ap (λ (m : ℕ). a + m * p) (omega (arith, u .some)) in
+        u .done
+        ∙ each-agree _ _ l
+        (λ k v q. below-or k i (before-in i _ k v) (λ r. before-out i _ k v r ∙ sym (between-high a _ _ k v (omega (arith, e)))))
+
+-- ---- a row
+
+-- c pixels are done
+pub record Done (q : Radial) (m2 dy2 cx : Float) (x0 p : ℕ) (l row : List Float) (c : ℕ) : Type 0 where
+  pub done : row ≡ each (before (c * p) (raised q m2 dy2 cx x0 p)) l
+  pub same : length row ≡ length l
+  pub whole : c ≤ length l / p
+
+module _ {q : Radial} {m2 dy2 cx : Float} {x0 p : ℕ} {l : List Float} where
+  pub row-begin : Done q m2 dy2 cx x0 p l l 0
+  row-begin =
+      let F : ℕ → Float → Float = raised q m2 dy2 cx x0 p in
+      record { done = sym (ap (λ (k : ℕ). each (before k F) l) (omega arith) ∙ each-before-zero F l); same = refl; whole = omega arith }
+
+  module _ {row : List Float} {c : ℕ} (u : Done q m2 dy2 cx x0 p l row c) where
+    -- n whole pixels more lie in the row
+    pub row-inside : (n : ℕ) → c + n ≤ length l / p → c * p + n * p ≤ length l
+    row-inside n h = omega (arith, mul-le-mul-right {m = c + n} {n = length l / p} p h, add-mul c n p, div-mul-le-self (length l) p)
+
+    -- the gain of a sample in a block of the columns from x0 + c on is that of its column
+    gain-in : (old : List Float) (k : ℕ) → 1 ≤ p → c * p ≤ k → k < c * p + length old * p
+        → getD (each (wideAt q m2 dy2 cx (x0 + c)) old) ((k - c * p) / p) nan ≡ wideGain q m2 dy2 (sub binary64 (wholeIn binary64 (x0 + k / p)) cx)
+    unfolding wideAt
+    gain-in old k pos low high =
+        let column : k / p ≡ (k - c * p) / p + c = ap (λ (t : ℕ). t / p) (omega arith) ∙ add-mul-div-right (k - c * p) c pos in
+        getD-each (wideAt q m2 dy2 cx (x0 + c)) old ((k - c * p) / p) nan (div-lt-iff-lt-mul pos .1 (omega arith))
+        ∙ ap (λ (m : ℕ). wideGain q m2 dy2 (sub binary64 (wholeIn binary64 m) cx)) (omega (arith, column))
+
+    raised-in : (old : List Float) (k : ℕ) (v : Float) → 1 ≤ p → c * p ≤ k → k < c * p + length old * p
+        → raised q m2 dy2 cx x0 p k v ≡ raisedBy (each (wideAt q m2 dy2 cx (x0 + c)) old) (c * p) p k v
+    unfolding raised gainOf raisedBy
+    raised-in old k v pos low high =
+        let gains : List Float = each (wideAt q m2 dy2 cx (x0 + c)) old in
+        let n : length gains * p ≡ length old * p = ap (λ (m : ℕ). m * p) (length-each _ old) in
+        ap (λ (g : Float). mul binary32 v (narrow g)) (sym (gain-in old k pos low high))
+        ∙ sym (between-in (c * p) (c * p + length gains * p) (λ m w. mul binary32 w (narrow (getD gains ((m - c * p) / p) nan))) k v low (omega (arith, n)))
+
+    -- one block more, of n pixels; `old` is what stood where its gains do
+    pub row-next : {row′ gains : List Float} {n : ℕ} (old : List Float) → 1 ≤ p → length old ≡ n → c + n ≤ length l / p
+        → gains ≡ each (wideAt q m2 dy2 cx (x0 + c)) old → row′ ≡ each (raisedBy gains (c * p) p) row → Done q m2 dy2 cx x0 p l row′ (c + n)
+    unfolding raisedBy
+    row-next {row′} {gains} {n} old pos size h filled grown =
+        record {
+          done = grown
+              ∙ ap₂ (λ (g r : List Float). each (raisedBy g (c * p) p) r) filled (u .done)
+              ∙ advance nan (raised q m2 dy2 cx x0 p) G (c * p) ((c + n) * p) (c * p) (c * p + length W * p) l
+              (omega arith) (omega (arith, wide, add-mul c n p)) (omega (arith, add-mul c n p))
+              (λ k v low high r. raised-in old k v pos low (omega (arith, all, add-mul c n p)));
+          same = ap length grown ∙ length-each _ row ∙ u .same;
+          whole = h;
+        }
+      where
+        W : List Float
+        W = each (wideAt q m2 dy2 cx (x0 + c)) old
+
+        G : ℕ → Float → Float
+        G k v = mul binary32 v (narrow (getD W ((k - c * p) / p) nan))
+
+        all : length old * p ≡ n * p
+        all = ap (λ (m : ℕ). m * p) size
+
+        wide : length W * p ≡ n * p
+        wide = ap (λ (m : ℕ). m * p) (length-each _ old ∙ size)
 
     -- all whole pixels are done
-    pub end : length l / p * p ≤ i → row ≡ each (wholeOnes q m2 dy2 cx x0 p (length l)) l
+    pub row-end : length l / p ≤ c → row ≡ each (wholeOnes q m2 dy2 cx x0 p (length l)) l
     unfolding wholeOnes
-    end h =
-        u .done
-        ∙ ap (λ (k : ℕ). each (before k (raised q m2 dy2 cx x0 p)) l) (omega (arith, u .place, mul-le-mul-right p (u .whole)))
+    row-end h = u .done ∙ ap (λ (k : ℕ). each (before (k * p) (raised q m2 dy2 cx x0 p)) l) (omega (arith, u .whole))

@@ -17,7 +17,7 @@ use Rattle.dng.specs.declared.Radial.{Radial}
 use Rattle.dng.specs.Select.{wholePixel, onRow}
 use Rattle.dng.specs.Value.{Frame, square, centreX, centreY, m2Of, usable, vignetted, vignette}
 use Rattle.vignette.specs.Reach.{frameAt, Reaches}
-use Rattle.vignette.specs.Rows.{gainOf, raised, wholeOnes}
+use Rattle.vignette.specs.Rows.{wideGain, gainOf, raised, wholeOnes}
 
 -- ---- which pixels are whole
 
@@ -87,7 +87,7 @@ module _ (fr : Frame) (q : Radial) (x0 p y : ℕ) (l : List Float) where
   raised-is : (i : ℕ) (v : Float)
       → raised q (m2Of fr q) (square (sub binary64 (wholeIn binary64 y) (centreY fr q))) (centreX fr q) x0 p i v
       ≡ vignetted fr q y (x0 + i / p) v
-  unfolding raised gainOf vignetted
+  unfolding raised gainOf wideGain vignetted
   raised-is i v = refl
 
   pub row-raised : 1 ≤ p → y < fr .fullHeight → usable (m2Of fr q) ≡ true

@@ -1,6 +1,6 @@
 // Radial gain, on a lent row.
 ghost use mathlib.Core.Path.{_≡_};
-ghost use Prim.Native.Nat.{_+_, _≤_};
+ghost use Prim.Native.Nat.{_+_, _*_, _≤_, _<_, min};
 ghost use lib.ListN.{length};
 ghost use lib.Ieee.{Float, mul, binary32};
 ghost use Rattle.points.specs.Points.{each, between};
@@ -8,7 +8,7 @@ ghost use Rattle.dng.specs.Select.{onRow};
 ghost use Rattle.dng.specs.Bounds.{RowFits};
 ghost use Rattle.dng.specs.Value.{apart, larger, farthest, m2Of, vignette};
 ghost use Rattle.vignette.specs.Reach.{frameAt, reachOf, Reaches};
-ghost use Rattle.vignette.specs.Rows.{gainOf, wholeOnes};
+ghost use Rattle.vignette.specs.Rows.{wideGain, wideAt, raisedBy, wholeOnes};
 use dng::Radial;
 
 // ---- m2, once for a run
@@ -68,11 +68,24 @@ pub fn m2(q: Radial, full_width: u32, full_height: u32) -> Reach
 
 // ---- a row
 
-fn pixel_gain(q: Radial, m2: f64, dy2: f64, dx: f64) -> f32
-    ensures { λ r. ⌜ r ≡ gainOf q m2 dy2 dx ⌝ }
+// The gain of a pixel that lies dx from the centre along the row, before it is narrowed.
+fn wide_gain(q: Radial, m2: f64, dy2: f64, dx: f64) -> f64
+    ensures { λ r. ⌜ r ≡ wideGain q m2 dy2 dx ⌝ }
 {
     let r2 = (dx * dx + dy2) / m2;
-    narrow::to_f32(1.0 + r2 * (q.k0 + r2 * (q.k1 + r2 * (q.k2 + r2 * (q.k3 + r2 * q.k4)))))
+    1.0 + r2 * (q.k0 + r2 * (q.k1 + r2 * (q.k2 + r2 * (q.k3 + r2 * q.k4))))
+}
+
+// The gain of each pixel from column x0 on. A loop with no branch, and with a column that is counted anew for each: vector code.
+fn wide_gains(gains: &mut [f64], q: Radial, m2: f64, dy2: f64, cx: f64, x0: u32)
+    requires { ⌜ x0 + length (now gains) < 4294967296 ⌝ }
+    ensures { λ _. ⌜ now (gains .exit) ≡ each (wideAt q m2 dy2 cx x0) (now (gains .entry)) ⌝ }
+{
+    let mut j = 0;
+    while j < gains.len() {
+        gains[j] = wide_gain(q, m2, dy2, convert::f64_of_u32(x0 + j as u32) - cx);
+        j += 1;
+    }
 }
 
 // The samples from a up to e, those of one pixel.
@@ -97,64 +110,82 @@ fn raise_three(row: &mut [f32], a: usize, g: f32)
     row[a + 2] = row[a + 2] * g;
 }
 
-// One plane to a pixel, so that each sample is a pixel. The column is counted as an f64, which holds every one exactly; what is asked
-// of the row's number is no matter here.
-fn raise_samples(row: &mut [f32], q: Radial, m2: f64, dy2: f64, cx: f64, x0: u32)
-    requires { ⌜ RowFits x0 1 0 (length (now row)) ⌝ }
-    ensures { λ _. ⌜ now (row .exit) ≡ each (wholeOnes q m2 dy2 cx x0 1 (length (now (row .entry)))) (now (row .entry)) ⌝ }
+// One plane to a pixel, a gain to each pixel from sample a on.
+fn raise_ones(row: &mut [f32], a: usize, gains: &[f64])
+    requires { ⌜ a + length (now gains) * 1 ≤ length (now row) ⌝ }
+    ensures { λ _. ⌜ now (row .exit) ≡ each (raisedBy (now (gains .entry)) a 1) (now (row .entry)) ⌝ }
 {
-    let mut i = 0;
-    let mut x = convert::f64_of_u32(x0);
-    while i < row.len() {
-        row[i] = row[i] * pixel_gain(q, m2, dy2, x - cx);
-        i += 1;
-        x = x + 1.0;
+    let mut j = 0;
+    while j < gains.len() {
+        row[a + j] = row[a + j] * narrow::to_f32(gains[j]);
+        j += 1;
     }
 }
 
-// Several planes to a pixel; one that is not whole stays.
-fn raise_pixels(row: &mut [f32], q: Radial, m2: f64, dy2: f64, cx: f64, x0: u32, planes: usize)
-    requires { ⌜ RowFits x0 planes 0 (length (now row)) ⌝ }
-    ensures { λ _. ⌜ now (row .exit) ≡ each (wholeOnes q m2 dy2 cx x0 planes (length (now (row .entry)))) (now (row .entry)) ⌝ }
+// Three planes to a pixel.
+fn raise_triples(row: &mut [f32], a: usize, gains: &[f64])
+    requires { ⌜ a + length (now gains) * 3 ≤ length (now row) ⌝ }
+    ensures { λ _. ⌜ now (row .exit) ≡ each (raisedBy (now (gains .entry)) a 3) (now (row .entry)) ⌝ }
 {
-    let end = row.len() / planes * planes;
-    let mut i = 0;
-    let mut x = convert::f64_of_u32(x0);
-    while i < end {
-        let g = pixel_gain(q, m2, dy2, x - cx);
-        raise_pixel(row, i, i + planes, g);
-        i += planes;
-        x = x + 1.0;
-    }
-}
-
-// Three planes to a pixel; one that is not whole stays.
-fn raise_triples(row: &mut [f32], q: Radial, m2: f64, dy2: f64, cx: f64, x0: u32)
-    requires { ⌜ RowFits x0 3 0 (length (now row)) ⌝ }
-    ensures { λ _. ⌜ now (row .exit) ≡ each (wholeOnes q m2 dy2 cx x0 3 (length (now (row .entry)))) (now (row .entry)) ⌝ }
-{
-    let whole = row.len() / 3 * 3;
-    let mut i = 0;
-    let mut x = convert::f64_of_u32(x0);
-    while i < whole {
-        let g = pixel_gain(q, m2, dy2, x - cx);
-        raise_three(row, i, g);
+    let mut i = a;
+    let mut j = 0;
+    while j < gains.len() {
+        raise_three(row, i, narrow::to_f32(gains[j]));
         i += 3;
-        x = x + 1.0;
+        j += 1;
+    }
+}
+
+// Several planes to a pixel.
+fn raise_several(row: &mut [f32], a: usize, gains: &[f64], planes: usize)
+    requires { ⌜ a + length (now gains) * planes ≤ length (now row) ⌝ }
+    ensures { λ _. ⌜ now (row .exit) ≡ each (raisedBy (now (gains .entry)) a planes) (now (row .entry)) ⌝ }
+{
+    let mut i = a;
+    let mut j = 0;
+    while j < gains.len() {
+        raise_pixel(row, i, i + planes, narrow::to_f32(gains[j]));
+        i += planes;
+        j += 1;
     }
 }
 
 // The common cases, one plane and three, have loops of their own.
+fn raise_block(row: &mut [f32], a: usize, gains: &[f64], planes: usize)
+    requires { ⌜ a + length (now gains) * planes ≤ length (now row) ⌝ }
+    ensures { λ _. ⌜ now (row .exit) ≡ each (raisedBy (now (gains .entry)) a planes) (now (row .entry)) ⌝ }
+{
+    if planes == 1 {
+        raise_ones(row, a, gains);
+    } else if planes == 3 {
+        raise_triples(row, a, gains);
+    } else {
+        raise_several(row, a, gains, planes);
+    }
+}
+
+// The pixels of the next block.
+fn block_of(left: usize) -> usize
+    ensures { λ n. ⌜ n ≡ min left 64 ⌝ }
+{
+    if left < 64 { left } else { 64 }
+}
+
+// Block by block: the gains of all its pixels, and then the samples. A pixel that is not whole stays. What is asked of the row's number
+// is no matter here.
 fn raise_row(row: &mut [f32], q: Radial, m2: f64, dy2: f64, cx: f64, x0: u32, planes: u32)
     requires { ⌜ RowFits x0 planes 0 (length (now row)) ⌝ }
     ensures { λ _. ⌜ now (row .exit) ≡ each (wholeOnes q m2 dy2 cx x0 planes (length (now (row .entry)))) (now (row .entry)) ⌝ }
 {
-    if planes == 1 {
-        raise_samples(row, q, m2, dy2, cx, x0);
-    } else if planes == 3 {
-        raise_triples(row, q, m2, dy2, cx, x0);
-    } else {
-        raise_pixels(row, q, m2, dy2, cx, x0, planes as usize);
+    let mut gains = [0.0; 64];
+    let p = planes as usize;
+    let pixels = row.len() / p;
+    let mut done = 0;
+    while done < pixels {
+        let n = block_of(pixels - done);
+        wide_gains(&mut gains[..n], q, m2, dy2, cx, x0 + done as u32);
+        raise_block(row, done * p, &gains[..n], p);
+        done += n;
     }
 }
 

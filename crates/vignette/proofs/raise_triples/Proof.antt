@@ -1,62 +1,57 @@
--- `raise_triples` meets its contract: each turn is one whole pixel. Assumes nothing.
-use Prim.Native.Nat.{ℕ, _+_, _-_}
-use mathlib.Core.Path.{ap}
-use native.Mathlib.Nat.{div-mul-le-self}
+-- `raise_triples` meets its contract: each turn is a pixel of three samples. Assumes nothing.
+use Prim.Native.Nat.{_-_}
+use mathlib.Core.Path.{refl}
 use native.Mathlib.Omega.{arith}
 use borrow.Author.Needs.{needs}
-use lib.Ieee.{binary64, add}
 use lib.ListN.{length}
-use Rattle.vignette.proofs.Literals.{one-is}
 use Rattle.vignette.proofs.Pixels.{Upto, begin, inside, next, end}
 use Rattle.vignette.proofs.raise_triples.Statement.{statement}
 use Rattle.vignette.proofs.raise_triples.Tie as tie
 
 abbrev Inv-loop : tie.InvT-loop
-Inv-loop row₀ q m2 dy2 cx x0 whole i₀ x₀ row i x = (c : ℕ) × Upto q m2 dy2 cx x0 3 row₀ row c i x
+Inv-loop row₀ a gains i₀ j₀ row i j = Upto gains a 3 row₀ row j i
 
 abbrev μ-loop : tie.MeasureT-loop
-μ-loop row₀ q m2 dy2 cx x0 whole i₀ x₀ row i x = whole - i
-
-mul-whole : tie.Need-mul-whole Inv-loop μ-loop
-mul-whole c = omega (arith, div-mul-le-self (length (c .before .args .row .now)) 3)
-
-f64-of-u32-requires : tie.Need-f64-of-u32-requires Inv-loop μ-loop
-f64-of-u32-requires c κs = search needs
+μ-loop row₀ a gains i₀ j₀ row i j = length gains - j
 
 loop-holds : tie.Need-loop-holds Inv-loop μ-loop
-loop-holds c = (0, begin (c .f64-of-u32 .ensures))
+loop-holds c = begin refl
 
-pixel-gain-requires : tie.Need-pixel-gain-requires Inv-loop μ-loop
-pixel-gain-requires c κs = search needs
+mul-to-f32 : tie.Need-mul-to-f32 Inv-loop μ-loop
+mul-to-f32 c = omega arith
+
+shared-slice-read-to-f32 : tie.Need-shared-slice-read-to-f32 Inv-loop μ-loop
+shared-slice-read-to-f32 c = omega arith
+
+to-f32-requires : tie.Need-to-f32-requires Inv-loop μ-loop
+to-f32-requires c κs = search needs
 
 raise-three-requires : tie.Need-raise-three-requires Inv-loop μ-loop
 raise-three-requires c κs =
-    let s = c .before .before .before .before .before .before in
-    omega (arith, inside (s .pre) (c .before .before .before .loop .inv .1) (omega arith))
+    let a = c .before .before .before .before in
+    omega (arith, a .loop .inv .same, inside (a .loop .inv) (omega arith) (a .before .before .before .pre))
 
 add-i : tie.Need-add-i Inv-loop μ-loop
 add-i c =
-    let s = c .before .before .before .before .before .before .before .before .before in
-    let a = c .before .before .before .before .before .before in
-    omega (arith, inside (s .pre) (a .loop .inv .1) (omega arith))
+    let a = c .before .before .before .before .before .before .before in
+    omega (arith, inside (a .loop .inv) (omega arith) (a .before .before .before .pre))
+
+add-j : tie.Need-add-j Inv-loop μ-loop
+add-j c = omega arith
 
 loop-less : tie.Need-loop-less Inv-loop μ-loop
 loop-less c = omega arith
 
 loop-again : tie.Need-loop-again Inv-loop μ-loop
 loop-again c =
-    let s = c .before .before .before .before .before .before .before .before .before in
-    let a = c .before .before .before .before .before .before .loop in (
-      a .inv .0 + 1,
-      next (s .pre) (a .inv .1) (omega arith) (c .before .before .raise-three .ensures)
-          (c .before .before .before .before .pixel-gain .ensures) (ap (add binary64 (a .x)) one-is),
-    )
+    let a = c .before .before .before .before .before .before .before .loop in
+    next (a .inv) (omega arith) (c .before .before .raise-three .ensures) (c .before .before .before .to-f32 .ensures) refl
 
 same-length : tie.Need-same-length Inv-loop μ-loop
 same-length c = omega arith
 
 returns : tie.Need-returns Inv-loop μ-loop
-returns c = end (c .before .before .before .before .pre) (c .before .loop .inv .1) (omega arith)
+returns c = end (c .before .loop .inv) (omega arith)
 
 pub raise-triples-spec : {M : Type 1} → statement M
 raise-triples-spec =
@@ -64,12 +59,13 @@ raise-triples-spec =
     (tie.spec
     Inv-loop
     μ-loop
-    mul-whole
-    f64-of-u32-requires
     loop-holds
-    pixel-gain-requires
+    mul-to-f32
+    shared-slice-read-to-f32
+    to-f32-requires
     raise-three-requires
     add-i
+    add-j
     loop-less
     loop-again
     same-length
