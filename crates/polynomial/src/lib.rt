@@ -1,14 +1,11 @@
 // Polynomials, on one plane of a lent row.
-// In each loop `i` is the sample and `c` its column, which only the proof needs.
 ghost use mathlib.Core.Path.{_≡_};
-ghost use Prim.Native.Nat.{suc, _≤_};
+ghost use Prim.Native.Nat.{suc, _+_, _*_, _≤_, _<_};
 ghost use lib.ListN.{length};
-ghost use lib.Ieee.{binary32, binary64, mul, div};
-ghost use Rattle.narrow.specs.Narrow.{narrow};
-ghost use Rattle.convert.specs.Convert.{wholeIn};
 ghost use Rattle.select.specs.Walks.{walked, Walks};
 ghost use Rattle.dng.specs.Value.{mapPolynomial, horner, nought};
 ghost use Rattle.polynomial.specs.Terms.{termAt, Holds};
+ghost use Rattle.polynomial.specs.Blocks.{xOf, wideOf, Counted, Block, Evaluated, written};
 use select::Walk;
 use select::stop_of;
 
@@ -68,17 +65,6 @@ fn along_five(t: Terms, body: &[u8], degree: u32, x: f64) -> f64
     ((((0.0 * x + t.c4) * x + t.c3) * x + t.c2) * x + t.c1) * x + t.c0
 }
 
-fn along(t: Terms, body: &[u8], degree: u32, x: f64) -> f64
-    requires { ⌜ (Holds t degree (now body)) × (degree ≤ 8) ⌝ }
-    ensures { λ r. ⌜ r ≡ horner (now (body .entry)) x (suc degree) nought ⌝ }
-{
-    if degree <= 4 {
-        along_five(t, body, degree, x)
-    } else {
-        along_nine(t, body, degree, x)
-    }
-}
-
 // And over the low four, which most polynomials have at most.
 fn along_four(t: Terms, body: &[u8], degree: u32, x: f64) -> f64
     requires { ⌜ (Holds t degree (now body)) × (degree ≤ 3) ⌝ }
@@ -87,40 +73,108 @@ fn along_four(t: Terms, body: &[u8], degree: u32, x: f64) -> f64
     (((0.0 * x + t.c3) * x + t.c2) * x + t.c1) * x + t.c0
 }
 
+fn along(t: Terms, body: &[u8], degree: u32, x: f64) -> f64
+    requires { ⌜ (Holds t degree (now body)) × (degree ≤ 8) ⌝ }
+    ensures { λ r. ⌜ r ≡ horner (now (body .entry)) x (suc degree) nought ⌝ }
+{
+    if degree <= 3 {
+        return along_four(t, body, degree, x);
+    }
+    if degree <= 4 {
+        return along_five(t, body, degree, x);
+    }
+    along_nine(t, body, degree, x)
+}
+
 // ---- a value
 
 // The x of a value: v = 65535 / scale stands for 1.
 fn x_of(v: f32, scale: f32) -> f64
-    ensures { λ r. ⌜ r ≡ div binary32 (mul binary32 v scale) (wholeIn binary32 65535) ⌝ }
+    ensures { λ r. ⌜ r ≡ xOf scale v ⌝ }
 {
     convert::widen(v * scale / 65535.0)
 }
 
-// And back; `scale64` is the scale as an f64, widened once.
-fn value_of(y: f64, scale64: f64) -> f32
-    ensures { λ r. ⌜ r ≡ narrow (div binary64 (mul binary64 y (wholeIn binary64 65535)) scale64) ⌝ }
+// And back, short of the narrowing. `scale64` is the scale as an f64, widened once.
+fn wide_of(t: Terms, body: &[u8], degree: u32, scale64: f64, x: f64) -> f64
+    requires { ⌜ (Holds t degree (now body)) × (degree ≤ 8) ⌝ }
+    ensures { λ r. ⌜ r ≡ wideOf degree (now (body .entry)) scale64 x ⌝ }
 {
-    narrow::to_f32(y * 65535.0 / scale64)
+    along(t, body, degree, x) * 65535.0 / scale64
 }
 
-fn low_value(t: Terms, body: &[u8], degree: u32, scale: f32, scale64: f64, v: f32) -> f32
-    requires { ⌜ (Holds t degree (now body)) × (degree ≤ 3) × (scale64 ≡ scale) ⌝ }
-    ensures { λ r. ⌜ r ≡ mapPolynomial scale degree (now (body .entry)) v ⌝ }
+// ---- a block: samples i, i + step and so on, in two short passes, so that many are under way at once
+
+// How many samples the block has: 64, or those that are left. Only the last block divides.
+fn count_of(i: usize, step: usize, stop: usize) -> usize
+    requires { ⌜ (i < stop) × (stop ≤ 524288) × (1 ≤ step) × (step < 34359738368) ⌝ }
+    ensures { λ n. ⌜ Counted i step stop n ⌝ }
 {
-    value_of(along_four(t, body, degree, x_of(v, scale)), scale64)
+    if i + 63 * step < stop {
+        64
+    } else {
+        (stop - i + (step - 1)) / step
+    }
 }
 
-fn high_value(t: Terms, body: &[u8], degree: u32, scale: f32, scale64: f64, v: f32) -> f32
-    requires { ⌜ (Holds t degree (now body)) × (degree ≤ 8) × (scale64 ≡ scale) ⌝ }
-    ensures { λ r. ⌜ r ≡ mapPolynomial scale degree (now (body .entry)) v ⌝ }
+// What is narrowed to the new values of n samples. No branch of the loop depends on a value, so it compiles to vector code, once for each case
+// of the degree.
+fn evaluate(
+    row: &[f32],
+    i: usize,
+    step: usize,
+    n: usize,
+    t: Terms,
+    body: &[u8],
+    degree: u32,
+    scale: f32,
+    scale64: f64,
+    xs: &mut [f64],
+)
+    requires { ⌜
+        Block i step n (length (now row)) (length (now xs)) × (Holds t degree (now body)) × (degree ≤ 8) × (scale64 ≡ scale)
+        ⌝ }
+    ensures { λ _. ⌜ Evaluated degree (now (body .entry)) scale i step n (now (row .entry)) (now (xs .exit)) ⌝ }
 {
-    value_of(along(t, body, degree, x_of(v, scale)), scale64)
+    let mut at = i;
+    let mut j: usize = 0;
+    while j < n {
+        xs[j] = wide_of(t, body, degree, scale64, x_of(row[at], scale));
+        at += step;
+        j += 1;
+    }
+}
+
+// The first n of xs, narrowed, into the samples.
+fn write_block(row: &mut [f32], i: usize, step: usize, n: usize, xs: &[f64])
+    requires { ⌜ Block i step n (length (now row)) (length (now xs)) ⌝ }
+    ensures { λ _. ⌜ now (row .exit) ≡ written i step (now (xs .entry)) n (now (row .entry)) ⌝ }
+{
+    let mut at = i;
+    let mut j: usize = 0;
+    while j < n {
+        row[at] = narrow::to_f32(xs[j]);
+        at += step;
+        j += 1;
+    }
 }
 
 // ---- a row
 
-fn low_row(row: &mut [f32], k: Walk, t: Terms, body: &[u8], degree: u32, scale: f32, scale64: f64)
-    requires { ⌜ (Walks k (length (now row))) × (Holds t degree (now body)) × (degree ≤ 3) × (scale64 ≡ scale) ⌝ }
+// Block after block, through the lent array. `i` is the sample and `c` its column, which only the proof needs.
+fn blocks(
+    row: &mut [f32],
+    k: Walk,
+    t: Terms,
+    body: &[u8],
+    degree: u32,
+    scale: f32,
+    scale64: f64,
+    xs: &mut [f64],
+)
+    requires { ⌜
+        (Walks k (length (now row))) × (Holds t degree (now body)) × (degree ≤ 8) × (scale64 ≡ scale) × (length (now xs) ≡ 64)
+        ⌝ }
     ensures { λ _. ⌜ now (row .exit) ≡ walked k (λ x p v. mapPolynomial scale degree (now (body .entry)) v) (now (row .entry)) ⌝ }
 {
     let stop = stop_of(k, row.len());
@@ -128,37 +182,21 @@ fn low_row(row: &mut [f32], k: Walk, t: Terms, body: &[u8], degree: u32, scale: 
     let mut i = k.col * k.planes + k.plane;
     let mut c = k.col;
     while i < stop {
-        row[i] = low_value(t, body, degree, scale, scale64, row[i]);
-        i += step;
-        c += k.pitch;
+        let n = count_of(i, step, stop);
+        evaluate(row, i, step, n, t, body, degree, scale, scale64, xs);
+        write_block(row, i, step, n, xs);
+        i += n * step;
+        c += n * k.pitch;
     }
 }
 
-fn high_row(row: &mut [f32], k: Walk, t: Terms, body: &[u8], degree: u32, scale: f32, scale64: f64)
-    requires { ⌜ (Walks k (length (now row))) × (Holds t degree (now body)) × (degree ≤ 8) × (scale64 ≡ scale) ⌝ }
-    ensures { λ _. ⌜ now (row .exit) ≡ walked k (λ x p v. mapPolynomial scale degree (now (body .entry)) v) (now (row .entry)) ⌝ }
-{
-    let stop = stop_of(k, row.len());
-    let step = k.pitch * k.planes;
-    let mut i = k.col * k.planes + k.plane;
-    let mut c = k.col;
-    while i < stop {
-        row[i] = high_value(t, body, degree, scale, scale64, row[i]);
-        i += step;
-        c += k.pitch;
-    }
-}
-
-// The polynomial at the walk's samples. The loop for a degree of at most 3 asks nothing about the degree.
+// The polynomial at the walk's samples.
 pub fn polynomial_row(row: &mut [f32], k: Walk, body: &[u8], degree: u32, scale: f32)
     requires { ⌜ (Walks k (length (now row))) × (degree ≤ 8) ⌝ }
     ensures { λ _. ⌜ now (row .exit) ≡ walked k (λ x p v. mapPolynomial scale degree (now (body .entry)) v) (now (row .entry)) ⌝ }
 {
     let t = terms_of(body, degree);
     let scale64 = convert::widen(scale);
-    if degree <= 3 {
-        low_row(row, k, t, body, degree, scale, scale64);
-    } else {
-        high_row(row, k, t, body, degree, scale, scale64);
-    }
+    let mut xs = [0.0; 64];
+    blocks(row, k, t, body, degree, scale, scale64, &mut xs);
 }

@@ -3,6 +3,7 @@ use mathlib.Core.Path.{_≡_, refl}
 use borrow.Author.Needs.{needs}
 use lib.Ieee.{binary32, ofBits, ofInt, round, units, odd, size, span, climb}
 use lib.IntN.{pos}
+use Rattle.polynomial.specs.Blocks.{xOf}
 use Rattle.polynomial.proofs.x_of.Statement.{statement}
 use Rattle.polynomial.proofs.x_of.Tie as tie
 
@@ -14,6 +15,7 @@ unfolding ofBits ofInt round units odd size span climb
 most = refl
 
 returns : tie.Need-returns
+unfolding xOf
 returns c = cc most
 
 pub x-of-spec : {M : Type 1} → statement M
