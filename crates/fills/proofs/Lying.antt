@@ -1,19 +1,22 @@
--- Where a mark lies: its row and column in the window. Assumes nothing.
-use Prim.Native.Nat.{ℕ, _/_, _%_, _≤_, _<_}
-use mathlib.Core.Path.{_≡_, subst}
-use mathlib.Core.Bool.{true}
+-- Where a mark lies: its row and column in the window, and what is said of these is said of the mark. Assumes nothing.
+use Prim.Native.Nat.{ℕ, _-_, _/_, _%_, _^_, _≤_, _<_}
+use mathlib.Core.Path.{_≡_, subst, ap₂, _∙_}
+use mathlib.Core.Bool.{Bool, true}
 use mathlib.Core.List.{List}
 use native.Mathlib.Nat.{mod-lt, div-lt-iff-lt-mul, mul-comm}
 use native.Mathlib.Omega.{arith}
+use lib.Ieee.{Float}
 use lib.ListN.{getD, take}
 use lib.Seq.{getD-take, length-take-le}
+use Rattle.points.specs.Points.{each, between}
 use Rattle.dng.specs.declared.Window.{Window}
 use Rattle.dng.specs.Repair.{positions}
 use Rattle.marks.specs.Marks.{Fits}
+use Rattle.scan.specs.Parts.{Finds}
 use Rattle.means.specs.Looks.{Asks}
 use Rattle.sorts.specs.Sorts.{occ, has}
 use Rattle.sorts.proofs.Occ.{occ-at, some-has}
-use Rattle.fills.specs.Fills.{Marking}
+use Rattle.fills.specs.Fills.{Marking, mendsAt, mendable, Told, meanIn, meanAt}
 
 module _ (w : Window) (f : Fits w) (q : ℕ) (h : q < positions w) where
   pub column-in : q % w .width < w .width
@@ -43,3 +46,24 @@ module _ (marks : List ℕ) (n : ℕ) (w : Window) (step : ℕ) (m : Marking mar
         held = m .held;
         rises = m .rises;
       }
+
+  pub mark-finds : (part : ℕ) → part ≡ 2 ^ 32 / w .width → Finds marks i w part
+  mark-finds part e = record { fits = m .fits; held = omega (arith, m .held); inside = mark-in; part = e }
+
+-- (x, y) is the spot of position q
+module _ (w : Window) (step : ℕ) (bad : ℕ → Bool) (q x y : ℕ) (s : (x ≡ q % w .width) × (y ≡ q / w .width)) where
+  pub spot-asks : {marks : List ℕ} {n : ℕ} → Asks marks n w step (q % w .width) (q / w .width) → Asks marks n w step x y
+  spot-asks a = rw (s .0, s .1) a
+
+  pub spot-told : (lone : Bool) → Told lone bad w step (q % w .width) (q / w .width) → Told lone bad w step x y
+  spot-told lone t = rw (s .0, s .1) t
+
+  pub spot-mends : (b : Bool) → b ≡ mendsAt w step bad x y → b ≡ mendable w step bad q
+  unfolding mendable
+  spot-mends b e = e ∙ ap₂ (λ (x y : ℕ). mendsAt w step bad x y) (s .0) (s .1)
+
+  pub spot-means : {A : Type 0} (d : A) (toFloat : A → Float) (samples : List A) (from to : ℕ) (values values′ : List Float)
+      → values′ ≡ each (between from to (λ j v. meanIn d toFloat w step bad samples x y (j - from))) values
+      → values′ ≡ each (between from to (λ j v. meanAt d toFloat w step bad samples q (j - from))) values
+  spot-means d toFloat samples from to values values′ e =
+      e ∙ ap₂ (λ (x y : ℕ). each (between from to (λ j v. meanIn d toFloat w step bad samples x y (j - from))) values) (s .0) (s .1)

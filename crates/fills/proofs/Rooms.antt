@@ -15,8 +15,8 @@ use Rattle.fills.specs.Fills.{Marking, mended, mendable, Told}
 use Rattle.fills.proofs.Counting.{count-few, count-all}
 
 -- nothing is told: then nothing is to be shown
-pub told-nothing : (bad : ℕ → Bool) (w : Window) (step q : ℕ) → Told false bad w step q
-told-nothing bad w step q e = absurd (let z : _≡_ {A = ℕ} 0 1 = cc in omega arith)
+pub told-nothing : (bad : ℕ → Bool) (w : Window) (step x y : ℕ) → Told false bad w step x y
+told-nothing bad w step x y e = absurd (let z : _≡_ {A = ℕ} 0 1 = cc in omega arith)
 
 -- how many are repaired, and their values, in numbers of 64 bits
 pub mended-few : (marks : List ℕ) (n : ℕ) (w : Window) (step : ℕ) → Marking marks n w step

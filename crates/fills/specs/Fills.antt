@@ -25,13 +25,17 @@ pub record Marking (marks : List ℕ) (n : ℕ) (w : Window) (step : ℕ) : Type
 
 -- ---- which positions are repaired
 
--- position q has a sound neighbour
-unfoldable pub mendable : Window → (step : ℕ) → (ℕ → Bool) → ℕ → Bool
-mendable w step bad q = leb 1 (soundOn (w .width) (w .height) step bad (q % w .width) (q / w .width) steps)
+-- column x of row y has a sound neighbour
+abbrev pub mendsAt : Window → (step : ℕ) → (ℕ → Bool) → (x y : ℕ) → Bool
+mendsAt w step bad x y = leb 1 (soundOn (w .width) (w .height) step bad x y steps)
 
--- what a mark may be told to be: where `lone` says so, no neighbour of position q is marked
-abbrev pub Told : (lone : Bool) → (ℕ → Bool) → Window → (step q : ℕ) → Type 0
-Told lone bad w step q = lone ≡ true → Lone bad w step (q % w .width) (q / w .width)
+-- position q has one
+unfoldable pub mendable : Window → (step : ℕ) → (ℕ → Bool) → ℕ → Bool
+mendable w step bad q = mendsAt w step bad (q % w .width) (q / w .width)
+
+-- what a position may be told to be: where `lone` says so, no neighbour of (x, y) is marked
+abbrev pub Told : (lone : Bool) → (ℕ → Bool) → Window → (step x y : ℕ) → Type 0
+Told lone bad w step x y = lone ≡ true → Lone bad w step x y
 
 -- at how many entries of a list
 unfoldable pub countIn : (ℕ → Bool) → List ℕ → ℕ

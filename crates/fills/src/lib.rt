@@ -1,7 +1,7 @@
 // The new values of the marks that are repaired, f32 and u16, into the f32 scratch: which marks those are, how many, and room for their values.
 ghost use mathlib.Core.Path.{_≡_};
 ghost use mathlib.Core.Bool.{true};
-ghost use Prim.Native.Nat.{_+_, _-_, _*_, _/_, _%_, _^_, _≤_, _<_};
+ghost use Prim.Native.Nat.{_+_, _-_, _*_, _/_, _^_, _≤_, _<_};
 ghost use lib.Dec.{leb};
 ghost use lib.Ieee.{nan, binary32};
 ghost use lib.ListN.{length, getD};
@@ -9,52 +9,68 @@ ghost use Rattle.convert.specs.Convert.{wholeIn};
 ghost use Rattle.points.specs.Points.{each, between};
 ghost use Rattle.dng.specs.Repair.{complete};
 ghost use Rattle.means.specs.Looks.{Asks, marked};
-ghost use Rattle.fills.specs.Fills.{Marking, mendable, mended, Told, meanAt, Filled};
+ghost use Rattle.fills.specs.Fills.{Marking, mendsAt, mendable, mended, Told, meanIn, meanAt, Filled};
 use dng::Window;
+use scan::Spot;
 
 // ---- the marks
 
-// Whether mark i has a sound neighbour.
-fn mends(marks: &[u32], n: usize, w: Window, step: usize, i: usize) -> bool
-    requires { ⌜ Marking (now marks) n w step × (i < n) ⌝ }
-    ensures { λ r. ⌜ r ≡ mendable w step (marked (now (marks .entry)) n) (getD (now (marks .entry)) i 0) ⌝ }
+// Whether a position has a sound neighbour, by the search.
+fn mends_at(marks: &[u32], n: usize, w: Window, step: usize, spot: Spot) -> bool
+    requires { ⌜ Asks (now marks) n w step (spot .x) (spot .y) ⌝ }
+    ensures { λ r. ⌜ r ≡ mendsAt w step (marked (now (marks .entry)) n) (spot .x) (spot .y) ⌝ }
 {
-    let q = marks[i] as usize;
-    means::any_sound(marks, n, w, step, q % w.width, q / w.width, false)
+    means::any_sound(marks, n, w, step, spot.x, spot.y, false)
 }
 
-// The same of a mark that may be known to be lone: then nothing is searched for. Apart from the search, this is short enough for a loop.
-fn mends_told(marks: &[u32], n: usize, w: Window, step: usize, i: usize, lone: bool) -> bool
-    requires { ⌜ Marking (now marks) n w step × ((i < n) × Told lone (marked (now marks) n) w step (getD (now marks) i 0)) ⌝ }
-    ensures { λ r. ⌜ r ≡ mendable w step (marked (now (marks .entry)) n) (getD (now (marks .entry)) i 0) ⌝ }
+// The same of a position that may be known to be lone: then nothing is searched for. Apart from the search, this is short enough for a loop.
+fn mends_told(marks: &[u32], n: usize, w: Window, step: usize, spot: Spot, lone: bool) -> bool
+    requires { ⌜ Asks (now marks) n w step (spot .x) (spot .y) × Told lone (marked (now marks) n) w step (spot .x) (spot .y) ⌝ }
+    ensures { λ r. ⌜ r ≡ mendsAt w step (marked (now (marks .entry)) n) (spot .x) (spot .y) ⌝ }
 {
     if lone {
-        let q = marks[i] as usize;
-        return means::any_sound(marks, n, w, step, q % w.width, q / w.width, true);
+        return means::any_sound(marks, n, w, step, spot.x, spot.y, true);
     }
-    mends(marks, n, w, step, i)
+    mends_at(marks, n, w, step, spot)
+}
+
+// Whether mark i has a sound neighbour. Its row is found by the reciprocal m of the width, here and below.
+fn mends(marks: &[u32], n: usize, w: Window, m: usize, step: usize, i: usize) -> bool
+    requires { ⌜ Marking (now marks) n w step × ((i < n) × (m ≡ 2 ^ 32 / w .width)) ⌝ }
+    ensures { λ r. ⌜ r ≡ mendable w step (marked (now (marks .entry)) n) (getD (now (marks .entry)) i 0) ⌝ }
+{
+    let spot = scan::spot_of(marks, i, w, m);
+    mends_at(marks, n, w, step, spot)
 }
 
 // The same where it is known how many are repaired: where all are, nothing is looked for.
-pub fn mends_of(marks: &[u32], n: usize, w: Window, step: usize, i: usize, repaired: usize) -> bool
-    requires { ⌜ Marking (now marks) n w step × ((i < n) × (repaired ≡ mended (now marks) n w step)) ⌝ }
+pub fn mends_of(
+    marks: &[u32],
+    n: usize,
+    w: Window,
+    m: usize,
+    step: usize,
+    i: usize,
+    repaired: usize,
+) -> bool
+    requires { ⌜ Marking (now marks) n w step × ((i < n) × ((repaired ≡ mended (now marks) n w step) × (m ≡ 2 ^ 32 / w .width))) ⌝ }
     ensures { λ r. ⌜ r ≡ mendable w step (marked (now (marks .entry)) n) (getD (now (marks .entry)) i 0) ⌝ }
 {
     if repaired == n {
         return true;
     }
-    mends(marks, n, w, step, i)
+    mends(marks, n, w, m, step, i)
 }
 
 // How many of the n marks can be repaired. It depends on the marks only, so that room for the new values is tested before any is made.
-fn repairable(marks: &[u32], n: usize, w: Window, step: usize) -> usize
-    requires { ⌜ Marking (now marks) n w step ⌝ }
+fn repairable(marks: &[u32], n: usize, w: Window, m: usize, step: usize) -> usize
+    requires { ⌜ Marking (now marks) n w step × (m ≡ 2 ^ 32 / w .width) ⌝ }
     ensures { λ r. ⌜ r ≡ mended (now (marks .entry)) n w step ⌝ }
 {
     let mut count = 0;
     let mut i = 0;
     while i < n {
-        if mends(marks, n, w, step, i) {
+        if mends(marks, n, w, m, step, i) {
             count += 1;
             i += 1;
         } else {
@@ -73,39 +89,40 @@ fn roomy(entries: usize, w: Window, repaired: usize) -> bool
 }
 
 // Whether so many entries hold the new values. Room for all the marks is enough; only with less are those that can be repaired counted.
-pub fn enough(entries: usize, marks: &[u32], n: usize, w: Window, step: usize) -> bool
-    requires { ⌜ Marking (now marks) n w step ⌝ }
+pub fn enough(entries: usize, marks: &[u32], n: usize, w: Window, m: usize, step: usize) -> bool
+    requires { ⌜ Marking (now marks) n w step × (m ≡ 2 ^ 32 / w .width) ⌝ }
     ensures { λ r. ⌜ r ≡ leb (w .planes * mended (now (marks .entry)) n w step) entries ⌝ }
 {
     if roomy(entries, w, n) {
         return true;
     }
-    roomy(entries, w, repairable(marks, n, w, step))
+    roomy(entries, w, repairable(marks, n, w, m, step))
 }
 
 // ---- the new values, from the samples at the start
 
-// The means of position q, plane by plane, from `at` on.
+// The means of a position, plane by plane, from `at` on.
 fn pixel_f32(
     samples: &[f32],
     marks: &[u32],
     n: usize,
     w: Window,
     step: usize,
-    q: usize,
+    spot: Spot,
     lone: bool,
     values: &mut [f32],
     at: usize,
 )
-    requires { ⌜ Asks (now marks) n w step (q % w .width) (q / w .width)
-        × ((complete w (length (now samples)) ≡ true) × ((at + w .planes ≤ length (now values)) × Told lone (marked (now marks) n) w step q)) ⌝ }
+    requires { ⌜ Asks (now marks) n w step (spot .x) (spot .y) × ((complete w (length (now samples)) ≡ true)
+        × ((at + w .planes ≤ length (now values)) × Told lone (marked (now marks) n) w step (spot .x) (spot .y))) ⌝ }
     ensures { λ r.
         ⌜ now (values .exit)
         ≡ each (between at (at + w .planes)
-        (λ j v. meanAt nan (λ u. u) w step (marked (now (marks .entry)) n) (now (samples .entry)) q (j - at))) (now (values .entry)) ⌝ }
+        (λ j v. meanIn nan (λ u. u) w step (marked (now (marks .entry)) n) (now (samples .entry)) (spot .x) (spot .y) (j - at)))
+        (now (values .entry)) ⌝ }
 {
-    let x = q % w.width;
-    let y = q / w.width;
+    let x = spot.x;
+    let y = spot.y;
     let mut k = 0;
     while k < w.planes {
         values[at + k] = means::mean(means::sum_f32(samples, marks, n, w, step, x, y, k, lone));
@@ -120,21 +137,21 @@ fn pixel_u16(
     n: usize,
     w: Window,
     step: usize,
-    q: usize,
+    spot: Spot,
     lone: bool,
     values: &mut [f32],
     at: usize,
 )
-    requires { ⌜ Asks (now marks) n w step (q % w .width) (q / w .width)
-        × ((complete w (length (now samples)) ≡ true) × ((at + w .planes ≤ length (now values)) × Told lone (marked (now marks) n) w step q)) ⌝ }
+    requires { ⌜ Asks (now marks) n w step (spot .x) (spot .y) × ((complete w (length (now samples)) ≡ true)
+        × ((at + w .planes ≤ length (now values)) × Told lone (marked (now marks) n) w step (spot .x) (spot .y))) ⌝ }
     ensures { λ r.
         ⌜ now (values .exit)
         ≡ each (between at (at + w .planes)
-        (λ j v. meanAt 0 (λ u. wholeIn binary32 u) w step (marked (now (marks .entry)) n) (now (samples .entry)) q (j - at)))
+        (λ j v. meanIn 0 (λ u. wholeIn binary32 u) w step (marked (now (marks .entry)) n) (now (samples .entry)) (spot .x) (spot .y) (j - at)))
         (now (values .entry)) ⌝ }
 {
-    let x = q % w.width;
-    let y = q / w.width;
+    let x = spot.x;
+    let y = spot.y;
     let mut k = 0;
     while k < w.planes {
         values[at + k] = means::mean(means::sum_u16(samples, marks, n, w, step, x, y, k, lone));
@@ -149,11 +166,12 @@ pub fn fill_f32(
     marks: &[u32],
     n: usize,
     w: Window,
+    m: usize,
     step: usize,
     values: &mut [f32],
 ) -> usize
-    requires { ⌜ Marking (now marks) n w step
-        × ((complete w (length (now samples)) ≡ true) × (w .planes * mended (now marks) n w step ≤ length (now values))) ⌝ }
+    requires { ⌜ Marking (now marks) n w step × ((complete w (length (now samples)) ≡ true)
+        × ((w .planes * mended (now marks) n w step ≤ length (now values)) × (m ≡ 2 ^ 32 / w .width))) ⌝ }
     ensures { λ r.
         ⌜ (r ≡ mended (now (marks .entry)) n w step) × Filled (w .planes) n (mendable w step (marked (now (marks .entry)) n))
         (meanAt nan (λ u. u) w step (marked (now (marks .entry)) n) (now (samples .entry))) (now (marks .entry)) (now (values .exit)) ⌝ }
@@ -166,18 +184,9 @@ pub fn fill_f32(
         up = lone::above_from(marks, n, w, step, i, up);
         down = lone::below_from(marks, n, w, step, i, down);
         let lone = lone::alone(marks, n, w, step, i, up, down);
-        if mends_told(marks, n, w, step, i, lone) {
-            pixel_f32(
-                samples,
-                marks,
-                n,
-                w,
-                step,
-                marks[i] as usize,
-                lone,
-                values,
-                at,
-            );
+        let spot = scan::spot_of(marks, i, w, m);
+        if mends_told(marks, n, w, step, spot, lone) {
+            pixel_f32(samples, marks, n, w, step, spot, lone, values, at);
             at += w.planes;
             i += 1;
         } else {
@@ -193,11 +202,12 @@ pub fn fill_u16(
     marks: &[u32],
     n: usize,
     w: Window,
+    m: usize,
     step: usize,
     values: &mut [f32],
 ) -> usize
-    requires { ⌜ Marking (now marks) n w step
-        × ((complete w (length (now samples)) ≡ true) × (w .planes * mended (now marks) n w step ≤ length (now values))) ⌝ }
+    requires { ⌜ Marking (now marks) n w step × ((complete w (length (now samples)) ≡ true)
+        × ((w .planes * mended (now marks) n w step ≤ length (now values)) × (m ≡ 2 ^ 32 / w .width))) ⌝ }
     ensures { λ r.
         ⌜ (r ≡ mended (now (marks .entry)) n w step) × Filled (w .planes) n (mendable w step (marked (now (marks .entry)) n))
         (meanAt 0 (λ u. wholeIn binary32 u) w step (marked (now (marks .entry)) n) (now (samples .entry))) (now (marks .entry)) (now (values .exit)) ⌝ }
@@ -210,18 +220,9 @@ pub fn fill_u16(
         up = lone::above_from(marks, n, w, step, i, up);
         down = lone::below_from(marks, n, w, step, i, down);
         let lone = lone::alone(marks, n, w, step, i, up, down);
-        if mends_told(marks, n, w, step, i, lone) {
-            pixel_u16(
-                samples,
-                marks,
-                n,
-                w,
-                step,
-                marks[i] as usize,
-                lone,
-                values,
-                at,
-            );
+        let spot = scan::spot_of(marks, i, w, m);
+        if mends_told(marks, n, w, step, spot, lone) {
+            pixel_u16(samples, marks, n, w, step, spot, lone, values, at);
             at += w.planes;
             i += 1;
         } else {

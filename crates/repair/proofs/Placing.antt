@@ -1,5 +1,4 @@
--- Where a mark lies: its row and column in the window, the samples of its pixel, and which sample belongs to which position.
--- Assumes nothing.
+-- Where a mark lies: the samples of its pixel, and which sample belongs to which position. Assumes nothing.
 use Prim.Native.Nat.{ℕ, _+_, _-_, _*_, _/_, _%_, _≤_, _<_}
 use mathlib.Core.Path.{_≡_, refl, sym, ap, ap₂, _∙_}
 use mathlib.Core.Bool.{true, false, _&&_, and-false}
@@ -75,13 +74,6 @@ module _ (w : Window) (f : Fits w) (q : ℕ) (h : q < positions w) where
   pub pixel-in : (n : ℕ) → complete w n ≡ true → pixelOf w q + w .planes ≤ n
   pixel-in n e =
       omega (arith, f .some, place-in w (q % w .width) (q / w .width) (column-in w f q h) (row-in w f q h) n (w .planes - 1) (omega (arith, f .some)) e)
-
-pub position-is : (w : Window) (q : ℕ) → q / w .width * w .width + q % w .width ≡ q
-position-is w q = div-add-mod' q (w .width)
-
--- and what is left of it behind its row is the column
-pub column-is : (w : Window) (q y : ℕ) → y ≡ q / w .width → (y * w .width ≤ q) × (q - y * w .width ≡ q % w .width)
-column-is w q y e = let whole : y * w .width + q % w .width ≡ q = rw e (position-is w q) in (omega arith, omega arith)
 
 -- ---- a sample
 

@@ -27,7 +27,8 @@ use Rattle.sorts.proofs.Occ.{by-cases, equal-or, has-append, has-one}
 use Rattle.fills.specs.Fills.{mendable, countIn, meanIn, Filled}
 use Rattle.repair.specs.Works.{pixelOf}
 use Rattle.fills.proofs.Lying.{column-in, row-in}
-use Rattle.repair.proofs.Placing.{position-is, plane-at, column-at, row-at, window-at, row-of, column-of, row-from, column-from, pixel-of}
+use Rattle.scan.proofs.Places.{position-is}
+use Rattle.repair.proofs.Placing.{plane-at, column-at, row-at, window-at, row-of, column-of, row-from, column-from, pixel-of}
 use Rattle.fills.proofs.Filling.{next-yes, next-no}
 
 -- ---- one pixel, plane by plane

@@ -1,19 +1,19 @@
 // The repairs over a window, f32 and u16: marks into the u32 scratch, new values into the f32 scratch, then the samples.
 ghost use mathlib.Core.Path.{_≡_};
 ghost use mathlib.Core.Bool.{true};
-ghost use Prim.Native.Nat.{_+_, _-_, _*_, _/_, _%_, _^_, _≤_, _<_};
+ghost use Prim.Native.Nat.{_+_, _-_, _*_, _/_, _^_, _≤_, _<_};
 ghost use lib.Ieee.{nan, binary32};
 ghost use lib.ListN.{length, getD};
 ghost use Rattle.convert.specs.Convert.{wholeIn};
 ghost use Rattle.whole.specs.Whole.{roundHeld};
 ghost use Rattle.points.specs.Points.{each, between};
 ghost use Rattle.dng.specs.Repair.{complete, positions, stepOf, marksOn, marksOf, repairAt};
-ghost use Rattle.marks.specs.Marks.{Fits, Gathered};
+ghost use Rattle.marks.specs.Marks.{Gathered};
 ghost use Rattle.means.specs.Looks.{marked};
 ghost use Rattle.fills.specs.Fills.{Marking, mendable, mended, meanAt, Filled};
 ghost use Rattle.repair.specs.Fixes.{Fixes};
 ghost use Rattle.repair.specs.Works.{Ranges, pixelOf, Settled};
-ghost use Rattle.scan.specs.Parts.{Whole};
+ghost use Rattle.scan.specs.Parts.{Finds, Whole};
 ghost use Rattle.dng.specs.Run.{f32Kind, u16Kind};
 ghost use Rattle.dng.specs.Answer.{frameOf, inRange};
 use dng::Opcode;
@@ -53,35 +53,16 @@ fn full(n: usize, w: Window) -> bool
 
 // ---- the samples
 
-// A width's reciprocal, in parts of 2^32.
-fn reciprocal(w: Window) -> usize
-    requires { ⌜ Fits w ⌝ }
-    ensures { λ r. ⌜ r ≡ 2 ^ 32 / w .width ⌝ }
-{
-    4294967296 / w.width
-}
-
-// How many rows of `width` positions lie before q, by the width's reciprocal m: the product is the row or one less, so that no
-// division is taken for a mark.
-fn row_of(q: usize, width: usize, m: usize) -> usize
-    requires { ⌜ (1 ≤ width) × ((q < 2 ^ 32) × (m ≡ 2 ^ 32 / width)) ⌝ }
-    ensures { λ r. ⌜ r ≡ q / width ⌝ }
-{
-    let e = q * m / 4294967296;
-    if q - e * width < width { e } else { e + 1 }
-}
-
 // Where the samples of mark i start. Where no gap lies between the rows, its row is not needed.
 fn first(marks: &[u32], i: usize, w: Window, m: usize) -> usize
-    requires { ⌜ Fits w × ((m ≡ 2 ^ 32 / w .width) × ((i < length (now marks)) × (getD (now marks) i 0 < positions w))) ⌝ }
+    requires { ⌜ Finds (now marks) i w m ⌝ }
     ensures { λ r. ⌜ r ≡ pixelOf w (getD (now (marks .entry)) i 0) ⌝ }
 {
-    let q = marks[i] as usize;
     if w.stride == w.width {
-        return q * w.planes;
+        return marks[i] as usize * w.planes;
     }
-    let y = row_of(q, w.width, m);
-    scan::place(w, q - y * w.width, y, 0)
+    let spot = scan::spot_of(marks, i, w, m);
+    scan::place(w, spot.x, spot.y, 0)
 }
 
 // A pixel's new values into its samples.
@@ -118,6 +99,7 @@ fn write_f32(
     marks: &[u32],
     n: usize,
     w: Window,
+    m: usize,
     step: usize,
     repaired: usize,
     values: &[f32],
@@ -126,16 +108,15 @@ fn write_f32(
         × ((complete w (length (now samples)) ≡ true) × ((w .planes * mended (now marks) n w step ≤ length (now values))
         × (Filled (w .planes) n (mendable w step (marked (now marks) n))
         (meanAt nan (λ u. u) w step (marked (now marks) n) (now samples)) (now marks) (now values)
-        × (repaired ≡ mended (now marks) n w step)))) ⌝ }
+        × ((repaired ≡ mended (now marks) n w step) × (m ≡ 2 ^ 32 / w .width))))) ⌝ }
     ensures { λ r.
         ⌜ now (samples .exit)
         ≡ each (repairAt nan (λ u. u) (λ u. u) w step (marked (now (marks .entry)) n) (now (samples .entry))) (now (samples .entry)) ⌝ }
 {
-    let m = reciprocal(w);
     let mut at = 0;
     let mut i = 0;
     while i < n {
-        if fills::mends_of(marks, n, w, step, i, repaired) {
+        if fills::mends_of(marks, n, w, m, step, i, repaired) {
             let from = first(marks, i, w, m);
             put_f32(samples, from, w.planes, values, at);
             at += w.planes;
@@ -152,6 +133,7 @@ fn write_u16(
     marks: &[u32],
     n: usize,
     w: Window,
+    m: usize,
     step: usize,
     repaired: usize,
     values: &[f32],
@@ -160,17 +142,16 @@ fn write_u16(
         × ((complete w (length (now samples)) ≡ true) × ((w .planes * mended (now marks) n w step ≤ length (now values))
         × (Filled (w .planes) n (mendable w step (marked (now marks) n))
         (meanAt 0 (λ u. wholeIn binary32 u) w step (marked (now marks) n) (now samples)) (now marks) (now values)
-        × (repaired ≡ mended (now marks) n w step)))) ⌝ }
+        × ((repaired ≡ mended (now marks) n w step) × (m ≡ 2 ^ 32 / w .width))))) ⌝ }
     ensures { λ r.
         ⌜ now (samples .exit)
         ≡ each (repairAt 0 (λ u. wholeIn binary32 u) (λ u. roundHeld 65535 u) w step (marked (now (marks .entry)) n) (now (samples .entry)))
         (now (samples .entry)) ⌝ }
 {
-    let m = reciprocal(w);
     let mut at = 0;
     let mut i = 0;
     while i < n {
-        if fills::mends_of(marks, n, w, step, i, repaired) {
+        if fills::mends_of(marks, n, w, m, step, i, repaired) {
             let from = first(marks, i, w, m);
             put_u16(samples, from, w.planes, values, at);
             at += w.planes;
@@ -192,7 +173,7 @@ fn done(n: usize, repaired: usize) -> Fixed
     Fixed::Done { repaired, left }
 }
 
-// Room for the new values first; with too little of it nothing is written.
+// Room for the new values first; with too little of it nothing is written. The width's reciprocal is worked out once for all marks.
 fn settle_f32(
     samples: &mut [f32],
     marks: &[u32],
@@ -207,9 +188,10 @@ fn settle_f32(
         (each (repairAt nan (λ u. u) (λ u. u) w step (marked (now (marks .entry)) n) (now (samples .entry))) (now (samples .entry)))
         (w .planes) (length (now (values .entry))) n (mended (now (marks .entry)) n w step) r ⌝ }
 {
-    if fills::enough(values.len(), marks, n, w, step) {
-        let repaired = fills::fill_f32(samples, marks, n, w, step, values);
-        write_f32(samples, marks, n, w, step, repaired, values);
+    let m = scan::reciprocal(w);
+    if fills::enough(values.len(), marks, n, w, m, step) {
+        let repaired = fills::fill_f32(samples, marks, n, w, m, step, values);
+        write_f32(samples, marks, n, w, m, step, repaired, values);
         done(n, repaired)
     } else {
         Fixed::Values
@@ -231,9 +213,10 @@ fn settle_u16(
         (each (repairAt 0 (λ u. wholeIn binary32 u) (λ u. roundHeld 65535 u) w step (marked (now (marks .entry)) n) (now (samples .entry)))
         (now (samples .entry))) (w .planes) (length (now (values .entry))) n (mended (now (marks .entry)) n w step) r ⌝ }
 {
-    if fills::enough(values.len(), marks, n, w, step) {
-        let repaired = fills::fill_u16(samples, marks, n, w, step, values);
-        write_u16(samples, marks, n, w, step, repaired, values);
+    let m = scan::reciprocal(w);
+    if fills::enough(values.len(), marks, n, w, m, step) {
+        let repaired = fills::fill_u16(samples, marks, n, w, m, step, values);
+        write_u16(samples, marks, n, w, m, step, repaired, values);
         done(n, repaired)
     } else {
         Fixed::Values

@@ -1,10 +1,10 @@
 -- Positions and places: a position of the window is below their number and a number of 32 bits, and a place of a complete window is
 -- among its samples. Assumes nothing.
-use Prim.Native.Nat.{ℕ, _+_, _-_, _*_, _≤_, _<_}
+use Prim.Native.Nat.{ℕ, _+_, _-_, _*_, _/_, _%_, _≤_, _<_}
 use mathlib.Core.Path.{_≡_, refl, sym, ap, subst, _∙_}
 use mathlib.Core.Bool.{Bool, true, false, _&&_, false≢true}
 use mathlib.Core.List.{List}
-use native.Mathlib.Nat.{le-trans, lt-of-lt-of-le, mul-le-mul-left, mul-le-mul-right, mul-comm}
+use native.Mathlib.Nat.{le-trans, lt-of-lt-of-le, mul-le-mul-left, mul-le-mul-right, mul-comm, div-add-mod'}
 use native.Mathlib.Omega.{arith}
 use borrow.Author.Tests.{leb-true}
 use lib.Arith.{digits-lt, digits-div, digits-mod}
@@ -47,6 +47,13 @@ module _ (w : Window) (x y : ℕ) (h : x < w .width) (k : y < w .height) where
       let full : pixels * w .planes ≤ n =
       leb-true (pixels * w .planes) n (and-second (leb 1 (w .height)) (leb (pixels * w .planes) n) (and-second (active w) _ e)) in
       lt-of-lt-of-le (digits-lt {q = y * w .stride + x} {m = pixels} (omega arith) l) full
+
+-- a position is its row's first and its column, and what is left of it behind its row is the column
+pub position-is : (w : Window) (q : ℕ) → q / w .width * w .width + q % w .width ≡ q
+position-is w q = div-add-mod' q (w .width)
+
+pub column-is : (w : Window) (q y : ℕ) → y ≡ q / w .width → (y * w .width ≤ q) × (q - y * w .width ≡ q % w .width)
+column-is w q y e = let whole : y * w .width + q % w .width ≡ q = rw e (position-is w q) in (omega arith, omega arith)
 
 -- what the position of a column and a row holds
 pub bad-at : {A : Type 0} (d : A) (w : Window) (test : A → Bool) (s : List A) (x y : ℕ) → x < w .width

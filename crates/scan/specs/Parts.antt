@@ -1,13 +1,14 @@
--- What a scan over a part of a row asks of its caller. Document 01, 'What each does to a value', Repair: plane 0 equal to the constant.
-use Prim.Native.Nat.{ℕ, _+_, _*_, _≤_, _<_}
+-- What a scan over a part of a row asks of its caller, and the finding of a mark's row.
+-- Document 01, 'What each does to a value', Repair: plane 0 equal to the constant.
+use Prim.Native.Nat.{ℕ, _+_, _*_, _/_, _^_, _≤_, _<_}
 use mathlib.Core.Bool.{Bool, true, false}
 use mathlib.Core.List.{List}
 use mathlib.Core.Path.{_≡_}
 use lib.Dec.{eqb}
-use lib.ListN.{length, set}
+use lib.ListN.{length, getD, set}
 use lib.Ieee.{Float, nan, eq}
 use Rattle.dng.specs.declared.Window.{Window}
-use Rattle.dng.specs.Repair.{complete, badValue}
+use Rattle.dng.specs.Repair.{positions, complete, badValue}
 use Rattle.marks.specs.Marks.{Fits, Holds}
 
 -- column x of row y of a window in range
@@ -15,6 +16,13 @@ pub record Pixel (w : Window) (x y : ℕ) : Type 0 where
   pub fits : Fits w
   pub column : x < w .width
   pub row : y < w .height
+
+-- entry i of the scratch is a position of a window in range, and m the reciprocal of its width
+pub record Finds (marks : List ℕ) (i : ℕ) (w : Window) (m : ℕ) : Type 0 where
+  pub fits : Fits w
+  pub held : i < length marks
+  pub inside : getD marks i 0 < positions w
+  pub part : m ≡ 2 ^ 32 / w .width
 
 -- the window's samples are all there
 pub record Whole (samples : ℕ) (w : Window) : Type 0 where

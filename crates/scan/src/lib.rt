@@ -1,15 +1,21 @@
-// The positions of a window whose plane 0 equals a constant, in the u32 scratch.
+// The positions of a window, and where their samples lie; those whose plane 0 equals a constant, in the u32 scratch.
 ghost use mathlib.Core.Path.{_≡_};
 ghost use mathlib.Core.Bool.{true, false};
-ghost use Prim.Native.Nat.{ℕ, _+_, _*_, _≤_, _<_};
+ghost use Prim.Native.Nat.{ℕ, _+_, _*_, _/_, _%_, _^_, _≤_, _<_};
 ghost use lib.ListN.{length, getD};
 ghost use lib.Dec.{eqb};
 ghost use lib.Ieee.{nan, eq};
 ghost use Rattle.dng.specs.Repair.{positions, badValue};
-ghost use Rattle.marks.specs.Marks.{Gathered};
-ghost use Rattle.scan.specs.Parts.{Pixel, Whole, Part, Keeps, Before, Clear, same32, same16};
+ghost use Rattle.marks.specs.Marks.{Fits, Gathered};
+ghost use Rattle.scan.specs.Parts.{Pixel, Finds, Whole, Part, Keeps, Before, Clear, same32, same16};
 use dng::Window;
 use marks::Marked;
+
+// A position's column and row.
+pub struct Spot {
+    pub x: usize,
+    pub y: usize,
+}
 
 // Where the sample of a plane lies.
 pub fn place(w: Window, x: usize, y: usize, plane: usize) -> usize
@@ -25,6 +31,35 @@ pub fn position(w: Window, x: usize, y: usize) -> u32
     ensures { λ r. ⌜ r ≡ y * w .width + x ⌝ }
 {
     (y * w.width + x) as u32
+}
+
+// A width's reciprocal, in parts of 2^32.
+pub fn reciprocal(w: Window) -> usize
+    requires { ⌜ Fits w ⌝ }
+    ensures { λ r. ⌜ r ≡ 2 ^ 32 / w .width ⌝ }
+{
+    4294967296 / w.width
+}
+
+// How many rows of `width` positions lie before q, by the width's reciprocal m: the product is the row or one less, so that no
+// division is taken for a mark.
+fn row_of(q: usize, width: usize, m: usize) -> usize
+    requires { ⌜ (1 ≤ width) × ((q < 2 ^ 32) × (m ≡ 2 ^ 32 / width)) ⌝ }
+    ensures { λ r. ⌜ r ≡ q / width ⌝ }
+{
+    let e = q * m / 4294967296;
+    if q - e * width < width { e } else { e + 1 }
+}
+
+// Where mark i lies.
+pub fn spot_of(marks: &[u32], i: usize, w: Window, m: usize) -> Spot
+    requires { ⌜ Finds (now marks) i w m ⌝ }
+    ensures { λ r. ⌜ (r .x ≡ getD (now (marks .entry)) i 0 % w .width) × (r .y ≡ getD (now (marks .entry)) i 0 / w .width) ⌝ }
+{
+    let q = marks[i] as usize;
+    let y = row_of(q, w.width, m);
+    let x = q - y * w.width;
+    Spot { x, y }
 }
 
 // Where the sample that is compared lies: plane 0 alone says whether a position is marked.

@@ -16,13 +16,13 @@ roomy-requires : tie.Need-roomy-requires
 roomy-requires c κs =
     let s = c .before in
     let a = s .args in
-    omega (arith, marks-few (a .marks .now) (a .n) (a .w) (a .step) (s .pre), s .pre .held, s .good .1 .0 .1)
+    omega (arith, marks-few (a .marks .now) (a .n) (a .w) (a .step) (s .pre .0), s .pre .0 .held, s .good .1 .0 .1)
 
 returns : tie.Need-returns
 returns c =
     let s = c .before .before .before in
     let a = s .args in
-    room-all (a .marks .now) (a .n) (a .w) (a .step) (s .pre) (a .entries) (sym (c .before .roomy .ensures) ∙ c .if1 .taken)
+    room-all (a .marks .now) (a .n) (a .w) (a .step) (s .pre .0) (a .entries) (sym (c .before .roomy .ensures) ∙ c .if1 .taken)
 
 repairable-requires : tie.Need-repairable-requires
 repairable-requires c κs = search needs
@@ -32,7 +32,7 @@ roomy-requires-2 c κs =
     let s = c .before .before .before .before in
     let a = s .args in
     subst (λ (m : ℕ). a .w .planes * m < 2 ^ 64) (sym (c .repairable .ensures))
-    (omega (arith, mended-few (a .marks .now) (a .n) (a .w) (a .step) (s .pre) .1, s .pre .held, s .good .1 .0 .1))
+    (omega (arith, mended-few (a .marks .now) (a .n) (a .w) (a .step) (s .pre .0) .1, s .pre .0 .held, s .good .1 .0 .1))
 
 returns-2 : tie.Need-returns-2
 returns-2 c =

@@ -1,122 +1,149 @@
 -- `fills::fill_u16` meets its contract: the values of the marks before i stand one behind another. Assumes nothing.
-use Prim.Native.Nat.{_+_, _-_, _≤_}
-use mathlib.Core.Path.{sym, _∙_}
+use Prim.Native.Nat.{ℕ, _+_, _-_, _/_, _%_, _≤_}
+use mathlib.Core.Bool.{Bool}
+use mathlib.Core.Path.{_≡_, sym, _∙_}
 use native.Mathlib.Omega.{arith}
-use lib.ListN.{length}
-use lib.Ieee.{binary32}
+use lib.ListN.{length, getD}
+use lib.Ieee.{Float, binary32}
 use Rattle.convert.specs.Convert.{wholeIn}
-use Rattle.means.specs.Looks.{marked}
-use Rattle.fills.specs.Fills.{mendable, meanAt}
-use Rattle.fills.proofs.Lying.{mark-asks}
+use Rattle.means.specs.Looks.{Asks, marked}
+use Rattle.fills.specs.Fills.{mendable, Told, meanAt}
+use Rattle.fills.proofs.Lying.{mark-asks, mark-finds, spot-asks, spot-told, spot-mends, spot-means}
 use Rattle.fills.proofs.Filling.{Filling, next-room, fill-start, fill-yes, fill-no, fill-end, fill-count}
 use Rattle.fills.proofs.fill_u16.Statement.{statement}
 use Rattle.fills.proofs.fill_u16.Tie as tie
-use Rattle.fills.proofs.fill_u16.Reads as reads
-use Rattle.fills.proofs.fill_u16.Lts as lts
-use Rattle.lone.proofs.above_from.Reads as above-from-reads
-use Rattle.lone.proofs.alone.Reads as alone-reads
-use Rattle.lone.proofs.below_from.Reads as below-from-reads
-use Rattle.fills.proofs.mends_told.Reads as mends-told-reads
-use Rattle.fills.proofs.pixel_u16.Reads as pixel-u16-reads
 
 abbrev Inv-loop : tie.InvT-loop
-Inv-loop samples marks n w step values₀ at₀ up₀ down₀ i₀ values at up down i =
+Inv-loop samples marks n w m step values₀ at₀ up₀ down₀ i₀ values at up down i =
     Filling (w .planes) n (mendable w step (marked marks n)) (meanAt 0 (λ u. wholeIn binary32 u) w step (marked marks n) samples) marks values₀ values at i
 
 abbrev μ-loop : tie.MeasureT-loop
-μ-loop samples marks n w step values₀ at₀ up₀ down₀ i₀ values at up down i = n - i
+μ-loop samples marks n w m step values₀ at₀ up₀ down₀ i₀ values at up down i = n - i
+
+-- the function's start, and the turn of the loop that a spot, an answer and its means belong to
+abbrev start : tie.In-loop Inv-loop μ-loop → tie.Start Inv-loop μ-loop
+start c = c .before .before .before .before .before
+
+abbrev turn : tie.After-spot-of Inv-loop μ-loop → tie.In-loop Inv-loop μ-loop
+turn c = c .before .before .before .before
+
+abbrev spot : tie.Then1 Inv-loop μ-loop → tie.After-spot-of Inv-loop μ-loop
+spot c = c .before .before
+
+-- its mark, the marks, which of them are repaired, and their means
+abbrev mark : tie.In-loop Inv-loop μ-loop → ℕ
+mark c = getD (start c .args .marks .now) (c .before .loop .i) 0
+
+abbrev bad : tie.Start Inv-loop μ-loop → ℕ → Bool
+bad s = marked (s .args .marks .now) (s .args .n)
+
+abbrev test : tie.Start Inv-loop μ-loop → ℕ → Bool
+test s = mendable (s .args .w) (s .args .step) (bad s)
+
+abbrev mean : tie.Start Inv-loop μ-loop → ℕ → ℕ → Float
+mean s = meanAt 0 (λ u. wholeIn binary32 u) (s .args .w) (s .args .step) (bad s) (s .args .samples .now)
+
+asks : (c : tie.In-loop Inv-loop μ-loop)
+    → Asks (start c .args .marks .now) (start c .args .n) (start c .args .w) (start c .args .step)
+    (mark c % start c .args .w .width) (mark c / start c .args .w .width)
+asks c =
+    let s = start c in
+    mark-asks (s .args .marks .now) (s .args .n) (s .args .w) (s .args .step) (s .pre .0) (c .before .loop .i) (c .loop-test .taken)
 
 loop-holds : tie.Need-loop-holds Inv-loop μ-loop
 loop-holds c = fill-start _ _ _ _ _ _
 
 above-from-requires : tie.Need-above-from-requires Inv-loop μ-loop
-above-from-requires c κs =
-    let s = c .before .before .before .before .before in
-    let a = s .args in
-    let taken = c .loop-test .taken in
-    (taken, mark-asks (a .marks .now) (a .n) (a .w) (a .step) (s .pre .0) (c .before .loop .i) taken)
+above-from-requires c κs = (c .loop-test .taken, asks c)
 
 below-from-requires : tie.Need-below-from-requires Inv-loop μ-loop
-below-from-requires c κs =
-    let s = c .before .before .before .before .before .before in
-    let a = s .args in
-    let taken = c .before .loop-test .taken in
-    (taken, mark-asks (a .marks .now) (a .n) (a .w) (a .step) (s .pre .0) (c .before .before .loop .i) taken)
+below-from-requires c κs = (c .before .loop-test .taken, asks (c .before))
 
 alone-requires : tie.Need-alone-requires Inv-loop μ-loop
-alone-requires c κs =
-    let s = c .before .before .before .before .before .before .before in
+alone-requires c κs = (c .before .before .loop-test .taken, asks (c .before .before))
+
+spot-of-requires : tie.Need-spot-of-requires Inv-loop μ-loop
+spot-of-requires c κs =
+    let t = c .before .before .before in
+    let s = start t in
     let a = s .args in
-    let taken = c .before .before .loop-test .taken in
-    (taken, mark-asks (a .marks .now) (a .n) (a .w) (a .step) (s .pre .0) (c .before .before .before .loop .i) taken)
+    mark-finds (a .marks .now) (a .n) (a .w) (a .step) (s .pre .0) (t .before .loop .i) (t .loop-test .taken) (a .m) (s .pre .1 .1 .1)
+
+-- what is asked of the spot, and what is told of it
+spot-in : (c : tie.After-spot-of Inv-loop μ-loop)
+    → Asks (start (turn c) .args .marks .now) (start (turn c) .args .n) (start (turn c) .args .w) (start (turn c) .args .step)
+    (c .spot-of .result .x) (c .spot-of .result .y)
+spot-in c =
+    let s = start (turn c) in
+    let r = c .spot-of .result in
+    spot-asks (s .args .w) (s .args .step) (bad s) (mark (turn c)) (r .x) (r .y) (c .spot-of .ensures) (asks (turn c))
+
+told : (c : tie.After-spot-of Inv-loop μ-loop)
+    → Told (c .before .alone .result) (bad (start (turn c))) (start (turn c) .args .w) (start (turn c) .args .step)
+    (c .spot-of .result .x) (c .spot-of .result .y)
+told c =
+    let s = start (turn c) in
+    let r = c .spot-of .result in
+    spot-told (s .args .w) (s .args .step) (bad s) (mark (turn c)) (r .x) (r .y) (c .spot-of .ensures) (c .before .alone .result) (c .before .alone .ensures)
 
 mends-told-requires : tie.Need-mends-told-requires Inv-loop μ-loop
-mends-told-requires c κs =
-    let s = c .before .before .before .before .before .before .before .before in
-    (s .pre .0, (c .before .before .before .loop-test .taken, c .alone .ensures))
+mends-told-requires c κs = (spot-in c, told c)
 
-mul-pixel-u16 : tie.Need-mul-pixel-u16 Inv-loop μ-loop
-mul-pixel-u16 c = let s = c .before .before .before .before .before .before .before .before .before .before in omega (arith, s .pre .0 .held, s .good .1 .0 .1)
-
-shared-slice-read-pixel-u16 : tie.Need-shared-slice-read-pixel-u16 Inv-loop μ-loop
-shared-slice-read-pixel-u16 c =
-    let s = c .before .before .before .before .before .before .before .before .before .before .before in
-    omega (arith, s .pre .0 .held)
-
-cast-pixel-u16 : tie.Need-cast-pixel-u16 Inv-loop μ-loop
-cast-pixel-u16 c = omega (arith, c .shared-slice-known3 .given (c .before .before .before .before .before .before .before .loop .i))
+-- whether the mark is repaired
+repaired : (c : tie.After-mends-told Inv-loop μ-loop) (b : Bool) → c .mends-told .result ≡ b → test (start (turn (c .before))) (mark (turn (c .before))) ≡ b
+repaired c b e =
+    let t = turn (c .before) in
+    let s = start t in
+    let r = c .before .spot-of in
+    sym (spot-mends (s .args .w) (s .args .step) (bad s) (mark t) (r .result .x) (r .result .y) (r .ensures) (c .mends-told .result) (c .mends-told .ensures)) ∙ e
 
 -- the values of the mark have room
-there : (c : tie.After-shared-slice-known3 Inv-loop μ-loop)
-    → c .before .before .before .before .before .before .before .loop .at
-    + c .before .before .before .before .before .before .before .before .before .before .before .args .w .planes
-    ≤ length (c .before .before .before .before .before .before .before .loop .values)
+there : (c : tie.Then1 Inv-loop μ-loop)
+    → turn (spot c) .before .loop .at + start (turn (spot c)) .args .w .planes ≤ length (turn (spot c) .before .loop .values)
 there c =
-    let s = c .before .before .before .before .before .before .before .before .before .before .before in
+    let t = turn (spot c) in
+    let s = start t in
     let a = s .args in
-    let at = c .before .before .before .before .before .before .before .loop in
-    let room = next-room (a .w .planes) (a .n) (mendable (a .w) (a .step) (marked (a .marks .now) (a .n))) (a .marks .now) (at .i) (s .pre .0 .held)
-    (at .at) (length (a .values .now)) (at .inv .next) (c .before .before .before .before .before .before .loop-test .taken)
-    (sym (c .before .before .mends-told .ensures) ∙ c .before .if1 .taken) (s .pre .1 .1) in
-    omega (arith, room, at .inv .same)
+    let l = t .before .loop in
+    let room = next-room (a .w .planes) (a .n) (test s) (a .marks .now) (l .i) (s .pre .0 .held) (l .at) (length (a .values .now)) (l .inv .next)
+    (t .loop-test .taken) (repaired (c .before) _ (c .if1 .taken)) (s .pre .1 .1 .0) in
+    omega (arith, room, l .inv .same)
 
 pixel-u16-requires : tie.Need-pixel-u16-requires Inv-loop μ-loop
-pixel-u16-requires c κs =
-    let s = c .before .before .before .before .before .before .before .before .before .before .before .before in
-    let a = s .args in
-    let at = c .before .before .before .before .before .before .before .before .loop in (
-      mark-asks (a .marks .now) (a .n) (a .w) (a .step) (s .pre .0) (at .i) (c .before .before .before .before .before .before .before .loop-test .taken),
-      (s .pre .1 .0, (there (c .before), c .before .before .before .before .alone .ensures)),
-    )
+pixel-u16-requires c κs = let b = c .before in (spot-in (spot b), (start (turn (spot b)) .pre .1 .0, (there b, told (spot b))))
+
+-- the branch that the means were put in
+abbrev branch : tie.After-pixel-u16 Inv-loop μ-loop → tie.Then1 Inv-loop μ-loop
+branch c = c .before .before
 
 add-at : tie.Need-add-at Inv-loop μ-loop
 add-at c =
-    let s = c .before .before .before .before .before .before .before .before .before .before .before .before .before .before .before .before in
-    let same = c .before .before .before .before .before .before .before .before .before .before .before .before .loop .inv .same in
-    omega (arith, there (c .before .before .before .before .before), same, s .good .1 .1 .1 .1 .1 .0 .1)
+    let b = branch (c .before .before .before) in
+    let t = turn (spot b) in
+    omega (arith, there b, t .before .loop .inv .same, start t .good .1 .1 .1 .1 .1 .1 .0 .1)
 
 add-i : tie.Need-add-i Inv-loop μ-loop
 add-i c =
-    let s = c .before .before .before .before .before .before .before .before .before .before .before .before .before .before .before .before in
-    let taken = c .before .before .before .before .before .before .before .before .before .before .before .loop-test .taken in
-    omega (arith, taken, s .pre .0 .held, s .good .1 .0 .1)
+    let t = turn (spot (branch (c .before .before .before))) in
+    let s = start t in
+    omega (arith, t .loop-test .taken, s .pre .0 .held, s .good .1 .0 .1)
 
 loop-less : tie.Need-loop-less Inv-loop μ-loop
 loop-less c = omega arith
 
 loop-again : tie.Need-loop-again Inv-loop μ-loop
 loop-again c =
-    let s = c .before .before .before .before .before .before .before .before .before .before .before .before .before .before .before .before in
+    let put = c .before .before .before in
+    let b = branch put in
+    let t = turn (spot b) in
+    let s = start t in
     let a = s .args in
-    let at = c .before .before .before .before .before .before .before .before .before .before .before .before .loop in
-    let test = mendable (a .w) (a .step) (marked (a .marks .now) (a .n)) in
-    let mean = meanAt 0 (λ u. wholeIn binary32 u) (a .w) (a .step) (marked (a .marks .now) (a .n)) (a .samples .now) in
-    let taken = c .before .before .before .before .before .before .before .before .before .before .before .loop-test .taken in
-    let put = c .before .before .before .pixel-u16 in
-    fill-yes (a .w .planes) (a .n) test mean (a .marks .now) (a .values .now) (at .values) (at .at) (at .i) (at .inv) (s .pre .0 .held) taken
-    (put .last .1 .1 .1 .1 .1 .1 .1 .0)
-    (sym (c .before .before .before .before .before .before .before .mends-told .ensures) ∙ c .before .before .before .before .before .before .if1 .taken)
-    (there (c .before .before .before .before .before)) (put .ensures)
+    let l = t .before .loop in
+    let r = spot b .spot-of in
+    fill-yes (a .w .planes) (a .n) (test s) (mean s) (a .marks .now) (a .values .now) (l .values) (l .at) (l .i) (l .inv) (s .pre .0 .held) (t .loop-test .taken)
+    (put .pixel-u16 .last .1 .1 .1 .1 .1 .1 .1 .0) (repaired (b .before) _ (b .if1 .taken)) (there b)
+    (spot-means (a .w) (a .step) (bad s) (mark t) (r .result .x) (r .result .y) (r .ensures) 0 (λ u. wholeIn binary32 u) (a .samples .now) (l .at) (l .at + a .w .planes)
+    (l .values) _ (put .pixel-u16 .ensures))
 
 add-i-2 : tie.Need-add-i-2 Inv-loop μ-loop
 add-i-2 c = omega arith
@@ -126,13 +153,12 @@ loop-less-2 c = omega arith
 
 loop-again-2 : tie.Need-loop-again-2 Inv-loop μ-loop
 loop-again-2 c =
-    let s = c .before .before .before .before .before .before .before .before .before .before in
+    let t = turn (c .before .before) in
+    let s = start t in
     let a = s .args in
-    let at = c .before .before .before .before .before .before .loop in
-    let test = mendable (a .w) (a .step) (marked (a .marks .now) (a .n)) in
-    let mean = meanAt 0 (λ u. wholeIn binary32 u) (a .w) (a .step) (marked (a .marks .now) (a .n)) (a .samples .now) in
-    fill-no (a .w .planes) (a .n) test mean (a .marks .now) (a .values .now) (at .values) (at .at) (at .i) (at .inv) (s .pre .0 .held)
-    (c .before .before .before .before .before .loop-test .taken) (sym (c .before .mends-told .ensures) ∙ c .if1 .left)
+    let l = t .before .loop in
+    fill-no (a .w .planes) (a .n) (test s) (mean s) (a .marks .now) (a .values .now) (l .values) (l .at) (l .i) (l .inv) (s .pre .0 .held) (t .loop-test .taken)
+    (repaired (c .before) _ (c .if1 .left))
 
 div-result : tie.Need-div-result Inv-loop μ-loop
 div-result c = c .before .before .before .before .before .before .pre .0 .fits .some
@@ -144,12 +170,10 @@ returns : tie.Need-returns Inv-loop μ-loop
 returns c =
     let s = c .before .before .before .before .before .before in
     let a = s .args in
-    let at = c .before .before .loop in
-    let out = c .before .loop-test .left in
-    let test = mendable (a .w) (a .step) (marked (a .marks .now) (a .n)) in
-    let mean = meanAt 0 (λ u. wholeIn binary32 u) (a .w) (a .step) (marked (a .marks .now) (a .n)) (a .samples .now) in (
-      fill-count (a .w .planes) (a .n) test mean (a .marks .now) (a .values .now) (at .values) (at .at) (at .i) (at .inv) out (s .pre .0 .fits .some),
-      fill-end (a .w .planes) (a .n) test mean (a .marks .now) (a .values .now) (at .values) (at .at) (at .i) (at .inv) out,
+    let l = c .before .before .loop in
+    let out = c .before .loop-test .left in (
+      fill-count (a .w .planes) (a .n) (test s) (mean s) (a .marks .now) (a .values .now) (l .values) (l .at) (l .i) (l .inv) out (s .pre .0 .fits .some),
+      fill-end (a .w .planes) (a .n) (test s) (mean s) (a .marks .now) (a .values .now) (l .values) (l .at) (l .i) (l .inv) out,
     )
 
 pub fill-u16-spec : {M : Type 1} → statement M
@@ -162,10 +186,8 @@ fill-u16-spec =
     above-from-requires
     below-from-requires
     alone-requires
+    spot-of-requires
     mends-told-requires
-    mul-pixel-u16
-    shared-slice-read-pixel-u16
-    cast-pixel-u16
     pixel-u16-requires
     add-at
     add-i

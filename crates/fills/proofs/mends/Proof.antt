@@ -1,47 +1,29 @@
 -- `fills::mends` meets its contract: a sound neighbour of the mark's row and column. Assumes nothing.
-use native.Mathlib.Omega.{arith}
-use borrow.Author.Needs.{needs}
-use Rattle.fills.specs.Fills.{mendable}
-use Rattle.fills.proofs.Lying.{mark-asks}
-use Rattle.fills.proofs.Rooms.{told-nothing}
+use lib.ListN.{getD}
+use Rattle.means.specs.Looks.{marked}
+use Rattle.fills.proofs.Lying.{mark-asks, mark-finds, spot-asks, spot-mends}
 use Rattle.fills.proofs.mends.Statement.{statement}
 use Rattle.fills.proofs.mends.Tie as tie
-use Rattle.fills.proofs.mends.Reads as reads
-use Rattle.fills.proofs.mends.Lts as lts
-use Rattle.means.proofs.any_sound.Reads as any-sound-reads
 
-mul-q : tie.Need-mul-q
-mul-q c = search needs
+spot-of-requires : tie.Need-spot-of-requires
+spot-of-requires c κs =
+    let s = c .before in
+    let a = s .args in
+    mark-finds (a .marks .now) (a .n) (a .w) (a .step) (s .pre .0) (a .i) (s .pre .1 .0) (a .m) (s .pre .1 .1)
 
-shared-slice-read-q : tie.Need-shared-slice-read-q
-shared-slice-read-q c = search needs
-
-cast-q : tie.Need-cast-q
-cast-q c = omega (arith, c .shared-slice-known2 .given (c .before .before .args .i))
-
-rem-any-sound : tie.Need-rem-any-sound
-rem-any-sound c = search needs
-
-div-any-sound : tie.Need-div-any-sound
-div-any-sound c = search needs
-
-any-sound-requires : tie.Need-any-sound-requires
-any-sound-requires c κs =
-    let s = c .before .before .before .before in
-    (mark-asks (s .args .marks .now) (s .args .n) (s .args .w) (s .args .step) (s .pre .0) (s .args .i) (s .pre .1), told-nothing _ _ _ _)
+mends-at-requires : tie.Need-mends-at-requires
+mends-at-requires c κs =
+    let s = c .before .before in
+    let a = s .args in
+    spot-asks (a .w) (a .step) (marked (a .marks .now) (a .n)) (getD (a .marks .now) (a .i) 0) (c .spot-of .result .x) (c .spot-of .result .y) (c .spot-of .ensures)
+    (mark-asks (a .marks .now) (a .n) (a .w) (a .step) (s .pre .0) (a .i) (s .pre .1 .0))
 
 returns : tie.Need-returns
-unfolding mendable
-returns c = c .any-sound .ensures
+returns c =
+    let a = c .before .before .before .args in
+    let spot = c .before .spot-of in
+    spot-mends (a .w) (a .step) (marked (a .marks .now) (a .n)) (getD (a .marks .now) (a .i) 0) (spot .result .x) (spot .result .y) (spot .ensures)
+    (c .mends-at .result) (c .mends-at .ensures)
 
 pub mends-spec : {M : Type 1} → statement M
-mends-spec =
-    tie.close
-    (tie.spec
-    mul-q
-    shared-slice-read-q
-    cast-q
-    rem-any-sound
-    div-any-sound
-    any-sound-requires
-    returns)
+mends-spec = tie.close (tie.spec spot-of-requires mends-at-requires returns)

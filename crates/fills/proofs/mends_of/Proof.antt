@@ -13,7 +13,7 @@ returns : tie.Need-returns
 returns c =
     let s = c .before .before in
     let a = s .args in
-    sym (mended-all (a .marks .now) (a .n) (a .w) (a .step) (s .pre .0) (a .i) (s .pre .1 .0) (omega (arith, s .pre .1 .1, c .if1 .taken)))
+    sym (mended-all (a .marks .now) (a .n) (a .w) (a .step) (s .pre .0) (a .i) (s .pre .1 .0) (omega (arith, s .pre .1 .1 .0, c .if1 .taken)))
 
 mends-requires : tie.Need-mends-requires
 mends-requires c κs = search needs

@@ -18,35 +18,42 @@ use Rattle.fills.proofs.enough.Reads as enough-reads
 use Rattle.fills.proofs.fill_f32.Reads as fill-f32-reads
 use Rattle.repair.proofs.write_f32.Reads as write-f32-reads
 
+reciprocal-requires : tie.Need-reciprocal-requires
+reciprocal-requires c κs = c .before .before .before .pre .0 .fits
+
 enough-requires : tie.Need-enough-requires
-enough-requires c κs = search needs
+enough-requires c κs = (c .before .before .before .before .pre .0, c .reciprocal .ensures)
 
 fill-f32-requires : tie.Need-fill-f32-requires
 fill-f32-requires c κs =
-    let s = c .before .before .before .before .before .before .before in
+    let s = c .before .before .before .before .before .before .before .before in
     let a = s .args in
     let test = c .before .before .before .enough in (
       s .pre .0,
       (
         s .pre .1,
-        room-enough (a .w .planes) (mended (a .marks .now) (a .n) (a .w) (a .step)) (length (a .values .now)) (test .result) (test .ensures)
-            (c .before .before .if1 .taken),
+        (
+          room-enough (a .w .planes) (mended (a .marks .now) (a .n) (a .w) (a .step)) (length (a .values .now)) (test .result) (test .ensures)
+              (c .before .before .if1 .taken),
+          c .before .before .before .before .reciprocal .ensures,
+        ),
       ),
     )
 
 write-f32-requires : tie.Need-write-f32-requires
 write-f32-requires c κs =
-    let s = c .before .before .before .before .before .before .before .before .before .before .before .before in
+    let s = c .before .before .before .before .before .before .before .before .before .before .before .before .before in
     let a = s .args in
     let test = c .before .before .before .before .before .before .before .before .enough in
     let filled = c .before .before .before .before .fill-f32 in
     let room = room-enough (a .w .planes) (mended (a .marks .now) (a .n) (a .w) (a .step)) (length (a .values .now)) (test .result) (test .ensures)
     (c .before .before .before .before .before .before .before .if1 .taken) in
-    (s .pre .0, (s .pre .1, (omega (arith, room, filled .kept .1 .1 .1 .1 .1 .0), (filled .ensures .1, filled .ensures .0))))
+    let m = c .before .before .before .before .before .before .before .before .before .reciprocal .ensures in
+    (s .pre .0, (s .pre .1, (omega (arith, room, filled .kept .1 .1 .1 .1 .1 .1 .0), (filled .ensures .1, (filled .ensures .0, m)))))
 
 done-requires : tie.Need-done-requires
 done-requires c κs =
-    let s = c .before .before .before .before .before .before .before .before .before .before .before .before .before .before .before in
+    let s = c .before .before .before .before .before .before .before .before .before .before .before .before .before .before .before .before in
     let a = s .args in
     let filled = c .before .before .before .before .before .before .before .fill-f32 in
     omega (arith, mended-few (a .marks .now) (a .n) (a .w) (a .step) (s .pre .0) .0, filled .ensures .0)
@@ -59,7 +66,7 @@ same-length-2 c = search needs
 
 returns : tie.Need-returns
 returns c =
-    let a = c .before .before .before .before .before .before .before .before .before .before .before .before .before .before .before .before .args in
+    let a = c .before .before .before .before .before .before .before .before .before .before .before .before .before .before .before .before .before .args in
     let test = c .before .before .before .before .before .before .before .before .before .before .before .before .enough in
     let filled = c .before .before .before .before .before .before .before .before .fill-f32 in
     let written = c .before .before .before .write-f32 in
@@ -71,7 +78,7 @@ returns c =
 
 returns-2 : tie.Need-returns-2
 returns-2 c =
-    let a = c .before .before .before .before .before .args in
+    let a = c .before .before .before .before .before .before .args in
     let test = c .before .enough in
     settled-short (a .w .planes) (mended (a .marks .now) (a .n) (a .w) (a .step)) (length (a .values .now)) (test .result) (test .ensures) (a .samples .now)
     (each (repairAt nan (λ u. u) (λ u. u) (a .w) (a .step) (marked (a .marks .now) (a .n)) (a .samples .now)) (a .samples .now))
@@ -81,6 +88,7 @@ pub settle-f32-spec : {M : Type 1} → statement M
 settle-f32-spec =
     tie.close
     (tie.spec
+    reciprocal-requires
     enough-requires
     fill-f32-requires
     write-f32-requires

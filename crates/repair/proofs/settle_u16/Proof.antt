@@ -20,35 +20,42 @@ use Rattle.fills.proofs.enough.Reads as enough-reads
 use Rattle.fills.proofs.fill_u16.Reads as fill-u16-reads
 use Rattle.repair.proofs.write_u16.Reads as write-u16-reads
 
+reciprocal-requires : tie.Need-reciprocal-requires
+reciprocal-requires c κs = c .before .before .before .pre .0 .fits
+
 enough-requires : tie.Need-enough-requires
-enough-requires c κs = search needs
+enough-requires c κs = (c .before .before .before .before .pre .0, c .reciprocal .ensures)
 
 fill-u16-requires : tie.Need-fill-u16-requires
 fill-u16-requires c κs =
-    let s = c .before .before .before .before .before .before .before in
+    let s = c .before .before .before .before .before .before .before .before in
     let a = s .args in
     let test = c .before .before .before .enough in (
       s .pre .0,
       (
         s .pre .1,
-        room-enough (a .w .planes) (mended (a .marks .now) (a .n) (a .w) (a .step)) (length (a .values .now)) (test .result) (test .ensures)
-            (c .before .before .if1 .taken),
+        (
+          room-enough (a .w .planes) (mended (a .marks .now) (a .n) (a .w) (a .step)) (length (a .values .now)) (test .result) (test .ensures)
+              (c .before .before .if1 .taken),
+          c .before .before .before .before .reciprocal .ensures,
+        ),
       ),
     )
 
 write-u16-requires : tie.Need-write-u16-requires
 write-u16-requires c κs =
-    let s = c .before .before .before .before .before .before .before .before .before .before .before .before in
+    let s = c .before .before .before .before .before .before .before .before .before .before .before .before .before in
     let a = s .args in
     let test = c .before .before .before .before .before .before .before .before .enough in
     let filled = c .before .before .before .before .fill-u16 in
     let room = room-enough (a .w .planes) (mended (a .marks .now) (a .n) (a .w) (a .step)) (length (a .values .now)) (test .result) (test .ensures)
     (c .before .before .before .before .before .before .before .if1 .taken) in
-    (s .pre .0, (s .pre .1, (omega (arith, room, filled .kept .1 .1 .1 .1 .1 .0), (filled .ensures .1, filled .ensures .0))))
+    let m = c .before .before .before .before .before .before .before .before .before .reciprocal .ensures in
+    (s .pre .0, (s .pre .1, (omega (arith, room, filled .kept .1 .1 .1 .1 .1 .1 .0), (filled .ensures .1, (filled .ensures .0, m)))))
 
 done-requires : tie.Need-done-requires
 done-requires c κs =
-    let s = c .before .before .before .before .before .before .before .before .before .before .before .before .before .before .before in
+    let s = c .before .before .before .before .before .before .before .before .before .before .before .before .before .before .before .before in
     let a = s .args in
     let filled = c .before .before .before .before .before .before .before .fill-u16 in
     omega (arith, mended-few (a .marks .now) (a .n) (a .w) (a .step) (s .pre .0) .0, filled .ensures .0)
@@ -61,7 +68,7 @@ same-length-2 c = search needs
 
 returns : tie.Need-returns
 returns c =
-    let a = c .before .before .before .before .before .before .before .before .before .before .before .before .before .before .before .before .args in
+    let a = c .before .before .before .before .before .before .before .before .before .before .before .before .before .before .before .before .before .args in
     let test = c .before .before .before .before .before .before .before .before .before .before .before .before .enough in
     let filled = c .before .before .before .before .before .before .before .before .fill-u16 in
     let written = c .before .before .before .write-u16 in
@@ -74,7 +81,7 @@ returns c =
 
 returns-2 : tie.Need-returns-2
 returns-2 c =
-    let a = c .before .before .before .before .before .args in
+    let a = c .before .before .before .before .before .before .args in
     let test = c .before .enough in
     settled-short (a .w .planes) (mended (a .marks .now) (a .n) (a .w) (a .step)) (length (a .values .now)) (test .result) (test .ensures) (a .samples .now)
     (each (repairAt 0 (λ u. wholeIn binary32 u) (λ u. roundHeld 65535 u) (a .w) (a .step) (marked (a .marks .now) (a .n)) (a .samples .now))
@@ -85,6 +92,7 @@ pub settle-u16-spec : {M : Type 1} → statement M
 settle-u16-spec =
     tie.close
     (tie.spec
+    reciprocal-requires
     enough-requires
     fill-u16-requires
     write-u16-requires

@@ -6,7 +6,7 @@ use lib.ListN.{length, getD}
 use lib.Ieee.{nan}
 use Rattle.means.specs.Looks.{marked}
 use Rattle.fills.specs.Fills.{mendable, meanIn}
-use Rattle.fills.proofs.Lying.{mark-in}
+use Rattle.fills.proofs.Lying.{mark-in, mark-finds}
 use Rattle.repair.proofs.Placing.{pixel-in}
 use Rattle.fills.proofs.Filling.{next-room}
 use Rattle.repair.proofs.Writing.{Written, newAt, write-start, write-put, write-no, write-repair}
@@ -19,34 +19,31 @@ use Rattle.fills.proofs.mends_of.Reads as mends-of-reads
 use Rattle.repair.proofs.put_f32.Reads as put-f32-reads
 
 abbrev Inv-loop : tie.InvT-loop
-Inv-loop samples₀ marks n w step repaired values m at₀ i₀ samples at i =
+Inv-loop samples₀ marks n w m step repaired values at₀ i₀ samples at i =
     Written w n (mendable w step (marked marks n)) (newAt nan (λ u. u) (λ u. u) w step (marked marks n) samples₀) marks samples₀ samples at i
 
 abbrev μ-loop : tie.MeasureT-loop
-μ-loop samples₀ marks n w step repaired values m at₀ i₀ samples at i = n - i
-
-reciprocal-requires : tie.Need-reciprocal-requires Inv-loop μ-loop
-reciprocal-requires c κs = c .before .before .before .pre .0 .fits
+μ-loop samples₀ marks n w m step repaired values at₀ i₀ samples at i = n - i
 
 loop-holds : tie.Need-loop-holds Inv-loop μ-loop
 loop-holds c = write-start _ _ _ _ _ _
 
 mends-of-requires : tie.Need-mends-of-requires Inv-loop μ-loop
-mends-of-requires c κs = let s = c .before .before .before .before .before .before in (s .pre .0, (c .loop-test .taken, s .pre .1 .1 .1 .1))
+mends-of-requires c κs = let s = c .before .before .before .before .before in (s .pre .0, (c .loop-test .taken, s .pre .1 .1 .1 .1))
 
 first-requires : tie.Need-first-requires Inv-loop μ-loop
 first-requires c κs =
-    let s = c .before .before .before .before .before .before .before .before in
+    let s = c .before .before .before .before .before .before .before in
     let a = s .args in
-    let at = c .before .before .before .loop in
-    let h = c .before .before .loop-test .taken in
-    (s .pre .0 .fits, (c .before .before .before .before .reciprocal .ensures, (omega (arith, s .pre .0 .held), mark-in (a .marks .now) (a .n) (a .w) (a .step) (s .pre .0) (at .i) h)))
+    mark-finds (a .marks .now) (a .n) (a .w) (a .step) (s .pre .0) (c .before .before .before .loop .i) (c .before .before .loop-test .taken) (a .m)
+    (s .pre .1 .1 .1 .1 .1)
 
 -- the mark's values are there
 there : (c : tie.Then1 Inv-loop μ-loop)
-    → c .before .before .before .loop .at + c .before .before .before .before .before .before .before .before .args .w .planes ≤ length (c .before .before .before .before .before .before .before .before .args .values .now)
+    → c .before .before .before .loop .at + c .before .before .before .before .before .before .before .args .w .planes
+    ≤ length (c .before .before .before .before .before .before .before .args .values .now)
 there c =
-    let s = c .before .before .before .before .before .before .before .before in
+    let s = c .before .before .before .before .before .before .before in
     let a = s .args in
     let at = c .before .before .before .loop in
     next-room (a .w .planes) (a .n) (mendable (a .w) (a .step) (marked (a .marks .now) (a .n))) (a .marks .now) (at .i) (s .pre .0 .held)
@@ -55,7 +52,7 @@ there c =
 
 put-f32-requires : tie.Need-put-f32-requires Inv-loop μ-loop
 put-f32-requires c κs =
-    let s = c .before .before .before .before .before .before .before .before .before .before in
+    let s = c .before .before .before .before .before .before .before .before .before in
     let a = s .args in
     let at = c .before .before .before .before .before .loop in
     let q : ℕ = getD (a .marks .now) (at .i) 0 in
@@ -63,7 +60,7 @@ put-f32-requires c κs =
     (omega (arith, pixel-in (a .w) (s .pre .0 .fits) q h (length (a .samples .now)) (s .pre .1 .0), at .inv .same, c .before .first .ensures), there (c .before .before))
 
 add-at : tie.Need-add-at Inv-loop μ-loop
-add-at c = let s = c .before .before .before .before .before .before .before .before .before .before .before .before .before .before in omega (arith, there (c .before .before .before .before .before .before), s .good .1 .1 .1 .1 .1 .0 .1)
+add-at c = let s = c .before .before .before .before .before .before .before .before .before .before .before .before .before in omega (arith, there (c .before .before .before .before .before .before), s .good .1 .1 .1 .1 .1 .1 .1 .0 .1)
 
 add-i : tie.Need-add-i Inv-loop μ-loop
 add-i c = omega arith
@@ -73,7 +70,7 @@ loop-less c = omega arith
 
 loop-again : tie.Need-loop-again Inv-loop μ-loop
 loop-again c =
-    let s = c .before .before .before .before .before .before .before .before .before .before .before .before .before .before in
+    let s = c .before .before .before .before .before .before .before .before .before .before .before .before .before in
     let a = s .args in
     let at = c .before .before .before .before .before .before .before .before .before .loop in
     let bad = marked (a .marks .now) (a .n) in
@@ -93,7 +90,7 @@ loop-less-2 c = omega arith
 
 loop-again-2 : tie.Need-loop-again-2 Inv-loop μ-loop
 loop-again-2 c =
-    let s = c .before .before .before .before .before .before .before .before in
+    let s = c .before .before .before .before .before .before .before in
     let a = s .args in
     let at = c .before .before .before .loop in
     let bad = marked (a .marks .now) (a .n) in
@@ -107,7 +104,7 @@ same-length c = c .before .loop .inv .same
 
 returns : tie.Need-returns Inv-loop μ-loop
 returns c =
-    let s = c .before .before .before .before .before .before in
+    let s = c .before .before .before .before .before in
     let a = s .args in
     let at = c .before .loop in
     write-repair nan (λ u. u) (λ u. u) (a .w) (a .step) (marked (a .marks .now) (a .n)) (a .samples .now) (a .marks .now) (a .n) (at .samples) (at .at) (at .i) refl
@@ -119,7 +116,6 @@ write-f32-spec =
     (tie.spec
     Inv-loop
     μ-loop
-    reciprocal-requires
     loop-holds
     mends-of-requires
     first-requires

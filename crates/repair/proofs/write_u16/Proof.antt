@@ -8,7 +8,7 @@ use Rattle.convert.specs.Convert.{wholeIn}
 use Rattle.whole.specs.Whole.{roundHeld}
 use Rattle.means.specs.Looks.{marked}
 use Rattle.fills.specs.Fills.{mendable, meanIn}
-use Rattle.fills.proofs.Lying.{mark-in}
+use Rattle.fills.proofs.Lying.{mark-in, mark-finds}
 use Rattle.repair.proofs.Placing.{pixel-in}
 use Rattle.fills.proofs.Filling.{next-room}
 use Rattle.repair.proofs.Writing.{Written, newAt, write-start, write-put, write-no, write-repair}
@@ -21,34 +21,31 @@ use Rattle.fills.proofs.mends_of.Reads as mends-of-reads
 use Rattle.repair.proofs.put_u16.Reads as put-u16-reads
 
 abbrev Inv-loop : tie.InvT-loop
-Inv-loop samples₀ marks n w step repaired values m at₀ i₀ samples at i =
+Inv-loop samples₀ marks n w m step repaired values at₀ i₀ samples at i =
     Written w n (mendable w step (marked marks n)) (newAt 0 (λ u. wholeIn binary32 u) (λ u. roundHeld 65535 u) w step (marked marks n) samples₀) marks samples₀ samples at i
 
 abbrev μ-loop : tie.MeasureT-loop
-μ-loop samples₀ marks n w step repaired values m at₀ i₀ samples at i = n - i
-
-reciprocal-requires : tie.Need-reciprocal-requires Inv-loop μ-loop
-reciprocal-requires c κs = c .before .before .before .pre .0 .fits
+μ-loop samples₀ marks n w m step repaired values at₀ i₀ samples at i = n - i
 
 loop-holds : tie.Need-loop-holds Inv-loop μ-loop
 loop-holds c = write-start _ _ _ _ _ _
 
 mends-of-requires : tie.Need-mends-of-requires Inv-loop μ-loop
-mends-of-requires c κs = let s = c .before .before .before .before .before .before in (s .pre .0, (c .loop-test .taken, s .pre .1 .1 .1 .1))
+mends-of-requires c κs = let s = c .before .before .before .before .before in (s .pre .0, (c .loop-test .taken, s .pre .1 .1 .1 .1))
 
 first-requires : tie.Need-first-requires Inv-loop μ-loop
 first-requires c κs =
-    let s = c .before .before .before .before .before .before .before .before in
+    let s = c .before .before .before .before .before .before .before in
     let a = s .args in
-    let at = c .before .before .before .loop in
-    let h = c .before .before .loop-test .taken in
-    (s .pre .0 .fits, (c .before .before .before .before .reciprocal .ensures, (omega (arith, s .pre .0 .held), mark-in (a .marks .now) (a .n) (a .w) (a .step) (s .pre .0) (at .i) h)))
+    mark-finds (a .marks .now) (a .n) (a .w) (a .step) (s .pre .0) (c .before .before .before .loop .i) (c .before .before .loop-test .taken) (a .m)
+    (s .pre .1 .1 .1 .1 .1)
 
 -- the mark's values are there
 there : (c : tie.Then1 Inv-loop μ-loop)
-    → c .before .before .before .loop .at + c .before .before .before .before .before .before .before .before .args .w .planes ≤ length (c .before .before .before .before .before .before .before .before .args .values .now)
+    → c .before .before .before .loop .at + c .before .before .before .before .before .before .before .args .w .planes
+    ≤ length (c .before .before .before .before .before .before .before .args .values .now)
 there c =
-    let s = c .before .before .before .before .before .before .before .before in
+    let s = c .before .before .before .before .before .before .before in
     let a = s .args in
     let at = c .before .before .before .loop in
     next-room (a .w .planes) (a .n) (mendable (a .w) (a .step) (marked (a .marks .now) (a .n))) (a .marks .now) (at .i) (s .pre .0 .held)
@@ -57,7 +54,7 @@ there c =
 
 put-u16-requires : tie.Need-put-u16-requires Inv-loop μ-loop
 put-u16-requires c κs =
-    let s = c .before .before .before .before .before .before .before .before .before .before in
+    let s = c .before .before .before .before .before .before .before .before .before in
     let a = s .args in
     let at = c .before .before .before .before .before .loop in
     let q : ℕ = getD (a .marks .now) (at .i) 0 in
@@ -65,7 +62,7 @@ put-u16-requires c κs =
     (omega (arith, pixel-in (a .w) (s .pre .0 .fits) q h (length (a .samples .now)) (s .pre .1 .0), at .inv .same, c .before .first .ensures), there (c .before .before))
 
 add-at : tie.Need-add-at Inv-loop μ-loop
-add-at c = let s = c .before .before .before .before .before .before .before .before .before .before .before .before .before .before in omega (arith, there (c .before .before .before .before .before .before), s .good .1 .1 .1 .1 .1 .0 .1)
+add-at c = let s = c .before .before .before .before .before .before .before .before .before .before .before .before .before in omega (arith, there (c .before .before .before .before .before .before), s .good .1 .1 .1 .1 .1 .1 .1 .0 .1)
 
 add-i : tie.Need-add-i Inv-loop μ-loop
 add-i c = omega arith
@@ -75,7 +72,7 @@ loop-less c = omega arith
 
 loop-again : tie.Need-loop-again Inv-loop μ-loop
 loop-again c =
-    let s = c .before .before .before .before .before .before .before .before .before .before .before .before .before .before in
+    let s = c .before .before .before .before .before .before .before .before .before .before .before .before .before in
     let a = s .args in
     let at = c .before .before .before .before .before .before .before .before .before .loop in
     let bad = marked (a .marks .now) (a .n) in
@@ -95,7 +92,7 @@ loop-less-2 c = omega arith
 
 loop-again-2 : tie.Need-loop-again-2 Inv-loop μ-loop
 loop-again-2 c =
-    let s = c .before .before .before .before .before .before .before .before in
+    let s = c .before .before .before .before .before .before .before in
     let a = s .args in
     let at = c .before .before .before .loop in
     let bad = marked (a .marks .now) (a .n) in
@@ -109,7 +106,7 @@ same-length c = c .before .loop .inv .same
 
 returns : tie.Need-returns Inv-loop μ-loop
 returns c =
-    let s = c .before .before .before .before .before .before in
+    let s = c .before .before .before .before .before in
     let a = s .args in
     let at = c .before .loop in
     write-repair 0 (λ u. wholeIn binary32 u) (λ u. roundHeld 65535 u) (a .w) (a .step) (marked (a .marks .now) (a .n)) (a .samples .now) (a .marks .now) (a .n) (at .samples) (at .at) (at .i) refl
@@ -121,7 +118,6 @@ write-u16-spec =
     (tie.spec
     Inv-loop
     μ-loop
-    reciprocal-requires
     loop-holds
     mends-of-requires
     first-requires

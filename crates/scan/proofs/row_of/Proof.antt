@@ -1,9 +1,9 @@
--- `repair::row_of` meets its contract: the product with the reciprocal is the row or one less. Assumes nothing.
+-- `scan::row_of` meets its contract: the product with the reciprocal is the row or one less. Assumes nothing.
 use native.Mathlib.Nat.{div-le-self}
 use native.Mathlib.Omega.{arith}
-use Rattle.repair.proofs.Rows.{near-fits, near-low, row-near, row-next}
-use Rattle.repair.proofs.row_of.Statement.{statement}
-use Rattle.repair.proofs.row_of.Tie as tie
+use Rattle.scan.proofs.Rows.{near-fits, near-low, row-near, row-next}
+use Rattle.scan.proofs.row_of.Statement.{statement}
+use Rattle.scan.proofs.row_of.Tie as tie
 
 mul-e : tie.Need-mul-e
 mul-e c = let a = c .args in omega (arith, near-fits 4294967296 (a .width) (a .q) (a .m) (c .pre .0) (c .pre .1 .0) (c .pre .1 .1))
