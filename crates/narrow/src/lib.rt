@@ -60,7 +60,7 @@ fn by_cases(x: f64) -> f32
     signed(b, 0x7f80_0000)
 }
 
-// `x as f32`. What is above 0, which no NaN is, and gives a normal f32 takes two tests.
+// `x as f32`. What is above 0, which no NaN is, and gives a normal f32 takes three comparisons.
 pub fn to_f32(x: f64) -> f32
     ensures { λ r. ⌜ r ≡ narrow x ⌝ }
 {

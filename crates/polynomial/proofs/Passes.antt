@@ -1,8 +1,8 @@
 -- The two passes over a block of a walk: evaluated and written, the walk stands as many samples further. Assumes nothing.
-use Prim.Native.Nat.{ℕ, zero, suc, _+_, _-_, _*_, _/_, _≤_, _<_, min}
+use Prim.Native.Nat.{ℕ, zero, suc, _+_, _-_, _*_, _≤_, _<_, min}
 use mathlib.Core.Path.{_≡_, refl, sym, ap, subst, _∙_}
 use mathlib.Core.List.{List}
-use native.Mathlib.Nat.{zero-mul, add-zero, suc-mul, mul-le-mul-right, lt-of-mul-lt-mul-right, div-mul-le-self, le-div-iff-mul-le}
+use native.Mathlib.Nat.{zero-mul, add-zero, mul-one, suc-mul, mul-le-mul-right, lt-of-mul-lt-mul-right}
 use native.Mathlib.Omega.{arith}
 use lib.ListN.{length, getD, set}
 use lib.Seq.{getD-set-same, getD-set-other}
@@ -41,16 +41,15 @@ before-last step j n h = omega (arith, mul-le-mul-right {m = suc j} {n = n} step
 pub inside : {i step n len room : ℕ} (at j : ℕ) → Block i step n len room → at ≡ i + j * step → j < n → at < len
 inside {i} {step} {n} at j b e h = omega (arith, b .ends, before-last step j n h)
 
--- what is left, in whole steps
-pub left-over : (i step stop : ℕ) → i < stop → 1 ≤ step → stop ≤ i + 63 * step → Counted i step stop ((stop - i + (step - 1)) / step)
-left-over i step stop h goes last =
-    let q = (stop - i + (step - 1)) / step in
-    let low : q * step ≤ stop - i + (step - 1) = div-mul-le-self (stop - i + (step - 1)) step in
-    record {
-      some = le-div-iff-mul-le goes .1 (omega arith);
-      few = let less : q < 64 = lt-of-mul-lt-mul-right step (omega arith) in omega arith;
-      ends = omega arith;
-    }
+-- with a step of 1, all that are left
+pub all-left : (i step stop : ℕ) → i < stop → stop ≤ i + 63 * step → step ≡ 1 → Counted i step stop (stop - i)
+all-left i step stop h last one =
+    let m : (stop - i) * step ≡ stop - i = ap (λ (s : ℕ). (stop - i) * s) one ∙ mul-one (stop - i) in
+    record { some = omega arith; few = omega arith; ends = omega arith }
+
+-- where 64 samples reach the end, a sample before it is not the last of them
+pub fewer : (i step stop n at : ℕ) → stop ≤ i + 63 * step → at ≡ i + n * step → at < stop → n < 63
+fewer i step stop n at last e h = lt-of-mul-lt-mul-right step (omega arith)
 
 -- ---- writing
 

@@ -105,20 +105,29 @@ fn wide_of(t: Terms, body: &[u8], degree: u32, scale64: f64, x: f64) -> f64
 
 // ---- a block: samples i, i + step and so on, in two short passes, so that many are under way at once
 
-// How many samples the block has: 64, or those that are left. Only the last block divides.
+// How many samples the block has: 64, or those that are left, which are counted one by one: a division would cost more than they do in a short
+// row.
 fn count_of(i: usize, step: usize, stop: usize) -> usize
     requires { ⌜ (i < stop) × (stop ≤ 524288) × (1 ≤ step) × (step < 34359738368) ⌝ }
     ensures { λ n. ⌜ Counted i step stop n ⌝ }
 {
     if i + 63 * step < stop {
-        64
-    } else {
-        (stop - i + (step - 1)) / step
+        return 64;
     }
+    if step == 1 {
+        return stop - i;
+    }
+    let mut n: usize = 1;
+    let mut at = i + step;
+    while at < stop {
+        at += step;
+        n += 1;
+    }
+    n
 }
 
-// What is narrowed to the new values of n samples. No branch of the loop depends on a value, so it compiles to vector code, once for each case
-// of the degree.
+// What is narrowed to the new values of n samples. One test in the loop depends on a value, that for a NaN in `convert::widen`, and it compiles
+// to a selection: the loop is vector code, once for each case of the degree.
 fn evaluate(
     row: &[f32],
     i: usize,
