@@ -126,8 +126,8 @@ fn count_of(i: usize, step: usize, stop: usize) -> usize
     n
 }
 
-// What is narrowed to the new values of n samples. One test in the loop depends on a value, that for a NaN in `convert::widen`, and it compiles
-// to a selection: the loop is vector code, once for each case of the degree.
+// What is narrowed to the new values of n samples. One test of the loop depends on a value, `convert::widen`'s for a NaN, and in vector code that
+// is a selection: so the loop compiles to vector code, once for each case of the degree.
 fn evaluate(
     row: &[f32],
     i: usize,
