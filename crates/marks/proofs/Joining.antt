@@ -15,7 +15,7 @@ use Rattle.marks.specs.declared.Kept.the-variants as K
 use Rattle.marks.specs.Marks.{chosen}
 use Rattle.sorts.specs.Sorts.{occ, has, Rises, Cut}
 use Rattle.marks.specs.Scratch.{Front, Packed, Tidied, Gains, Joined, span}
-use Rattle.sorts.proofs.Occ.{equal-or, occ-parts, occ-at, occ-some, has-true, some-has, rises-take, rises-drop, rises-from, rises-places}
+use Rattle.sorts.proofs.Occ.{below-or, equal-or, occ-parts, occ-at, occ-some, has-true, some-has, rises-take, rises-drop, rises-from, rises-places}
 use Rattle.marks.proofs.Filling.{has-more}
 use Rattle.marks.proofs.Chosen.{both, count-le, count-same, chosen-full, is-chosen}
 
@@ -125,6 +125,15 @@ span-more a p q h =
     (λ e. or-cases (span a p q) (eqb q p) e (λ d. let w = span-is a p q d in span-of a (p + 1) q (w .0) (omega (arith, w .1)))
     (λ d. let z = eqb-true q p d in span-of a (p + 1) q (omega arith) (omega arith)))
 
+pub span-on : (a p m q : ℕ) → a ≤ p → span a (p + m) q ≡ (span a p q || span p (p + m) q)
+span-on a p m q h =
+    iff-eq _ _
+    (λ e. let w = span-is a (p + m) q e in
+    below-or q p (λ d. or-left (span a p q) (span p (p + m) q) (span-of a p q (w .0) d))
+    (λ d. or-right (span a p q) (span p (p + m) q) (span-of p (p + m) q d (w .1))))
+    (λ e. or-cases (span a p q) (span p (p + m) q) e (λ d. let w = span-is a p q d in span-of a (p + m) q (w .0) (omega (arith, w .1)))
+    (λ d. let w = span-is p (p + m) q d in span-of a (p + m) q (omega (arith, w .0)) (w .1)))
+
 pub span-none : (a q : ℕ) → span a a q ≡ true → ⊥
 span-none a q e = let w = span-is a a q e in omega (arith, w .0, w .1)
 
@@ -191,14 +200,18 @@ steps-start top f s n t i h none = record { gains = gains-held top (f i) s n t h
 
 module _ (top : ℕ) (f : ℕ → ℕ → Bool) (s₀ : List ℕ) (t₀ : ℕ) (s : List ℕ) (k u i : ℕ) (v : Steps top f s₀ t₀ s k u i) (g : ℕ → Bool)
     (s′ : List ℕ) where
-  pub steps-next : (r : Kept) (k′ u′ : ℕ) → r ≡ K.Held k′ u′ → Joined top g s u s′ r → length s′ ≡ length s
-      → ((q : ℕ) → q < top → f (i + 1) q ≡ (f i q || g q)) → Steps top f s₀ t₀ s′ k′ u′ (i + 1)
-  steps-next r k′ u′ e j l h =
+  pub steps-to : (i′ : ℕ) (r : Kept) (k′ u′ : ℕ) → r ≡ K.Held k′ u′ → Joined top g s u s′ r → length s′ ≡ length s
+      → ((q : ℕ) → q < top → f i′ q ≡ (f i q || g q)) → Steps top f s₀ t₀ s′ k′ u′ i′
+  steps-to i′ r k′ u′ e j l h =
       record {
-        gains = joined-next top (f i) g (f (i + 1)) s₀ t₀ s k u s′ (K.Held k′ u′) (v .gains) (v .long) h
+        gains = joined-next top (f i) g (f i′) s₀ t₀ s k u s′ (K.Held k′ u′) (v .gains) (v .long) h
             (subst (λ (x : Kept). Joined top g s u s′ x) e j);
         long = l ∙ v .long;
       }
+
+  pub steps-next : (r : Kept) (k′ u′ : ℕ) → r ≡ K.Held k′ u′ → Joined top g s u s′ r → length s′ ≡ length s
+      → ((q : ℕ) → q < top → f (i + 1) q ≡ (f i q || g q)) → Steps top f s₀ t₀ s′ k′ u′ (i + 1)
+  steps-next = steps-to (i + 1)
 
   pub steps-full : (m : ℕ → Bool) (r : Kept) → r ≡ K.Full → Joined top g s u s′ r → ((q : ℕ) → q < top → f i q ≡ true → m q ≡ true)
       → ((q : ℕ) → q < top → g q ≡ true → m q ≡ true) → length s₀ < countBelow top (λ q. has (take t₀ s₀) q || m q)
@@ -223,11 +236,33 @@ span-whole a b p q h k =
     iff-eq _ _ (λ e. let w = span-is a p q e in span-of a b q (w .0) (omega (arith, w .0, w .1)))
     (λ e. let w = span-is a b q e in span-of a p q (w .0) (omega (arith, w .1)))
 
--- a position that is entry h of the front
-pub stands-there : (s : List ℕ) (n h p : ℕ) → n ≤ length s → h < n → getD s h 0 ≡ p → has (take n s) p ≡ true
-stands-there s n h p m k e =
-    some-has (take n s) p
-    (subst (λ (y : ℕ). 1 ≤ occ (take n s) y) (getD-take n s h 0 k ∙ e) (occ-at (take n s) h (omega (arith, length-take-le n s m))))
+-- a stretch that starts at entry h: by the entry where its last position must stand
+pub stretch-there : (s : List ℕ) (n h p r : ℕ) → n ≤ length s → h + r < n → getD s h 0 ≡ p → getD s (h + r) 0 ≡ p + r
+    → Rises 0 (take n s) → (q : ℕ) → p ≤ q → q < p + (r + 1) → has (take n s) q ≡ true
+stretch-there s n h p r m k first last rises =
+    covered-by s n h p (p + (r + 1)) m (omega arith) (omega (arith, where-last h p r))
+    (ap (λ (x : ℕ). getD s x 0) (where-last h p r) ∙ last ∙ value p r) rises cut
+  where
+    where-last : (h p r : ℕ) → h + (p + (r + 1) - p) - 1 ≡ h + r
+    where-last h p r = omega arith
+
+    value : (p r : ℕ) → p + r ≡ p + (r + 1) - 1
+    value p r = omega arith
+
+    long : length (take n s) ≡ n
+    long = length-take-le n s m
+
+    there : getD (take n s) h 0 ≡ p
+    there = getD-take n s h 0 (omega arith) ∙ first
+
+    cut : Cut (take n s) p h
+    cut =
+        record {
+          within = omega (arith, long);
+          low = λ _ i g. omega (arith, there, rises-places 0 (take n s) i h g (omega (arith, long)) rises);
+          high = λ _ i g o. equal-or i h (λ d. subst (λ (y : ℕ). p ≤ getD (take n s) y 0) (sym d) (omega (arith, there)))
+              (λ d. omega (arith, there, rises-places 0 (take n s) h i (omega arith) o rises));
+        }
 
 pub run-covered : (top a b : ℕ) (s : List ℕ) (n t : ℕ) → Front top s n t → ((q : ℕ) → a ≤ q → q < b → has (take n s) q ≡ true)
     → Gains top (span a b) s t s n t

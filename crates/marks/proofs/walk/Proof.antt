@@ -1,12 +1,12 @@
 -- `marks::walk` meets its contract: after each turn the span up to p is held besides what was held at the start.
 -- Assumes nothing.
-use Prim.Native.Nat.{_-_, _≤_, max}
+use Prim.Native.Nat.{_+_, _-_, _≤_, max}
 use mathlib.Core.Path.{refl, _∙_}
 use native.Mathlib.Omega.{arith}
 use borrow.Author.Needs.{needs}
-use Rattle.marks.proofs.Joining.{held-front, Steps, steps-start, steps-next, steps-full, steps-end, span-none, span-more, span-low, span-at, span-whole}
+use Rattle.marks.proofs.Joining.{held-front, Steps, steps-start, steps-to, steps-next, steps-full, steps-end}
+use Rattle.marks.proofs.Joining.{span-none, span-more, span-on, span-low, span-at, span-whole, run-covered}
 use Rattle.marks.specs.Scratch.{span}
-use Rattle.marks.proofs.Filling.{place-there}
 use Rattle.marks.proofs.walk.Statement.{statement}
 use Rattle.marks.proofs.walk.Tie as tie
 
@@ -19,10 +19,11 @@ abbrev μ-loop : tie.MeasureT-loop
 loop-holds : tie.Need-loop-holds Inv-loop μ-loop
 loop-holds c = (steps-start _ _ _ _ _ _ (c .before .pre .0) (span-none (c .before .args .a)), omega arith, omega arith)
 
-stands-requires : tie.Need-stands-requires Inv-loop μ-loop
-stands-requires c κs =
+stretch-requires : tie.Need-stretch-requires Inv-loop μ-loop
+stretch-requires c κs =
     let front = c .before .before .loop .inv .0 .gains .front in
-    omega (arith, front .order, front .fits)
+    let start = c .before .before .before .before .pre .1 in
+    (omega (arith, front .order, front .fits), c .before .loop-test .taken, omega (arith, start))
 
 add-h : tie.Need-add-h Inv-loop μ-loop
 add-h c =
@@ -30,8 +31,8 @@ add-h c =
     let front = at .inv .0 .gains .front in
     omega (
       arith,
-      c .before .stands .ensures
-          (c .if1 .taken) .0,
+      c .before .stretch .ensures .front
+          (c .if1 .taken),
       front .order,
       front .fits,
       at .inv .0 .long,
@@ -39,20 +40,22 @@ add-h c =
     )
 
 add-p : tie.Need-add-p Inv-loop μ-loop
-add-p c = omega arith
+add-p c = omega (arith, c .before .stretch .ensures .within, c .before .before .before .before .before .before .pre .1)
 
 loop-less : tie.Need-loop-less Inv-loop μ-loop
-loop-less c = omega arith
+loop-less c = omega (arith, c .before .stretch .ensures .within)
 
 loop-again : tie.Need-loop-again Inv-loop μ-loop
 loop-again c =
     let at = c .before .before .before .before .loop in
+    let got = c .before .stretch in
+    let front = at .inv .0 .gains .front in
     let a = c .before .before .before .before .before .before .args .a in (
-      steps-next _ _ _ _ _ _ _ _ (at .inv .0) _ _ _ _ _ refl (place-there _ _ _ _ (at .p) (at .inv .0 .gains .front)
-          (c .before .stands .ensures (c .if1 .taken) .1)) refl
-          (λ q l. span-more a (at .p) q (at .inv .1)),
+      steps-to _ _ _ _ _ _ _ _ (at .inv .0) _ _ (at .p + got .result) _ _ _ refl
+          (run-covered _ (at .p) (at .p + got .result) _ _ _ front (got .ensures .there (front .rises))) refl
+          (λ q l. span-on a (at .p) (got .result) q (at .inv .1)),
       omega (arith, at .inv .1),
-      omega (arith, c .before .before .before .loop-test .taken),
+      omega (arith, got .ensures .within),
     )
 
 cast-push : tie.Need-cast-push Inv-loop μ-loop
@@ -127,7 +130,7 @@ walk-spec =
     Inv-loop
     μ-loop
     loop-holds
-    stands-requires
+    stretch-requires
     add-h
     add-p
     loop-less
