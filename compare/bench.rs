@@ -207,7 +207,9 @@ impl Work {
 }
 
 // n points of a window of 2048 by 1536: by chance; or half of them in order, and then each of √n others as often as leaves so many in all, so
-// that the scratch, which has room for the distinct ones alone, is nearly full while they come.
+// that the scratch, which has room for the distinct ones alone, is nearly full while they come; or ("full") three eighths of them in order, and
+// then an eighth as many others, out of order, again and again: the last quarter of the scratch fills while they come. Those of the last two lie
+// apart, so that what is counted is how they are gathered.
 fn points(kind: &str, n: u32) -> Vec<u32> {
     if kind == "points" {
         let mut seed = 12_345u32;
@@ -217,8 +219,12 @@ fn points(kind: &str, n: u32) -> Vec<u32> {
         };
         return (0..n).map(|_| next() % 1536 * 2048 + next() % 2048).collect();
     }
+    if kind == "full" {
+        let (ordered, others) = (n * 3 / 8, n / 8);
+        return (0..ordered).map(|i| 37 * i).chain((0..n - ordered).map(|i| i * 7919 % others * 37 + 18)).collect();
+    }
     let often = (1..).take_while(|f| f * f <= n).count() as u32;
-    (0..n / 2).map(|i| 2 * i).chain((1..=often).flat_map(|f| (0..=often - f).map(move |_| 2 * f + 1))).collect()
+    (0..n / 2).map(|i| 37 * i).chain((1..=often).flat_map(|f| (0..=often - f).map(move |_| 37 * f + 18))).collect()
 }
 
 // One list of these points, with exactly the room that it needs.
@@ -268,7 +274,7 @@ fn main() {
     if args.first().is_some_and(|a| a == "many") {
         match args.len() {
             1 => MANY.iter().for_each(|kind| println!("{kind}")),
-            _ if ["points", "repeats"].contains(&args[1].as_str()) => named(&args[1], args[2].parse().expect("how many")),
+            _ if ["points", "repeats", "full"].contains(&args[1].as_str()) => named(&args[1], args[2].parse().expect("how many")),
             _ => many(&args[1], args[2].parse().expect("how many")),
         }
         return;

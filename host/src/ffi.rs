@@ -1,4 +1,9 @@
 //! The C functions as include/rolbhunga.h has them. A slice crosses as its first element and its length.
+//!
+//! # Safety
+//!
+//! Every pointer is not null and aligned, and is valid for as many elements as the length behind it says, through the whole call; what a `*mut`
+//! lends overlaps nothing else that is lent. Nothing more is asked: the elements and the numbers may have any values.
 
 #[repr(C)]
 #[derive(Clone, Copy)]
