@@ -86,6 +86,13 @@ pub fn axis_at(at: u32, full: u32, origin: f64, spacing: f64, n: u32) -> Axis
     }
 }
 
+// The axis of image row y. It takes divisions, and is the same for each plane of the row.
+pub fn row_axis(g: Grid, y: u32, full_height: u32, points_v: u32) -> Axis
+    ensures { λ r. ⌜ AxisIs (position y «full_height» (g .«origin_v») (g .«spacing_v») «points_v») «points_v» r ⌝ }
+{
+    axis_at(y, full_height, g.origin_v, g.spacing_v, points_v)
+}
+
 // ---- two map rows mixed
 
 // The two map rows around an image row, as the code carries them: where in the body the gains of map column 0 stand, how far apart the map
@@ -113,8 +120,9 @@ fn strip_of(v: Axis, columns: u32, planes: u32, m: u32) -> Strip
     }
 }
 
-// The strip of image row y.
+// The strip of image row y, whose axis is v; y, full and g are here for the contract alone.
 fn strip_at(
+    v: Axis,
     y: u32,
     full: u32,
     g: Grid,
@@ -123,12 +131,14 @@ fn strip_at(
     map_planes: u32,
     m: u32,
 ) -> Strip
-    requires { ⌜ Sized «points_v» «points_h» «map_planes» m ⌝ }
+    requires { ⌜
+        Sized «points_v» «points_h» «map_planes» m
+        × AxisIs (position y full (g .«origin_v») (g .«spacing_v») «points_v») «points_v» v
+        ⌝ }
     ensures { λ r. ⌜
         StripAt «points_v» «points_h» (max «map_planes» 1) m (position y full (g .«origin_v») (g .«spacing_v») «points_v») r
         ⌝ }
 {
-    let v = axis_at(y, full, g.origin_v, g.spacing_v, points_v);
     strip_of(v, points_h, at_least_one(map_planes), m)
 }
 
@@ -219,12 +229,14 @@ fn row_along(
     }
 }
 
-// One row, one plane: every selected sample times the gain at its own place. y is the row's place in the image, m the plane of the map.
+// One row, one plane: every selected sample times the gain at its own place. v is the row's axis, m the plane of the map; y and full_height are
+// here for the contract alone, which says which row that is.
 pub fn gain_row(
     row: &mut [f32],
     k: Walk,
     body: &[u8],
     g: Grid,
+    v: Axis,
     y: u32,
     full_height: u32,
     full_width: u32,
@@ -233,7 +245,10 @@ pub fn gain_row(
     map_planes: u32,
     m: u32,
 )
-    requires { ⌜ Walks k (length (now row)) × Sized «points_v» «points_h» «map_planes» m ⌝ }
+    requires { ⌜
+        Walks k (length (now row)) × Sized «points_v» «points_h» «map_planes» m
+        × AxisIs (position y «full_height» (g .«origin_v») (g .«spacing_v») «points_v») «points_v» v
+        ⌝ }
     ensures { λ _. ⌜
         now (row .exit)
         ≡ walked k
@@ -242,7 +257,7 @@ pub fn gain_row(
         (now (row .entry))
         ⌝ }
 {
-    let s = strip_at(y, full_height, g, points_v, points_h, map_planes, m);
+    let s = strip_at(v, y, full_height, g, points_v, points_h, map_planes, m);
     row_along(
         row,
         k,
@@ -338,7 +353,8 @@ fn block_along(
     }
 }
 
-// One row, one plane, the w selected columns from image column x0 + from on, with their positions from `fill_block`.
+// One row, one plane, the w selected columns from image column x0 + from on, with their positions from `fill_block`. v is the row's axis; y and
+// full_height are here for the contract alone, which says which row that is.
 pub fn gain_block(
     row: &mut [f32],
     k: Walk,
@@ -348,6 +364,7 @@ pub fn gain_block(
     ts: &[f32],
     body: &[u8],
     g: Grid,
+    v: Axis,
     y: u32,
     full_height: u32,
     full_width: u32,
@@ -359,6 +376,7 @@ pub fn gain_block(
     requires { ⌜
         Walks k (length (now row)) × Sized «points_v» «points_h» «map_planes» m × Begins k from w
         × Filled (k .x0 + from) (k .pitch) «full_width» (g .«origin_h») (g .«spacing_h») «points_h» w (now hs) (now ts)
+        × AxisIs (position y «full_height» (g .«origin_v») (g .«spacing_v») «points_v») «points_v» v
         ⌝ }
     ensures { λ _. ⌜
         now (row .exit)
@@ -369,7 +387,7 @@ pub fn gain_block(
         (now (row .entry))
         ⌝ }
 {
-    let s = strip_at(y, full_height, g, points_v, points_h, map_planes, m);
+    let s = strip_at(v, y, full_height, g, points_v, points_h, map_planes, m);
     block_along(
         row,
         k,

@@ -7,6 +7,8 @@ ghost use Rattle.points.specs.Select.{First};
 ghost use Rattle.select.specs.Walks.{walked, Walks};
 ghost use Rattle.dng.specs.Select.{onRow, onRegion, onWindow};
 ghost use Rattle.dng.specs.Bounds.{RowFits};
+ghost use Rattle.dng.specs.Value.{position};
+ghost use Rattle.gain.specs.Gain.{AxisIs};
 ghost use Rattle.gain.specs.Blocks.{within, Filled, Begins};
 ghost use Rattle.steps.specs.Planes.{regionPlanes};
 ghost use Rattle.turns.specs.Windows.{WindowFits, Ordered};
@@ -14,18 +16,20 @@ ghost use Rattle.gainwindow.specs.Columns.{MapFits, pitchOf, gainRule, b
 use dng::Grid;
 use dng::Region;
 use dng::Window;
+use gain::Axis;
 use select::Start;
 use select::Walk;
 use steps::Place;
 
 // ---- a block of one lent row
 
-// One plane: the w selected columns from image column x0 + from on.
+// One plane: the w selected columns from image column x0 + from on. v is the row's axis.
 fn plane_block(
     row: &mut [f32],
     k: Walk,
     r: Region,
     g: Place,
+    v: Axis,
     from: usize,
     w: usize,
     hs: &[u32],
@@ -39,6 +43,7 @@ fn plane_block(
     requires { ⌜
         Walks k (length (now row)) × MapFits «points_v» «points_h» grid «map_planes» × Begins k from w
         × Filled (k .x0 + from) (k .pitch) (g .«full_width») (grid .«origin_h») (grid .«spacing_h») «points_h» w (now hs) (now ts)
+        × AxisIs (position (g .y) (g .«full_height») (grid .«origin_v») (grid .«spacing_v») «points_v») «points_v» v
         ⌝ }
     ensures { λ _. ⌜
         now (row .exit)
@@ -58,6 +63,7 @@ fn plane_block(
         ts,
         body,
         grid,
+        v,
         g.y,
         g.full_height,
         g.full_width,
@@ -68,7 +74,7 @@ fn plane_block(
     );
 }
 
-// The planes of a region, one after another.
+// The planes of a region, one after another. They share the row's axis.
 fn planes_block(
     row: &mut [f32],
     g: Place,
@@ -98,6 +104,7 @@ fn planes_block(
         ⌝ }
 {
     let end = steps::planes_end(g, r);
+    let v = gain::row_axis(grid, g.y, g.full_height, points_v);
     let mut p = r.plane as usize;
     while p < end {
         plane_block(
@@ -105,6 +112,7 @@ fn planes_block(
             steps::walk_at(g, r, start, p),
             r,
             g,
+            v,
             from,
             w,
             hs,
@@ -237,7 +245,8 @@ fn next_block(from: usize, count: usize, pitch: usize) -> usize
     from + count * pitch
 }
 
-// As many columns from image column x0 + from on as the tables hold, or as there are before `end`; answers how far the next block begins.
+// As many columns from image column x0 + from on as the tables hold, or as there are before `end`; answers how far the next block begins. Each
+// block works out its rows' axes again; a window of up to 2048 columns has one block.
 fn one_block(
     samples: &mut [f32],
     w: Window,
@@ -266,8 +275,8 @@ fn one_block(
         × Lies (w .x0) r far × (from < far)
         ⌝ }
 {
-    let mut hs = [0u32; 512];
-    let mut ts = [0.0f32; 512];
+    let mut hs = [0u32; 2048];
+    let mut ts = [0.0f32; 2048];
     let pitch = select::larger(r.col_pitch as usize, 1);
     let count = gain::fill_block(
         &mut hs,

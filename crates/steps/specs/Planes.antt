@@ -1,4 +1,4 @@
--- The walk over one plane of a row, made from the row's place, a region and its first column.
+-- The walk over one plane of a row, made from the row's place, a region and its first column; and what the planes of a row share.
 use Prim.Native.Nat.{ℕ, _-_, _<_, min, max}
 use mathlib.Core.Path.{_≡_}
 use mathlib.Core.List.{List}
@@ -7,7 +7,12 @@ use Rattle.points.specs.Select.{inRow, onColumns}
 use Rattle.select.specs.declared.Walk.{Walk}
 use Rattle.select.specs.declared.Start.{Start}
 use Rattle.dng.specs.declared.Region.{Region}
+use Rattle.dng.specs.Value.{position}
+use Rattle.gain.specs.declared.Axis.{Axis}
+use Rattle.gain.specs.Gain.{AxisIs}
 use Rattle.steps.specs.declared.Place.{Place}
+use Rattle.steps.specs.declared.Task.{Task}
+use Rattle.steps.specs.declared.Task.the-variants.{Table, Polynomial, Gain, DeltaRows, DeltaColumns, ScaleRows, ScaleColumns}
 
 abbrev pub walkBy : Place → Region → Start → (plane pitch : ℕ) → Walk
 walkBy g r s plane pitch =
@@ -40,6 +45,16 @@ pub record Along (r : Region) (k : Walk) : Type 0 where
 -- map plane min(k, last), k counted from the region's first plane
 abbrev pub mapPlane : (plane first planes : ℕ) → ℕ
 mapPlane plane first planes = min (plane - first) (max planes 1 - 1)
+
+-- the axis of a gain map's row, which all planes share; of any other task nothing is asked
+abbrev pub AxisFor : Task → Place → Axis → Type 0
+AxisFor (Table n) g v = Unit
+AxisFor (Polynomial d) g v = Unit
+AxisFor (Gain pv ph grid mp) g v = AxisIs (position (g .y) (g .«full_height») (grid .«origin_v») (grid .«spacing_v») pv) pv v
+AxisFor (DeltaRows n) g v = Unit
+AxisFor (DeltaColumns n) g v = Unit
+AxisFor (ScaleRows n) g v = Unit
+AxisFor (ScaleColumns n) g v = Unit
 
 -- `f` at the columns of the region and at n of its planes, from its first on
 unfoldable pub regionPlanes : {A : Type 0} → Place → Region → (n : ℕ) → (ℕ → ℕ → A → A) → List A → List A

@@ -10,15 +10,17 @@ ghost use Rattle.points.specs.Select.{selects, First};
 ghost use Rattle.select.specs.Walks.{walked, Walks};
 ghost use Rattle.dng.specs.Select.{onRow, onRegion};
 ghost use Rattle.dng.specs.Bounds.{bounded, RowFits};
-ghost use Rattle.dng.specs.Value.{ruleOf, rule16Of, rowIndex, columnIndex, mapTable, mapTable16, nought, one, nth, delta, scaled, gained};
+ghost use Rattle.dng.specs.Value.{ruleOf, rule16Of, rowIndex, columnIndex, mapTable, mapTable16, nought, one, nth, delta, scaled, position, gained};
+ghost use Rattle.gain.specs.Gain.{AxisIs};
 ghost use Rattle.vignette.specs.Reach.{frameAt};
 ghost use Rattle.steps.specs.Plans.{planOf, taskRule, taskFits, tableSize};
 ghost use Rattle.steps.specs.Ready.{Ready};
-ghost use Rattle.steps.specs.Planes.{WalkIs, Along, mapPlane, regionPlanes};
+ghost use Rattle.steps.specs.Planes.{WalkIs, Along, AxisFor, mapPlane, regionPlanes};
 use dng::Grid;
 use dng::Opcode;
 use dng::Radial;
 use dng::Region;
+use gain::Axis;
 use select::Start;
 use select::Walk;
 use vignette::Reach;
@@ -139,11 +141,16 @@ pub fn prepare(op: Opcode, x0: u32, full_width: u32, full_height: u32) -> Prepar
 
 // ---- one plane of a row
 
-// The selected rows are counted from the region's top.
+// The selected rows are counted from the region's top. A pitch of 1 asks for no division, and 0 counts as 1.
 fn row_index(r: Region, y: u32) -> usize
     ensures { λ i. ⌜ i ≡ rowIndex r y ⌝ }
 {
-    select::less(y as usize, r.top as usize) / select::larger(r.row_pitch as usize, 1)
+    let down = select::less(y as usize, r.top as usize);
+    if r.row_pitch <= 1 {
+        down
+    } else {
+        down / r.row_pitch as usize
+    }
 }
 
 fn table_plane(row: &mut [f32], k: Walk, body: &[u8], n: u32, scale: f32)
@@ -200,18 +207,41 @@ fn scale_columns(row: &mut [f32], k: Walk, r: Region, body: &[u8], n: u32)
     lines::scale_columns(row, k, body, n);
 }
 
+// The axis of a gain map's row, which all planes share. No other task asks for one.
+fn axis_of(t: Task, g: Place) -> Axis
+    ensures { λ v. ⌜ AxisFor t g v ⌝ }
+{
+    match t {
+        Task::Gain {
+            points_v,
+            points_h: _,
+            grid,
+            map_planes: _,
+        } => gain::row_axis(grid, g.y, g.full_height, points_v),
+        _ => Axis {
+            lower: 0,
+            upper: 0,
+            share: 0.0,
+        },
+    }
+}
+
 fn gain_plane(
     row: &mut [f32],
     k: Walk,
     r: Region,
     g: Place,
+    v: Axis,
     body: &[u8],
     points_v: u32,
     points_h: u32,
     grid: Grid,
     map_planes: u32,
 )
-    requires { ⌜ Walks k (length (now row)) × (taskFits (Task.Gain «points_v» «points_h» grid «map_planes») ≡ true) ⌝ }
+    requires { ⌜
+        Walks k (length (now row)) × (taskFits (Task.Gain «points_v» «points_h» grid «map_planes») ≡ true)
+        × AxisIs (position (g .y) (g .«full_height») (grid .«origin_v») (grid .«spacing_v») «points_v») «points_v» v
+        ⌝ }
     ensures { λ _.
         ⌜ ((scale : Float)
         → now (row .exit)
@@ -225,6 +255,7 @@ fn gain_plane(
         k,
         body,
         grid,
+        v,
         g.y,
         g.full_height,
         g.full_width,
@@ -235,9 +266,18 @@ fn gain_plane(
     );
 }
 
-// A task on one plane of a row.
-fn one_plane(row: &mut [f32], k: Walk, r: Region, t: Task, g: Place, body: &[u8], scale: f32)
-    requires { ⌜ Walks k (length (now row)) × Along r k × (taskFits t ≡ true) ⌝ }
+// A task on one plane of a row. v is the row's axis where the task is a gain map.
+fn one_plane(
+    row: &mut [f32],
+    k: Walk,
+    r: Region,
+    t: Task,
+    g: Place,
+    v: Axis,
+    body: &[u8],
+    scale: f32,
+)
+    requires { ⌜ Walks k (length (now row)) × Along r k × (taskFits t ≡ true) × AxisFor t g v ⌝ }
     ensures { λ _.
         ⌜ now (row .exit)
         ≡ walked k (taskRule (frameAt scale (g .«full_width») (g .«full_height»)) r (now (body .entry)) t (g .y)) (now (row .entry)) ⌝ }
@@ -250,7 +290,7 @@ fn one_plane(row: &mut [f32], k: Walk, r: Region, t: Task, g: Place, body: &[u8]
             points_h,
             grid,
             map_planes,
-        } => gain_plane(row, k, r, g, body, points_v, points_h, grid, map_planes),
+        } => gain_plane(row, k, r, g, v, body, points_v, points_h, grid, map_planes),
         Task::DeltaRows { n } => delta_rows(row, k, r, g.y, body, n, scale),
         Task::DeltaColumns { n } => delta_columns(row, k, r, body, n, scale),
         Task::ScaleRows { n } => scale_rows(row, k, r, g.y, body, n),
@@ -309,9 +349,10 @@ fn region_planes(
         (now (row .entry)) ⌝ }
 {
     let end = planes_end(g, r);
+    let v = axis_of(t, g);
     let mut p = r.plane as usize;
     while p < end {
-        one_plane(row, walk_at(g, r, start, p), r, t, g, body, scale);
+        one_plane(row, walk_at(g, r, start, p), r, t, g, v, body, scale);
         p += 1;
     }
 }

@@ -19,6 +19,7 @@ gain-block-requires c κs =
       gain-fits (a .points-v) (a .points-h) (a .grid) (a .map-planes) (a .k .plane) (a .r .plane) (s .pre .1) (m .map-plane .ensures),
       s .pre .2,
       s .pre .3,
+      s .pre .4,
     )
 
 same-length : tie.Need-same-length

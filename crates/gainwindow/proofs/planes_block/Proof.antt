@@ -24,12 +24,12 @@ rule g r from w body pv ph grid mp =
     within (g .x0 + from) (g .x0 + from + w * pitchOf r) (gainRule (g .«full_width») (g .«full_height») body r pv ph grid mp (g .y))
 
 abbrev Inv-loop : tie.InvT-loop
-Inv-loop row₀ g r start from w hs ts body points-v points-h grid map-planes end p₀ row p =
+Inv-loop row₀ g r start from w hs ts body points-v points-h grid map-planes end v p₀ row p =
     (row ≡ regionPlanes g r (p - r .plane) (rule g r from w body points-v points-h grid map-planes) row₀)
     × (r .plane ≤ p) × (p ≤ max (r .plane) end) × (length row ≡ length row₀)
 
 abbrev μ-loop : tie.MeasureT-loop
-μ-loop row₀ g r start from w hs ts body points-v points-h grid map-planes end p₀ row p = end - p
+μ-loop row₀ g r start from w hs ts body points-v points-h grid map-planes end v p₀ row p = end - p
 
 -- where the function began, from where the planes' end is worked out
 abbrev begun : tie.After-planes-end Inv-loop μ-loop → tie.Start Inv-loop μ-loop
@@ -38,12 +38,15 @@ begun e = e .before .before .before .before .before
 planes-end-requires : tie.Need-planes-end-requires Inv-loop μ-loop
 planes-end-requires c κs = search needs
 
+row-axis-requires : tie.Need-row-axis-requires Inv-loop μ-loop
+row-axis-requires c κs = search needs
+
 cast-p : tie.Need-cast-p Inv-loop μ-loop
 cast-p c = search needs
 
 loop-holds : tie.Need-loop-holds Inv-loop μ-loop
 loop-holds c =
-    let a = begun (c .before) .args in
+    let a = begun (c .before .before) .args in
     (planes-begin (a .g) (a .r) _ (a .row .now), omega arith, omega arith, refl)
 
 walk-at-requires : tie.Need-walk-at-requires Inv-loop μ-loop
@@ -52,7 +55,8 @@ walk-at-requires c κs = search needs
 plane-block-requires : tie.Need-plane-block-requires Inv-loop μ-loop
 plane-block-requires c κs =
     let h = c .before .before .before in
-    let e = h .before .before in
+    let x = h .before .before in
+    let e = x .before in
     let s = begun e in
     let a = s .args in (
       walks-of (c .walk-at .ensures) (subst (RowFits (a .g .x0) (a .g .planes) (a .g .y)) (sym (h .loop .inv .3)) (s .pre .0)) (s .pre .1)
@@ -60,6 +64,7 @@ plane-block-requires c κs =
       s .pre .2,
       begins-of (c .walk-at .ensures) (s .pre .3),
       filled-of (c .walk-at .ensures) (s .pre .3),
+      x .row-axis .ensures,
     )
 
 add-p : tie.Need-add-p Inv-loop μ-loop
@@ -72,7 +77,7 @@ loop-again : tie.Need-loop-again Inv-loop μ-loop
 loop-again c =
     let w = c .before .before .before in
     let h = w .before .before .before in
-    let a = begun (h .before .before) .args in
+    let a = begun (h .before .before .before) .args in
     let f = rule (a .g) (a .r) (a .from) (a .w) (a .body .now) (a .points-v) (a .points-h) (a .grid) (a .map-planes) in
     let done =
     planes-turn (w .walk-at .ensures) f (a .row .now) (h .loop .row) _ (h .loop .inv .1) (h .loop .inv .0)
@@ -89,7 +94,7 @@ same-length c = c .before .loop .inv .3
 returns : tie.Need-returns Inv-loop μ-loop
 returns c =
     let h = c .before in
-    let e = h .before .before in
+    let e = h .before .before .before in
     let s = begun e in
     let a = s .args in
     h .loop .inv .0
@@ -103,6 +108,7 @@ planes-block-spec =
     Inv-loop
     μ-loop
     planes-end-requires
+    row-axis-requires
     cast-p
     loop-holds
     walk-at-requires

@@ -14,8 +14,11 @@ gain-row-requires : tie.Need-gain-row-requires
 gain-row-requires c κs =
     let m = c .before in
     let s = m .before .before .before in
-    let a = s .args in
-    (s .pre .0, gain-fits (a .points-v) (a .points-h) (a .grid) (a .map-planes) (a .k .plane) (a .r .plane) (s .pre .1) (m .map-plane .ensures))
+    let a = s .args in (
+      s .pre .0,
+      gain-fits (a .points-v) (a .points-h) (a .grid) (a .map-planes) (a .k .plane) (a .r .plane) (s .pre .1) (m .map-plane .ensures),
+      s .pre .2,
+    )
 
 same-length : tie.Need-same-length
 same-length c = search needs

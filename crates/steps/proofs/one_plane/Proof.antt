@@ -1,6 +1,6 @@
 -- `one_plane` meets its contract, task by task. Assumes nothing.
 use Prim.Native.Nat.{ℕ}
-use mathlib.Core.Path.{_≡_, sym, ap, _∙_}
+use mathlib.Core.Path.{_≡_, sym, ap, subst, _∙_}
 use mathlib.Core.List.{List}
 use borrow.Author.Needs.{needs}
 use lib.Ieee.{Float}
@@ -11,6 +11,7 @@ use Rattle.vignette.specs.Reach.{frameAt}
 use Rattle.steps.specs.declared.Task.{Task}
 use Rattle.steps.specs.declared.Place.{Place}
 use Rattle.steps.specs.Plans.{taskRule, taskFits}
+use Rattle.steps.specs.Planes.{AxisFor}
 use Rattle.steps.proofs.Fits.{degree-fits}
 use Rattle.steps.proofs.one_plane.Statement.{statement}
 use Rattle.steps.proofs.one_plane.Tie as tie
@@ -44,7 +45,11 @@ gain-plane-requires : tie.Need-gain-plane-requires
 gain-plane-requires c κs =
     let u = c .before .before in
     let s = u .before .before .before .before in
-    (s .pre .0, ap taskFits (sym (u .t3 .given .1)) ∙ s .pre .2)
+    let a = s .args in (
+      s .pre .0,
+      ap taskFits (sym (u .t3 .given .1)) ∙ s .pre .2,
+      subst (λ (t : Task). AxisFor t (a .g) (a .v)) (u .t3 .given .1) (s .pre .3),
+    )
 
 enum-known-t-4 : tie.Need-enum-known-t-4
 enum-known-t-4 c = search needs
