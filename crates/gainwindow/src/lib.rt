@@ -13,7 +13,9 @@ ghost use Rattle.gain.specs.Blocks.{within, Filled, Begins};
 ghost use Rattle.steps.specs.Planes.{regionPlanes};
 ghost use Rattle.turns.specs.Windows.{WindowFits, Ordered};
 ghost use Rattle.gainwindow.specs.Columns.{MapFits, pitchOf, gainRule, blockRule, Lies, Block};
+ghost use Rattle.gainwindow.specs.Gains.{GainIs};
 use dng::Grid;
+use dng::Opcode;
 use dng::Region;
 use dng::Window;
 use gain::Axis;
@@ -392,4 +394,39 @@ pub fn gain_window(
         grid,
         map_planes,
     );
+}
+
+// ---- which opcodes are gain maps
+
+// A gain map, or any other opcode.
+pub enum Gain {
+    Map {
+        region: Region,
+        points_v: u32,
+        points_h: u32,
+        grid: Grid,
+        map_planes: u32,
+    },
+    Other,
+}
+
+pub fn gain_of(op: Opcode) -> Gain
+    ensures { λ r. ⌜ GainIs op r ⌝ }
+{
+    match op {
+        Opcode::GainMap {
+            region,
+            points_v,
+            points_h,
+            grid,
+            map_planes,
+        } => Gain::Map {
+            region,
+            points_v,
+            points_h,
+            grid,
+            map_planes,
+        },
+        _ => Gain::Other,
+    }
 }

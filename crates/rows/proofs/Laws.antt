@@ -3,8 +3,9 @@
 use mathlib.Core.Path.{_≡_, refl, sym, ap, _∙_, subst}
 use mathlib.Core.Bool.{Bool, true, false, _&&_}
 use mathlib.Core.List.{List, [], _∷_}
-use Prim.Native.Nat.{ℕ, _≤_}
-use native.Mathlib.Nat.{mul-le-mul, le-trans}
+use Prim.Native.Nat.{ℕ, _*_, _≤_, max}
+use native.Mathlib.Nat.{mul-le-mul, mul-le-mul-right, le-trans}
+use native.Mathlib.Omega.{arith}
 use borrow.Author.Tests.{leb-true}
 use lib.Ieee.{Float}
 use lib.ListN.{length}
@@ -25,7 +26,7 @@ use Rattle.settles.specs.declared.RowPlan.the-variants as RP
 use Rattle.settles.specs.Plans.{rowPlanOf}
 use Rattle.settles.proofs.Laws.{row-refuses, row-performs, row-settled}
 use Rattle.steps.specs.declared.Place.{Place}
-use Rattle.rows.specs.Rows.{RowRan, Narrow, placeOf, frameOf}
+use Rattle.rows.specs.Rows.{RowRan, Narrow, placeOf, Spans, frameOf}
 
 -- ---- a row, one opcode at a time
 
@@ -52,6 +53,9 @@ module _ (fr : Frame) (x0 p y : ℕ) (list : List ℕ) where
 pub still : {x0 p y m n : ℕ} → RowFits x0 p y m → n ≡ m → RowFits x0 p y n
 still {x0} {p} {y} h e = subst (λ (k : ℕ). RowFits x0 p y k) (sym e) h
 
+pub still-spans : {g : Place} {width m n : ℕ} → Spans g width m → n ≡ m → Spans g width n
+still-spans {g} {width} h e = subst (λ (k : ℕ). Spans g width k) (sym e) h
+
 -- ---- the ranges
 
 both : (a b : Bool) → (a && b) ≡ true → (a ≡ true) × (b ≡ true)
@@ -61,7 +65,7 @@ both false b h = (h, cc)
 
 -- what each test of the ranges says, in their order
 module _ (w : RowWindow) (y n : ℕ) (h : rowInRange w y n ≡ true) where
-  within : RowFits (w .x0) (w .planes) y n × Narrow w y
+  within : RowFits (w .x0) (w .planes) y n × Narrow w y × Spans (placeOf w y) (max (w .width) 1) n
   unfolding rowInRange
   within =
       let a = both _ _ h in
@@ -74,15 +78,25 @@ module _ (w : RowWindow) (y n : ℕ) (h : rowInRange w y n ≡ true) where
       let width : w .width ≤ 65536 = leb-true _ _ (a .0) in
       let planes : w .planes ≤ 8 = leb-true _ _ (c .0) in
       let x0 : w .x0 ≤ 16777216 = leb-true _ _ (d .0) in
-      let row : y ≤ 16842751 = leb-true _ _ (g .0) in (
+      let wide : w .«full_width» ≤ 16777216 = leb-true _ _ (e .0) in
+      let high : w .«full_height» ≤ 16777216 = leb-true _ _ (f .0) in
+      let row : y ≤ 16842751 = leb-true _ _ (g .0) in
+      let short : n ≤ w .width * w .planes = leb-true _ _ (g .1) in (
         record {
           some = leb-true _ _ (b .0);
           few = planes;
           column = x0;
           row = row;
-          short = le-trans (leb-true _ _ (g .1)) (mul-le-mul width planes);
+          short = le-trans short (mul-le-mul width planes);
         },
-        record { few = planes; column = x0; row = row; wide = leb-true _ _ (e .0); high = leb-true _ _ (f .0) },
+        record { few = planes; column = x0; row = row; wide = wide; high = high },
+        record {
+          some = omega arith;
+          most = omega (arith, width);
+          holds = le-trans short (mul-le-mul-right (w .planes) (omega arith));
+          wide = wide;
+          high = high;
+        },
       )
 
   pub fits : RowFits (w .x0) (w .planes) y n
@@ -90,6 +104,9 @@ module _ (w : RowWindow) (y n : ℕ) (h : rowInRange w y n ≡ true) where
 
   pub narrow : Narrow w y
   narrow = within .1
+
+  pub spans : Spans (placeOf w y) (max (w .width) 1) n
+  spans = within .2
 
 -- ---- what a plan makes of the row
 
@@ -108,6 +125,13 @@ module _ (w : RowWindow) (scale : Float) (y : ℕ) (list : List ℕ) (row : List
     goes-fits h =
         subst (λ (g : Place). RowFits (g .x0) (g .planes) (g .y) (length row)) (sym h)
         (fits w y (length row) (row-settled list w y (length row) (sym is ∙ q) .in-range))
+
+    -- a row without columns is empty: it counts as one column wide
+    pub goes-spans : {g : Place} {width : ℕ} → g ≡ placeOf w y → width ≡ max (w .width) 1 → Spans g width (length row)
+    goes-spans {g} {width} h e =
+        subst (λ (k : ℕ). Spans g k (length row)) (sym e)
+        (subst (λ (g : Place). Spans g (max (w .width) 1) (length row)) (sym h)
+        (spans w y (length row) (row-settled list w y (length row) (sym is ∙ q) .in-range)))
 
     pub done :
         {g : Place} {row' : List Float} → g ≡ placeOf w y

@@ -1,9 +1,10 @@
 -- What a row call promises, and where its row lies in the image. Document 01, 'What comes back'.
-use Prim.Native.Nat.{ℕ, _≤_}
+use Prim.Native.Nat.{ℕ, _*_, _≤_}
 use mathlib.Core.List.{List}
 use mathlib.Core.Path.{_≡_}
 use lib.Ieee.{Float}
 use Rattle.dng.specs.declared.RowWindow.{RowWindow}
+use Rattle.dng.specs.declared.Window.{Window}
 use Rattle.dng.specs.declared.RowAnswer.{RowAnswer}
 use Rattle.dng.specs.Value.{Frame}
 use Rattle.dng.specs.Answer.{RowOut}
@@ -27,6 +28,28 @@ pub record Narrow (w : RowWindow) (y : ℕ) : Type 0 where
 abbrev pub placeOf : RowWindow → (y : ℕ) → Place
 placeOf w y =
     record { x0 = w .x0; planes = w .planes; y = y; «full_width» = w .«full_width»; «full_height» = w .«full_height» }
+
+-- a row of n samples at g has no more than `width` columns, and its numbers are in a window's range
+pub record Spans (g : Place) (width n : ℕ) : Type 0 where
+  pub some : 1 ≤ width
+  pub most : width ≤ 65536
+  pub holds : n ≤ width * g .planes
+  pub wide : g .«full_width» ≤ 16777216
+  pub high : g .«full_height» ≤ 16777216
+
+-- the window that has the row at g, and no other
+abbrev pub windowOf : Place → (width : ℕ) → Window
+windowOf g width =
+    record {
+      width = width;
+      height = 1;
+      planes = g .planes;
+      stride = width;
+      x0 = g .x0;
+      y0 = g .y;
+      «full_width» = g .«full_width»;
+      «full_height» = g .«full_height»;
+    }
 
 abbrev pub frameOf : Place → Float → Frame
 frameOf g scale = record { scale = scale; fullWidth = g .«full_width»; fullHeight = g .«full_height» }

@@ -5,6 +5,8 @@ use dng::Opcode;
 use dng::RowAnswer;
 use dng::RowWindow;
 use dng::Step;
+use dng::Window;
+use gainwindow::Gain;
 use settles::RowPlan;
 use steps::Place;
 ghost use mathlib.Core.Path.{_≡_};
@@ -17,7 +19,7 @@ ghost use Rattle.dng.specs.Value.{ruleOf};
 ghost use Rattle.dng.specs.Run.{rowOn};
 ghost use Rattle.dng.specs.Answer.{rowOut};
 ghost use Rattle.dng.specs.Bounds.{bounded, RowFits};
-ghost use Rattle.rows.specs.Rows.{RowRan, Narrow, placeOf, frameOf};
+ghost use Rattle.rows.specs.Rows.{RowRan, Narrow, placeOf, Spans, windowOf, frameOf};
 
 // The row's place in the image. Its numbers are in range, so that none is cut.
 fn place_of(w: RowWindow, y: usize) -> Place
@@ -33,8 +35,24 @@ fn place_of(w: RowWindow, y: usize) -> Place
     }
 }
 
-// One opcode of the list.
-fn perform_one(list: &[u8], row: &mut [f32], g: Place, e: Entry, op: Opcode, scale: f32)
+// The row as the only row of a window, `width` columns wide.
+fn window_of(g: Place, width: usize) -> Window
+    ensures { λ r. ⌜ r ≡ windowOf g width ⌝ }
+{
+    Window {
+        width,
+        height: 1,
+        planes: g.planes as usize,
+        stride: width,
+        x0: g.x0 as usize,
+        y0: g.y as usize,
+        full_width: g.full_width as usize,
+        full_height: g.full_height as usize,
+    }
+}
+
+// One opcode of the list, as a step of the row.
+fn step_one(list: &[u8], row: &mut [f32], g: Place, e: Entry, op: Opcode, scale: f32)
     requires { ⌜ RowFits (g .x0) (g .planes) (g .y) (length (now row)) × (bounded op ≡ true) ⌝ }
     ensures { λ _.
         ⌜ now (row .exit)
@@ -47,9 +65,57 @@ fn perform_one(list: &[u8], row: &mut [f32], g: Place, e: Entry, op: Opcode, sca
     steps::row_step(&mut *row, g, op, ready, entries::body(list, e), scale);
 }
 
-// All opcodes, in list order.
-fn perform(list: &[u8], row: &mut [f32], g: Place, scale: f32)
-    requires { ⌜ RowFits (g .x0) (g .planes) (g .y) (length (now row)) ⌝ }
+// One opcode of the list. The planes of a gain map share the positions of their columns; one plane has nothing to share, and no window begins
+// at a row past `MAX_PLACE`.
+fn perform_one(
+    list: &[u8],
+    row: &mut [f32],
+    g: Place,
+    width: usize,
+    e: Entry,
+    op: Opcode,
+    scale: f32,
+)
+    requires { ⌜
+        RowFits (g .x0) (g .planes) (g .y) (length (now row)) × (bounded op ≡ true) × Spans g width (length (now row))
+        ⌝ }
+    ensures { λ _.
+        ⌜ now (row .exit)
+        ≡ each
+        (onRow (g .x0) (g .planes) (g .y) (length (now (row .entry)))
+        (ruleOf (frameOf g scale) op (bodyOf (now (list .entry)) e)))
+        (now (row .entry)) ⌝ }
+{
+    if g.planes < 2 || Window::MAX_PLACE < g.y as usize {
+        step_one(list, row, g, e, op, scale);
+        return;
+    }
+    match gainwindow::gain_of(op) {
+        Gain::Map {
+            region,
+            points_v,
+            points_h,
+            grid,
+            map_planes,
+        } => {
+            gainwindow::gain_window(
+                row,
+                window_of(g, width),
+                region,
+                entries::body(list, e),
+                points_v,
+                points_h,
+                grid,
+                map_planes,
+            )
+        }
+        Gain::Other => step_one(list, row, g, e, op, scale),
+    }
+}
+
+// All opcodes, in list order, on a row of at most `width` columns.
+fn perform(list: &[u8], row: &mut [f32], g: Place, width: usize, scale: f32)
+    requires { ⌜ RowFits (g .x0) (g .planes) (g .y) (length (now row)) × Spans g width (length (now row)) ⌝ }
     ensures { λ _.
         ⌜ now (row .exit)
         ≡ rowOn (frameOf g scale) (g .x0) (g .planes) (g .y) (now (list .entry)) (itemsOf (now (list .entry))) (now (row .entry)) ⌝ }
@@ -60,7 +126,7 @@ fn perform(list: &[u8], row: &mut [f32], g: Place, scale: f32)
     while k < n {
         match list::step(list, c) {
             Step::Item { entry, op, next } => {
-                perform_one(list, &mut *row, g, entry, op, scale);
+                perform_one(list, &mut *row, g, width, entry, op, scale);
                 c = next;
                 k += 1;
             }
@@ -78,7 +144,14 @@ pub fn run_row(list: &[u8], row: &mut [f32], w: RowWindow, y: usize, scale: f32)
     match settles::settle_row(list, w, y, row.len()) {
         RowPlan::Refuse { answer } => answer,
         RowPlan::Go { skipped } => {
-            perform(list, &mut *row, place_of(w, y), scale);
+            // a window has a column: a row of width 0 is empty, and fits one of width 1
+            perform(
+                list,
+                &mut *row,
+                place_of(w, y),
+                select::larger(w.width, 1),
+                scale,
+            );
             RowAnswer::Done { skipped: skipped }
         }
     }

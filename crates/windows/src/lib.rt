@@ -10,11 +10,9 @@ ghost use Rattle.dng.specs.Value.{ruleOf, rule16Of};
 ghost use Rattle.dng.specs.Answer.{frameOf};
 ghost use Rattle.steps.specs.Ready.{Ready};
 ghost use Rattle.turns.specs.Windows.{WindowFits, Ordered};
-ghost use Rattle.windows.specs.Gains.{GainIs};
-use dng::Grid;
 use dng::Opcode;
-use dng::Region;
 use dng::Window;
+use gainwindow::Gain;
 use steps::Prepared;
 
 fn smaller(a: usize, b: usize) -> usize
@@ -65,51 +63,18 @@ fn by_rows(samples: &mut [f32], w: Window, op: Opcode, body: &[u8], scale: f32)
     rows(samples, w, op, ready, body, scale);
 }
 
-// A gain map, or any other opcode.
-enum Gain {
-    Map {
-        region: Region,
-        points_v: u32,
-        points_h: u32,
-        grid: Grid,
-        map_planes: u32,
-    },
-    Other,
-}
-
-fn gain_of(op: Opcode) -> Gain
-    ensures { λ r. ⌜ GainIs op r ⌝ }
-{
-    match op {
-        Opcode::GainMap {
-            region,
-            points_v,
-            points_h,
-            grid,
-            map_planes,
-        } => Gain::Map {
-            region,
-            points_v,
-            points_h,
-            grid,
-            map_planes,
-        },
-        _ => Gain::Other,
-    }
-}
-
-// The rows of a gain map share the positions of their columns. A single row has nothing to share.
+// The rows and planes of a gain map share the positions of their columns. A single row of one plane has nothing to share.
 fn by_kind(samples: &mut [f32], w: Window, op: Opcode, body: &[u8], scale: f32)
     requires { ⌜ WindowFits w × Ordered w × (bounded op ≡ true) ⌝ }
     ensures { λ _.
         ⌜ now (samples .exit)
         ≡ each (onWindow w (length (now (samples .entry))) (ruleOf (frameOf w scale) op (now (body .entry)))) (now (samples .entry)) ⌝ }
 {
-    if w.height < 2 {
+    if w.height < 2 && w.planes < 2 {
         by_rows(samples, w, op, body, scale);
         return;
     }
-    match gain_of(op) {
+    match gainwindow::gain_of(op) {
         Gain::Map {
             region,
             points_v,

@@ -12,18 +12,18 @@ use Rattle.dng.specs.Run.{rowOn}
 use Rattle.list.proofs.Fold.{begin, item, stop, end}
 use Rattle.list.proofs.Bounds.{sound}
 use Rattle.rows.specs.Rows.{frameOf}
-use Rattle.rows.proofs.Laws.{more, none, still}
+use Rattle.rows.proofs.Laws.{more, none, still, still-spans}
 use Rattle.rows.proofs.perform.Statement.{statement}
 use Rattle.rows.proofs.perform.Tie as tie
 
 abbrev Inv-loop : tie.InvT-loop
-Inv-loop list row₀ g scale n k₀ c₀ row k c =
+Inv-loop list row₀ g width scale n k₀ c₀ row k c =
     (k ≤ n) × (length row ≡ length row₀) ×
     (rowOn (frameOf g scale) (g .x0) (g .planes) (g .y) list (readFrom list (n - k) c) row
     ≡ rowOn (frameOf g scale) (g .x0) (g .planes) (g .y) list (itemsOf list) row₀)
 
 abbrev μ-loop : tie.MeasureT-loop
-μ-loop list row₀ g scale n k₀ c₀ row k c = n - k
+μ-loop list row₀ g width scale n k₀ c₀ row k c = n - k
 
 count-requires : tie.Need-count-requires Inv-loop μ-loop
 count-requires c κs = search needs
@@ -49,8 +49,9 @@ perform-one-requires : tie.Need-perform-one-requires Inv-loop μ-loop
 perform-one-requires c κs =
     let b4 = c .before .before .before .before in
     let b8 = b4 .before .before .before .before in (
-      still (b8 .before .before .pre) (b4 .before .before .loop .inv .1),
+      still (b8 .before .before .pre .0) (b4 .before .before .loop .inv .1),
       sound _ _ (b4 .step .ensures) (c .before .before .entry .given .1) .counts,
+      still-spans (b8 .before .before .pre .1) (b4 .before .before .loop .inv .1),
     )
 
 add-k : tie.Need-add-k Inv-loop μ-loop

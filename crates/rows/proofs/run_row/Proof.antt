@@ -1,6 +1,6 @@
 -- `rows::run_row` meets its contract, by the plan: the row as it was, or with all opcodes. Assumes nothing.
 use denote.Ref.{now}
-use Rattle.rows.proofs.Laws.{refused, goes-narrow, goes-fits, done}
+use Rattle.rows.proofs.Laws.{refused, goes-narrow, goes-fits, goes-spans, done}
 use borrow.Author.Needs.{needs}
 use Rattle.rows.proofs.run_row.Statement.{statement}
 use Rattle.rows.proofs.run_row.Tie as tie
@@ -20,12 +20,20 @@ place-of-requires c κs =
     let a = b4 .before .before .before .args in
     goes-narrow (a .w) (a .scale) (a .y) (now (a .list)) (now (a .row)) (b4 .settle-row .ensures) (c .before .before .skipped .given .1)
 
+larger-requires : tie.Need-larger-requires
+larger-requires c κs = search needs
+
 perform-requires : tie.Need-perform-requires
 perform-requires c κs =
-    let b5 = c .before .before .before .before .before in
-    let a = b5 .before .before .before .args in
-    goes-fits (a .w) (a .scale) (a .y) (now (a .list)) (now (a .row)) (b5 .settle-row .ensures) (c .before .before .before .skipped .given .1)
-    (c .place-of .ensures)
+    let p = c .before in
+    let m = p .before .before .before in
+    let t = m .before .before in
+    let a = t .before .before .before .args in
+    let settled = t .settle-row .ensures in (
+      goes-fits (a .w) (a .scale) (a .y) (now (a .list)) (now (a .row)) settled (m .skipped .given .1) (p .place-of .ensures),
+      goes-spans (a .w) (a .scale) (a .y) (now (a .list)) (now (a .row)) settled (m .skipped .given .1) (p .place-of .ensures)
+          (c .larger .ensures),
+    )
 
 returns : tie.Need-returns
 returns c =
@@ -38,11 +46,12 @@ same-length c = search needs
 
 returns-2 : tie.Need-returns-2
 returns-2 c =
-    let b4 = c .before .before .before .before in
-    let b8 = b4 .before .before .before .before in
-    let a = b8 .before .before .before .args in
-    done (a .w) (a .scale) (a .y) (now (a .list)) (now (a .row)) (b8 .settle-row .ensures) (b4 .before .before .skipped .given .1)
-    (c .before .before .before .place-of .ensures) (c .before .before .perform .ensures)
+    let p = c .before .before .before .before in
+    let m = p .before .before .before in
+    let t = m .before .before in
+    let a = t .before .before .before .args in
+    done (a .w) (a .scale) (a .y) (now (a .list)) (now (a .row)) (t .settle-row .ensures) (m .skipped .given .1)
+    (p .place-of .ensures) (c .before .before .perform .ensures)
 
 pub run-row-spec : {M : Type 1} → statement M
 run-row-spec =
@@ -52,6 +61,7 @@ run-row-spec =
     enum-known-answer
     enum-known-skipped
     place-of-requires
+    larger-requires
     perform-requires
     returns
     same-length

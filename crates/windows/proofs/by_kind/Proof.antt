@@ -1,7 +1,7 @@
 -- `by_kind` meets its contract: a gain map's own run, or the rows. Assumes nothing.
 use borrow.Author.Needs.{needs}
 use lib.ListN.{length}
-use Rattle.windows.proofs.Gains.{map-fits, map-rule}
+use Rattle.gainwindow.proofs.Gains.{map-fits, map-rule}
 use Rattle.windows.proofs.by_kind.Statement.{statement}
 use Rattle.windows.proofs.by_kind.Tie as tie
 

@@ -14,10 +14,10 @@ use Rattle.dng.specs.Answer.{frameOf}
 use Rattle.dng.specs.Bounds.{bounded}
 use Rattle.dng.specs.Select.{onRegion, onWindow}
 use Rattle.dng.specs.Value.{gained, ruleOf}
 use Rattle.gainwindow.specs.Columns.{MapFits, gainRule}
-use Rattle.windows.specs.declared.Gain.{Gain}
-use Rattle.windows.specs.declared.Gain.the-variants.{Map}
-use Rattle.windows.specs.Gains.{GainIs}
+use Rattle.gainwindow.specs.declared.Gain.{Gain}
+use Rattle.gainwindow.specs.declared.Gain.the-variants.{Map}
+use Rattle.gainwindow.specs.Gains.{GainIs}
 
 module _ (op : Opcode) {x : Gain} {r : Region} {pv ph : ℕ} {g : Grid} {mp : ℕ} (is : GainIs op x) (e : x ≡ Map r pv ph g mp) where
   opcode : op ≡ GainMap r pv ph g mp

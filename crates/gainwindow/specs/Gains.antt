@@ -2,8 +2,8 @@
 use mathlib.Core.Path.{_≡_}
 use Rattle.dng.specs.declared.Opcode.{Opcode}
 use Rattle.dng.specs.declared.Opcode.the-variants.{GainMap}
-use Rattle.windows.specs.declared.Gain.{Gain}
-use Rattle.windows.specs.declared.Gain.the-variants.{Map, Other}
+use Rattle.gainwindow.specs.declared.Gain.{Gain}
+use Rattle.gainwindow.specs.declared.Gain.the-variants.{Map, Other}
 
 abbrev pub GainIs : Opcode → Gain → Type 0
 GainIs op (Map r pv ph g mp) = op ≡ GainMap r pv ph g mp

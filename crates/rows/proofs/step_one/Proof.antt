@@ -1,0 +1,30 @@
+-- `rows::step_one` meets its contract: the step's own, with the body as the entry has it. Assumes nothing.
+use denote.Ref.{now}
+use Rattle.rows.specs.Rows.{frameOf}
+use Rattle.rows.proofs.Laws.{lent}
+use borrow.Author.Needs.{needs}
+use Rattle.rows.proofs.step_one.Statement.{statement}
+use Rattle.rows.proofs.step_one.Tie as tie
+
+prepare-requires : tie.Need-prepare-requires
+prepare-requires c κs = search needs
+
+body-requires : tie.Need-body-requires
+body-requires c κs = search needs
+
+row-step-requires : tie.Need-row-step-requires
+row-step-requires c κs = search needs
+
+same-length : tie.Need-same-length
+same-length c = search needs
+
+returns : tie.Need-returns
+returns c =
+    let a = c .before .before .before .before .before .before .before .before .args in
+    let g = a .g in
+    lent (frameOf g (a .scale)) (g .x0) (g .planes) (g .y) (now (a .list)) (a .e) (a .op) (c .before .before .before .body .ensures)
+    (now (a .row)) (c .before .before .row-step .ensures)
+
+pub step-one-spec : {M : Type 1} → statement M
+step-one-spec =
+    tie.close (tie.spec prepare-requires body-requires row-step-requires same-length returns)
