@@ -1,10 +1,10 @@
--- `marks::point` meets its contract: a point is the rectangle of one position.
+-- `listed::point` meets its contract: a point is the rectangle of one position.
 -- Assumes nothing.
 use borrow.Author.Needs.{needs}
-use Rattle.marks.proofs.Listing.{point-marks}
+use Rattle.listed.proofs.Listing.{point-marks}
 use Rattle.marks.proofs.Joining.{joined-as}
-use Rattle.marks.proofs.point.Statement.{statement}
-use Rattle.marks.proofs.point.Tie as tie
+use Rattle.listed.proofs.point.Statement.{statement}
+use Rattle.listed.proofs.point.Tie as tie
 
 mul-u32-at : tie.Need-mul-u32-at
 mul-u32-at c = search needs

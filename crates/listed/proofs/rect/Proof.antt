@@ -1,10 +1,10 @@
--- `marks::rect` meets its contract: a rectangle by its four words.
+-- `listed::rect` meets its contract: a rectangle by its four words.
 -- Assumes nothing.
 use borrow.Author.Needs.{needs}
-use Rattle.marks.proofs.Listing.{rect-marks}
+use Rattle.listed.proofs.Listing.{rect-marks}
 use Rattle.marks.proofs.Joining.{joined-as}
-use Rattle.marks.proofs.rect.Statement.{statement}
-use Rattle.marks.proofs.rect.Tie as tie
+use Rattle.listed.proofs.rect.Statement.{statement}
+use Rattle.listed.proofs.rect.Tie as tie
 
 mul-at : tie.Need-mul-at
 mul-at c = search needs

@@ -1,11 +1,11 @@
--- `marks::patch` meets its contract: whole rows are one span.
+-- `listed::patch` meets its contract: whole rows are one span.
 -- Assumes nothing.
 use native.Mathlib.Omega.{arith}
 use borrow.Author.Needs.{needs}
-use Rattle.marks.proofs.Listing.{patch-start, patch-rows}
+use Rattle.listed.proofs.Listing.{patch-start, patch-rows}
 use Rattle.marks.proofs.Joining.{joined-as}
-use Rattle.marks.proofs.patch.Statement.{statement}
-use Rattle.marks.proofs.patch.Tie as tie
+use Rattle.listed.proofs.patch.Statement.{statement}
+use Rattle.listed.proofs.patch.Tie as tie
 
 sub-if1 : tie.Need-sub-if1
 sub-if1 c = search needs

@@ -1,11 +1,12 @@
--- `marks::item` meets its contract: inside the window the cut numbers mark what the image positions mark.
+-- `listed::item` meets its contract: inside the window the cut numbers mark what the image positions mark.
 -- Assumes nothing.
 use native.Mathlib.Omega.{arith}
 use borrow.Author.Needs.{needs}
-use Rattle.marks.proofs.Listing.{area, Cutting, cutting, cut-none, cut-no-rows, cut-inside, cut-marks}
+use Rattle.marks.proofs.Sizes.{area}
+use Rattle.listed.proofs.Listing.{Cutting, cutting, cut-none, cut-no-rows, cut-inside, cut-marks}
 use Rattle.marks.proofs.Joining.{joined-as}
-use Rattle.marks.proofs.item.Statement.{statement}
-use Rattle.marks.proofs.item.Tie as tie
+use Rattle.listed.proofs.item.Statement.{statement}
+use Rattle.listed.proofs.item.Tie as tie
 
 less-requires : tie.Need-less-requires
 less-requires c κs = search needs

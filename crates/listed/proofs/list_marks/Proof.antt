@@ -1,11 +1,12 @@
--- `marks::list_marks` meets its contract: points, then rectangles, then what is held is packed: the chosen positions; or there are too many.
+-- `listed::list_marks` meets its contract: points, then rectangles, then what is held is packed: the chosen positions; or there are too many.
 -- Assumes nothing.
 use native.Mathlib.Omega.{arith}
 use borrow.Author.Needs.{needs}
 use Rattle.marks.proofs.Joining.{held-front}
-use Rattle.marks.proofs.Listing.{area, points-over, rects-over, list-done}
-use Rattle.marks.proofs.list_marks.Statement.{statement}
-use Rattle.marks.proofs.list_marks.Tie as tie
+use Rattle.marks.proofs.Sizes.{area}
+use Rattle.listed.proofs.Listing.{points-over, rects-over, list-done}
+use Rattle.listed.proofs.list_marks.Statement.{statement}
+use Rattle.listed.proofs.list_marks.Tie as tie
 
 all-points-requires : tie.Need-all-points-requires
 all-points-requires c κs = search needs

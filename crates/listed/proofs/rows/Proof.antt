@@ -1,14 +1,14 @@
--- `marks::rows` meets its contract: after each turn the rows up to y are held besides what was held at the start.
+-- `listed::rows` meets its contract: after each turn the rows up to y are held besides what was held at the start.
 -- Assumes nothing.
 use Prim.Native.Nat.{_-_, _≤_, max}
 use mathlib.Core.Path.{_∙_}
 use native.Mathlib.Omega.{arith}
 use borrow.Author.Needs.{needs}
-use Rattle.marks.specs.Scratch.{block}
+use Rattle.listed.specs.Listed.{block}
 use Rattle.marks.proofs.Joining.{Steps, steps-start, steps-next, steps-full, steps-end}
-use Rattle.marks.proofs.Listing.{block-none, block-more, block-low, block-row, block-whole, row-in}
-use Rattle.marks.proofs.rows.Statement.{statement}
-use Rattle.marks.proofs.rows.Tie as tie
+use Rattle.listed.proofs.Listing.{block-none, block-more, block-low, block-row, block-whole, row-in}
+use Rattle.listed.proofs.rows.Statement.{statement}
+use Rattle.listed.proofs.rows.Tie as tie
 
 abbrev Inv-loop : tie.InvT-loop
 Inv-loop s₀ n t width r0 c0 r1 c1 top k₀ u₀ y₀ s k u y = Steps top (λ j. block width r0 c0 j c1) s₀ t s k u y × (r0 ≤ y) × (y ≤ max r0 r1)

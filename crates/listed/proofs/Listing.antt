@@ -15,14 +15,16 @@ use lib.Seq.{length-take-le}
 use Rattle.dng.specs.declared.Window.{Window}
 use Rattle.dng.specs.List.{u32At}
 use Rattle.dng.specs.Repair.{countBelow, anyBelow, positions, pointAt, rectAt, listed}
 use Rattle.marks.specs.declared.Kept.{Kept}
 use Rattle.marks.specs.declared.Kept.the-variants as K
-use Rattle.marks.specs.Marks.{chosen, Holds, listedAt, Fits}
+use Rattle.marks.specs.Marks.{chosen, Holds, Fits}
 use Rattle.sorts.specs.Sorts.{occ, has, Rises}
-use Rattle.marks.specs.Scratch.{Front, Packed, Gains, Joined, span, block, Inside, inImage, atPoint, inRect}
+use Rattle.marks.specs.Scratch.{Front, Packed, Gains, Joined, span}
+use Rattle.listed.specs.Listed.{listedAt, block, Inside, inImage, atPoint, inRect}
 use Rattle.sorts.proofs.Occ.{equal-or}
 use Rattle.marks.proofs.Chosen.{both, count-le, count-same, chosen-count, is-chosen-has}
+use Rattle.marks.proofs.Sizes.{area}
 use Rattle.marks.proofs.Joining.{iff-eq, or-cases, or-left, or-right, and-both, and-of, span-of, span-is, held-front, gains-held, joined-next}
 
 -- ---- rows
 
@@ -124,9 +126,6 @@ cut-window w r0 c0 r1 c1 q h l =
     (rw (mul-comm (w .height) (w .width)) l) in
     let x : q % w .width < w .width = mod-lt q h in
     sym (ap₂ _&&_ (cut-span r0 r1 (w .y0) (w .height) (q / w .width) y) (cut-span c0 c1 (w .x0) (w .width) (q % w .width) x))
-
-pub area : (w : Window) → Fits w → w .width * w .height ≤ 4294967296
-area w f = mul-le-mul (f .width) (f .height)
 
 -- the numbers that the code has for the cut
 pub record Cutting (w : Window) (r0 c0 r1 c1 y0 x0 y1 x1 : ℕ) : Type 0 where
