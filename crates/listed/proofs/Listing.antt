@@ -2,7 +2,7 @@
 -- Assumes nothing.
 use Prim.Native.Nat.{ℕ, zero, suc, _+_, _-_, _*_, _/_, _%_, _≤_, _<_, min, max}
 use mathlib.Core.Path.{_≡_, refl, sym, ap, ap₂, subst, _∙_}
-use mathlib.Core.Bool.{Bool, true, false, _&&_, _||_, or-comm, and-assoc}
+use mathlib.Core.Bool.{Bool, true, false, _&&_, _||_, or-comm, and-comm, and-assoc}
 use mathlib.Core.List.{List}
 use native.Mathlib.Nat.{le-trans, div-add-mod', mod-lt, le-div-iff-mul-le, div-lt-iff-lt-mul, mul-comm, mul-le-mul, mul-le-mul-right, suc-mul}
 use native.Mathlib.Numerals.{add-one}
@@ -20,7 +20,7 @@ use Rattle.marks.specs.declared.Kept.the-variants as K
 use Rattle.marks.specs.Marks.{chosen, Holds, Fits}
 use Rattle.sorts.specs.Sorts.{occ, has, Rises}
 use Rattle.marks.specs.Scratch.{Front, Packed, Gains, Joined, span}
-use Rattle.listed.specs.Listed.{listedAt, block, Inside, inImage, atPoint, inRect}
+use Rattle.listed.specs.Listed.{block, Inside, rowAt, columnAt, inImage, atPoint, inRect, listedIn}
 use Rattle.sorts.proofs.Occ.{equal-or}
 use Rattle.marks.proofs.Chosen.{both, count-le, count-same, chosen-count, is-chosen-has}
 use Rattle.marks.proofs.Sizes.{area}
@@ -118,14 +118,24 @@ cut-span a b o n y h =
     iff-eq _ _ (λ e. let w = span-is a b (o + y) e in span-of (a - o) (min (b - o) n) y (omega (arith, w .0)) (omega (arith, w .1)))
     (λ e. let w = span-is (a - o) (min (b - o) n) y e in span-of a b (o + y) (omega (arith, w .0)) (omega (arith, w .1)))
 
-pub cut-window : (w : Window) (r0 c0 r1 c1 q : ℕ) → 1 ≤ w .width → q < positions w
-    → block (w .width) (r0 - w .y0) (c0 - w .x0) (min (r1 - w .y0) (w .height)) (min (c1 - w .x0) (w .width)) q ≡ inImage w r0 c0 r1 c1 q
+pub cut-rows : (w : Window) (r0 c0 r1 c1 q : ℕ) → 1 ≤ w .width → q < positions w
+    → block (w .width) (r0 - w .y0) (c0 - w .x0) (min (r1 - w .y0) (w .height)) (min (c1 - w .x0) (w .width)) q ≡ inImage false w r0 c0 r1 c1 q
 unfolding block inImage
-cut-window w r0 c0 r1 c1 q h l =
+cut-rows w r0 c0 r1 c1 q h l =
     let y : q / w .width < w .height = div-lt-iff-lt-mul {k = w .width} {x = q} {y = w .height} h .1
     (rw (mul-comm (w .height) (w .width)) l) in
     let x : q % w .width < w .width = mod-lt q h in
     sym (ap₂ _&&_ (cut-span r0 r1 (w .y0) (w .height) (q / w .width) y) (cut-span c0 c1 (w .x0) (w .width) (q % w .width) x))
+
+-- by columns, a column is what a row is
+pub cut-columns : (w : Window) (r0 c0 r1 c1 q : ℕ) → 1 ≤ w .height → q < positions w
+    → block (w .height) (c0 - w .x0) (r0 - w .y0) (min (c1 - w .x0) (w .width)) (min (r1 - w .y0) (w .height)) q ≡ inImage true w r0 c0 r1 c1 q
+unfolding block inImage
+cut-columns w r0 c0 r1 c1 q h l =
+    let x : q / w .height < w .width = div-lt-iff-lt-mul {k = w .height} {x = q} {y = w .width} h .1 l in
+    let y : q % w .height < w .height = mod-lt q h in
+    and-comm (span (c0 - w .x0) (min (c1 - w .x0) (w .width)) (q / w .height)) (span (r0 - w .y0) (min (r1 - w .y0) (w .height)) (q % w .height))
+    ∙ sym (ap₂ _&&_ (cut-span r0 r1 (w .y0) (w .height) (q % w .height) y) (cut-span c0 c1 (w .x0) (w .width) (q / w .height) x))
 
 -- the numbers that the code has for the cut
 pub record Cutting (w : Window) (r0 c0 r1 c1 y0 x0 y1 x1 : ℕ) : Type 0 where
@@ -141,21 +151,25 @@ cutting w r0 c0 r1 c1 y0 x0 y1 x1 dy dx a b c d e f =
     record { top = a; left = d; bottom = c ∙ ap (λ (n : ℕ). min n (w .height)) b; right = f ∙ ap (λ (n : ℕ). min n (w .width)) e }
 
 module _ (w : Window) (r0 c0 r1 c1 y0 x0 y1 x1 : ℕ) (f : Fits w) (v : Cutting w r0 c0 r1 c1 y0 x0 y1 x1) where
-  pub cut-marks : (q : ℕ) → q < positions w → block (w .width) y0 x0 y1 x1 q ≡ inImage w r0 c0 r1 c1 q
-  cut-marks q l = rw (v .top, v .left, v .bottom, v .right) (cut-window w r0 c0 r1 c1 q (f .wide) l)
+  pub row-marks : (q : ℕ) → q < positions w → block (w .width) y0 x0 y1 x1 q ≡ inImage false w r0 c0 r1 c1 q
+  row-marks q l = rw (v .top, v .left, v .bottom, v .right) (cut-rows w r0 c0 r1 c1 q (f .wide) l)
 
-  pub cut-none : x1 ≤ x0 → (s : List ℕ) (n t : ℕ) → Front (positions w) s n t → Gains (positions w) (inImage w r0 c0 r1 c1) s t s n t
-  cut-none h s n t g =
-      gains-held (positions w) (inImage w r0 c0 r1 c1) s n t g
-      (λ q l e. let b = block-is (w .width) y0 x0 y1 x1 q (cut-marks q l ∙ e) in absurd (omega (arith, b .2, b .3)))
+  pub column-marks : (q : ℕ) → q < positions w → block (w .height) x0 y0 x1 y1 q ≡ inImage true w r0 c0 r1 c1 q
+  column-marks q l = rw (v .top, v .left, v .bottom, v .right) (cut-columns w r0 c0 r1 c1 q (f .tall) l)
 
-  pub cut-no-rows : y1 ≤ y0 → (s : List ℕ) (n t : ℕ) → Front (positions w) s n t → Gains (positions w) (inImage w r0 c0 r1 c1) s t s n t
-  cut-no-rows h s n t g =
-      gains-held (positions w) (inImage w r0 c0 r1 c1) s n t g
-      (λ q l e. let b = block-is (w .width) y0 x0 y1 x1 q (cut-marks q l ∙ e) in absurd (omega (arith, b .0, b .1)))
+  -- a marked position lies in rows and columns that are left
+  left-over : (across : Bool) (q : ℕ) → q < positions w → inImage across w r0 c0 r1 c1 q ≡ true → (y0 < y1) × (x0 < x1)
+  left-over true q l e = let b = block-is (w .height) x0 y0 x1 y1 q (column-marks q l ∙ e) in (omega (arith, b .2, b .3), omega (arith, b .0, b .1))
+  left-over false q l e = let b = block-is (w .width) y0 x0 y1 x1 q (row-marks q l ∙ e) in (omega (arith, b .0, b .1), omega (arith, b .2, b .3))
 
-  pub cut-inside : x0 < x1 → Inside (w .width) x0 y1 x1 (w .width * w .height)
-  cut-inside h =
+  pub cut-none : (across : Bool) → (y0 < y1 → x0 < x1 → ⊥) → (s : List ℕ) (n t : ℕ) → Front (positions w) s n t
+      → Gains (positions w) (inImage across w r0 c0 r1 c1) s t s n t
+  cut-none across h s n t g =
+      gains-held (positions w) (inImage across w r0 c0 r1 c1) s n t g
+      (λ q l e. let b = left-over across q l e in absurd (h (b .0) (b .1)))
+
+  pub rows-inside : x0 < x1 → Inside (w .width) x0 y1 x1 (w .width * w .height)
+  rows-inside h =
       record {
         wide = f .wide;
         order = omega arith;
@@ -164,6 +178,22 @@ module _ (w : Window) (r0 c0 r1 c1 y0 x0 y1 x1 : ℕ) (f : Fits w) (v : Cutting 
         small = area w f;
       }
 
+  pub columns-inside : y0 < y1 → Inside (w .height) y0 x1 y1 (w .width * w .height)
+  columns-inside h =
+      record {
+        wide = f .tall;
+        order = omega arith;
+        columns = omega (arith, v .bottom);
+        rows = mul-le-mul-right (w .height) (omega (arith, v .right));
+        small = area w f;
+      }
+
+-- which way positions are counted, as a test told
+pub lies-so : (across b : Bool) (w : Window) (r0 c0 r1 c1 : ℕ) (s : List ℕ) (t : ℕ) (s′ : List ℕ) (r : Kept) → across ≡ b
+    → Joined (positions w) (inImage b w r0 c0 r1 c1) s t s′ r → Joined (positions w) (inImage across w r0 c0 r1 c1) s t s′ r
+lies-so across b w r0 c0 r1 c1 s t s′ r e j =
+    subst (λ (x : Bool). Joined (positions w) (inImage x w r0 c0 r1 c1) s t s′ r) (sym e) j
+
 -- ---- points and rectangles
 
 one-span : (a y : ℕ) → span a (a + 1) y ≡ eqb a y
@@ -171,21 +201,22 @@ one-span a y =
     iff-eq _ _ (λ e. let w = span-is a (a + 1) y e in eq-eqb a y (omega (arith, w .0, w .1)))
     (λ e. let z = eqb-true a y e in span-of a (a + 1) y (omega arith) (omega arith))
 
-pub point-marks : (w : Window) (b : List ℕ) (i r c : ℕ) → r ≡ u32At b (12 + 8 * i) → c ≡ u32At b (16 + 8 * i) → (q : ℕ)
-    → inImage w r c (r + 1) (c + 1) q ≡ atPoint w b i q
+pub point-marks : (across : Bool) (w : Window) (b : List ℕ) (i r c : ℕ) → r ≡ u32At b (12 + 8 * i) → c ≡ u32At b (16 + 8 * i) → (q : ℕ)
+    → inImage across w r c (r + 1) (c + 1) q ≡ atPoint across w b i q
 unfolding inImage pointAt
-point-marks w b i r c e d q =
-    ap₂ _&&_ (one-span r (w .y0 + q / w .width) ∙ ap (λ (v : ℕ). eqb v (w .y0 + q / w .width)) e)
-    (one-span c (w .x0 + q % w .width) ∙ ap (λ (v : ℕ). eqb v (w .x0 + q % w .width)) d)
+point-marks across w b i r c e d q =
+    let y : ℕ = w .y0 + rowAt across w q in
+    let x : ℕ = w .x0 + columnAt across w q in
+    ap₂ _&&_ (one-span r y ∙ ap (λ (v : ℕ). eqb v y) e) (one-span c x ∙ ap (λ (v : ℕ). eqb v x) d)
 
-pub rect-marks : (w : Window) (b : List ℕ) (np i r0 c0 r1 c1 : ℕ) → r0 ≡ u32At b (12 + 8 * np + 16 * i)
+pub rect-marks : (across : Bool) (w : Window) (b : List ℕ) (np i r0 c0 r1 c1 : ℕ) → r0 ≡ u32At b (12 + 8 * np + 16 * i)
     → c0 ≡ u32At b (12 + 8 * np + 16 * i + 4)
     → r1 ≡ u32At b (12 + 8 * np + 16 * i + 8) → c1 ≡ u32At b (12 + 8 * np + 16 * i + 12) → (q : ℕ)
-    → inImage w r0 c0 r1 c1 q ≡ inRect w b np i q
+    → inImage across w r0 c0 r1 c1 q ≡ inRect across w b np i q
 unfolding inImage rectAt span
-rect-marks w b np i r0 c0 r1 c1 e₀ d₀ e₁ d₁ q =
-    let y : ℕ = w .y0 + q / w .width in
-    let x : ℕ = w .x0 + q % w .width in
+rect-marks across w b np i r0 c0 r1 c1 e₀ d₀ e₁ d₁ q =
+    let y : ℕ = w .y0 + rowAt across w q in
+    let x : ℕ = w .x0 + columnAt across w q in
     and-assoc (leb r0 y) (ltb y r1) (leb c0 x && ltb x c1) ∙ rw (e₀, d₀, e₁, d₁) refl
 
 -- ---- one more of them
@@ -241,41 +272,41 @@ listed-all top m s s₁ n t s₂ k g v e d =
         (λ q l. v .same q ∙ g .same q l ∙ ap (λ (b : Bool). b || m q) (no-has s q))
 
 -- points first, rectangles behind them
-pub listed-both : (w : Window) (b : List ℕ) (np nr : ℕ) (q : ℕ)
-    → listedAt w b np nr q ≡ (anyBelow np (λ i. atPoint w b i q) || anyBelow nr (λ i. inRect w b np i q))
+pub listed-both : (across : Bool) (w : Window) (b : List ℕ) (np nr : ℕ) (q : ℕ)
+    → listedIn across w b np nr q ≡ (anyBelow np (λ i. atPoint across w b i q) || anyBelow nr (λ i. inRect across w b np i q))
 unfolding listed
-listed-both w b np nr q = refl
+listed-both across w b np nr q = refl
 
-module _ (w : Window) (b : List ℕ) (np nr : ℕ) (s s₁ : List ℕ) (r : Kept)
-    (j : Joined (positions w) (λ q. anyBelow np (λ i. atPoint w b i q)) s 0 s₁ r) where
+module _ (across : Bool) (w : Window) (b : List ℕ) (np nr : ℕ) (s s₁ : List ℕ) (r : Kept)
+    (j : Joined (positions w) (λ q. anyBelow np (λ i. atPoint across w b i q)) s 0 s₁ r) where
   -- the points alone are too many
-  pub points-over : r ≡ K.Full → length s < countBelow (positions w) (listedAt w b np nr)
+  pub points-over : r ≡ K.Full → length s < countBelow (positions w) (listedIn across w b np nr)
   points-over e =
-      let h : length s < countBelow (positions w) (λ q. anyBelow np (λ i. atPoint w b i q)) =
-      listed-over (positions w) (λ q. anyBelow np (λ i. atPoint w b i q)) s
-      (subst (λ (x : Kept). Joined (positions w) (λ q. anyBelow np (λ i. atPoint w b i q)) s 0 s₁ x) e j) in
-      let k : countBelow (positions w) (λ q. anyBelow np (λ i. atPoint w b i q)) ≤ countBelow (positions w) (listedAt w b np nr) =
-      count-le (positions w) (λ q. anyBelow np (λ i. atPoint w b i q)) (listedAt w b np nr)
-      (λ q l d. listed-both w b np nr q ∙ or-left _ (anyBelow nr (λ i. inRect w b np i q)) d) in
+      let h : length s < countBelow (positions w) (λ q. anyBelow np (λ i. atPoint across w b i q)) =
+      listed-over (positions w) (λ q. anyBelow np (λ i. atPoint across w b i q)) s
+      (subst (λ (x : Kept). Joined (positions w) (λ q. anyBelow np (λ i. atPoint across w b i q)) s 0 s₁ x) e j) in
+      let k : countBelow (positions w) (λ q. anyBelow np (λ i. atPoint across w b i q)) ≤ countBelow (positions w) (listedIn across w b np nr) =
+      count-le (positions w) (λ q. anyBelow np (λ i. atPoint across w b i q)) (listedIn across w b np nr)
+      (λ q l d. listed-both across w b np nr q ∙ or-left _ (anyBelow nr (λ i. inRect across w b np i q)) d) in
       omega arith
 
   module _ (n t : ℕ) (e : r ≡ K.Held n t) (long : length s₁ ≡ length s) (s₂ : List ℕ) (r₂ : Kept)
-      (j₂ : Joined (positions w) (λ q. anyBelow nr (λ i. inRect w b np i q)) s₁ t s₂ r₂) where
-    both-joined : Joined (positions w) (listedAt w b np nr) s 0 s₂ r₂
+      (j₂ : Joined (positions w) (λ q. anyBelow nr (λ i. inRect across w b np i q)) s₁ t s₂ r₂) where
+    both-joined : Joined (positions w) (listedIn across w b np nr) s 0 s₂ r₂
     both-joined =
-        joined-next (positions w) (λ q. anyBelow np (λ i. atPoint w b i q)) (λ q. anyBelow nr (λ i. inRect w b np i q))
-        (listedAt w b np nr) s 0 s₁ n t s₂ r₂
-        (held-front (positions w) (λ q. anyBelow np (λ i. atPoint w b i q)) s 0 s₁ r n t e j) long (λ q l. listed-both w b np nr q) j₂
+        joined-next (positions w) (λ q. anyBelow np (λ i. atPoint across w b i q)) (λ q. anyBelow nr (λ i. inRect across w b np i q))
+        (listedIn across w b np nr) s 0 s₁ n t s₂ r₂
+        (held-front (positions w) (λ q. anyBelow np (λ i. atPoint across w b i q)) s 0 s₁ r n t e j) long (λ q l. listed-both across w b np nr q) j₂
 
     -- with the rectangles they are too many
-    pub rects-over : r₂ ≡ K.Full → length s < countBelow (positions w) (listedAt w b np nr)
+    pub rects-over : r₂ ≡ K.Full → length s < countBelow (positions w) (listedIn across w b np nr)
     rects-over e₂ =
-        listed-over (positions w) (listedAt w b np nr) s (subst
-        (λ (x : Kept). Joined (positions w) (listedAt w b np nr) s 0 s₂ x) e₂ both-joined)
+        listed-over (positions w) (listedIn across w b np nr) s (subst
+        (λ (x : Kept). Joined (positions w) (listedIn across w b np nr) s 0 s₂ x) e₂ both-joined)
 
     pub list-done : (k u : ℕ) → r₂ ≡ K.Held k u → length s₂ ≡ length s₁ → (s₃ : List ℕ) (m : ℕ) → Packed (positions w) s₂ u s₃ m
         → length s₃ ≡ length s₂
-        → Holds (positions w) (listedAt w b np nr) s s₃ m
+        → Holds (positions w) (listedIn across w b np nr) s s₃ m
     list-done k u e₂ d s₃ m v l =
-        listed-all (positions w) (listedAt w b np nr) s s₂ k u s₃ m
-        (held-front (positions w) (listedAt w b np nr) s 0 s₂ r₂ k u e₂ both-joined) v (d ∙ long) l
+        listed-all (positions w) (listedIn across w b np nr) s s₂ k u s₃ m
+        (held-front (positions w) (listedIn across w b np nr) s 0 s₂ r₂ k u e₂ both-joined) v (d ∙ long) l

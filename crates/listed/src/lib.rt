@@ -7,7 +7,7 @@ ghost use Prim.Native.Nat.{ℕ, _≤_, _<_, _-_, _^_};
 ghost use Rattle.dng.specs.Repair.{anyBelow, positions};
 ghost use Rattle.marks.specs.Marks.{Gathered, Fits};
 ghost use Rattle.marks.specs.Scratch.{Front, Joined};
-ghost use Rattle.listed.specs.Listed.{listedAt, block, Inside, inImage, atPoint, inRect};
+ghost use Rattle.listed.specs.Listed.{block, Inside, inImage, atPoint, inRect, listedIn};
 
 // Columns c0 up to c1 of rows r0 up to r1, row by row.
 fn rows(
@@ -73,7 +73,7 @@ fn less(a: usize, b: usize) -> usize
     if b < a { a - b } else { 0 }
 }
 
-// Columns c0 up to c1 of rows r0 up to r1 of the image, cut to the window first.
+// Columns c0 up to c1 of rows r0 up to r1 of the image, cut to the window first. `across` counts positions by columns.
 fn item(
     s: &mut [u32],
     n: usize,
@@ -83,10 +83,11 @@ fn item(
     c0: usize,
     r1: usize,
     c1: usize,
+    across: bool,
 ) -> Kept
     requires { ⌜ Front (positions w) (now s) n t ⌝ }
     requires { ⌜ Fits w ⌝ }
-    ensures { λ r. ⌜ Joined (positions w) (inImage w r0 c0 r1 c1) (now (s .entry)) t (now (s .exit)) r ⌝ }
+    ensures { λ r. ⌜ Joined (positions w) (inImage across w r0 c0 r1 c1) (now (s .entry)) t (now (s .exit)) r ⌝ }
 {
     let y0 = less(r0, w.y0);
     let y1 = marks::lesser(less(r1, w.y0), w.height);
@@ -98,46 +99,68 @@ fn item(
     if y1 <= y0 {
         return Kept::Held { n, t };
     }
-    patch(s, n, t, w.width, y0, x0, y1, x1, w.width * w.height)
+    let top = w.width * w.height;
+    if across {
+        patch(s, n, t, w.height, x0, y0, x1, y1, top)
+    } else {
+        patch(s, n, t, w.width, y0, x0, y1, x1, top)
+    }
 }
 
 // Point i: the rectangle of one position.
-fn point(body: &[u8], i: usize, w: Window, s: &mut [u32], n: usize, t: usize) -> Kept
+fn point(
+    body: &[u8],
+    i: usize,
+    w: Window,
+    s: &mut [u32],
+    n: usize,
+    t: usize,
+    across: bool,
+) -> Kept
     requires { ⌜ Front (positions w) (now s) n t ⌝ }
     requires { ⌜ Fits w ⌝ }
     requires { ⌜ i < 2 ^ 32 ⌝ }
-    ensures { λ r. ⌜ Joined (positions w) (atPoint w (now (body .entry)) i) (now (s .entry)) t (now (s .exit)) r ⌝ }
+    ensures { λ r. ⌜ Joined (positions w) (atPoint across w (now (body .entry)) i) (now (s .entry)) t (now (s .exit)) r ⌝ }
 {
     let row = words::u32_at(body, 12 + 8 * i) as usize;
     let column = words::u32_at(body, 16 + 8 * i) as usize;
-    item(s, n, t, w, row, column, row + 1, column + 1)
+    item(s, n, t, w, row, column, row + 1, column + 1, across)
 }
 
 // Rectangle i.
-fn rect(body: &[u8], points: usize, i: usize, w: Window, s: &mut [u32], n: usize, t: usize) -> Kept
+fn rect(
+    body: &[u8],
+    points: usize,
+    i: usize,
+    w: Window,
+    s: &mut [u32],
+    n: usize,
+    t: usize,
+    across: bool,
+) -> Kept
     requires { ⌜ Front (positions w) (now s) n t ⌝ }
     requires { ⌜ Fits w ⌝ }
     requires { ⌜ (points < 2 ^ 32) × (i < 2 ^ 32) ⌝ }
-    ensures { λ r. ⌜ Joined (positions w) (inRect w (now (body .entry)) points i) (now (s .entry)) t (now (s .exit)) r ⌝ }
+    ensures { λ r. ⌜ Joined (positions w) (inRect across w (now (body .entry)) points i) (now (s .entry)) t (now (s .exit)) r ⌝ }
 {
     let at = 12 + 8 * points + 16 * i;
     let top = words::u32_at(body, at) as usize;
     let left = words::u32_at(body, at + 4) as usize;
     let bottom = words::u32_at(body, at + 8) as usize;
     let right = words::u32_at(body, at + 12) as usize;
-    item(s, n, t, w, top, left, bottom, right)
+    item(s, n, t, w, top, left, bottom, right, across)
 }
 
-fn all_points(body: &[u8], points: usize, w: Window, s: &mut [u32]) -> Kept
+fn all_points(body: &[u8], points: usize, w: Window, s: &mut [u32], across: bool) -> Kept
     requires { ⌜ Fits w ⌝ }
     requires { ⌜ points < 2 ^ 32 ⌝ }
-    ensures { λ r. ⌜ Joined (positions w) (λ q. anyBelow points (λ i. atPoint w (now (body .entry)) i q)) (now (s .entry)) 0 (now (s .exit)) r ⌝ }
+    ensures { λ r. ⌜ Joined (positions w) (λ q. anyBelow points (λ i. atPoint across w (now (body .entry)) i q)) (now (s .entry)) 0 (now (s .exit)) r ⌝ }
 {
     let mut k = 0;
     let mut u = 0;
     let mut i = 0;
     while i < points {
-        match point(body, i, w, s, k, u) {
+        match point(body, i, w, s, k, u, across) {
             Kept::Held { n: k1, t: u1 } => {
                 k = k1;
                 u = u1;
@@ -159,17 +182,18 @@ fn all_rects(
     s: &mut [u32],
     n: usize,
     t: usize,
+    across: bool,
 ) -> Kept
     requires { ⌜ Front (positions w) (now s) n t ⌝ }
     requires { ⌜ Fits w ⌝ }
     requires { ⌜ (points < 2 ^ 32) × (rects < 2 ^ 32) ⌝ }
-    ensures { λ r. ⌜ Joined (positions w) (λ q. anyBelow rects (λ i. inRect w (now (body .entry)) points i q)) (now (s .entry)) t (now (s .exit)) r ⌝ }
+    ensures { λ r. ⌜ Joined (positions w) (λ q. anyBelow rects (λ i. inRect across w (now (body .entry)) points i q)) (now (s .entry)) t (now (s .exit)) r ⌝ }
 {
     let mut k = n;
     let mut u = t;
     let mut i = 0;
     while i < rects {
-        match rect(body, points, i, w, s, k, u) {
+        match rect(body, points, i, w, s, k, u, across) {
             Kept::Held { n: k1, t: u1 } => {
                 k = k1;
                 u = u1;
@@ -183,23 +207,26 @@ fn all_rects(
     Kept::Held { n: k, t: u }
 }
 
-// The listed positions inside the window, each once, ascending at the front of `marks`; or that there are more than it has entries.
-//
-// Cost. A run, which is a point, a row of a rectangle or a rectangle of whole rows, takes a binary search, and one more for each stretch of it that
-// the front holds. Each of its other positions takes a few steps, and at most five shares of a sort, with a step for each bit of a position, 32 at
-// most: of what is sorted at least a quarter has been appended since the last time, or a half where room is scarce; and once all that is held is
-// sorted besides, at the end or when one entry is left. Where the front holds three quarters of the scratch, what it lacks is joined to it in a few
-// steps for each entry. That takes more than a quarter of the room, so it happens at most log len / log 4/3 times. So about L·log of the window's
-// size for L positions named, in whatever order, and what is named again once the front holds it takes no more than a search for its stretch.
-pub fn list_marks(body: &[u8], points: u32, rects: u32, w: Window, marks: &mut [u32]) -> Marked
+// The listed positions inside the window, each once, ascending at the front of `marks`, as `across` counts them; or that there are more than it
+// has entries.
+pub fn gather(
+    body: &[u8],
+    points: u32,
+    rects: u32,
+    w: Window,
+    marks: &mut [u32],
+    across: bool,
+) -> Marked
     requires { ⌜ Fits w ⌝ }
-    ensures { λ r. ⌜ Gathered (positions w) (listedAt w (now (body .entry)) points rects) (now (marks .entry)) (now (marks .exit)) r ⌝ }
+    ensures { λ r. ⌜
+        Gathered (positions w) (listedIn across w (now (body .entry)) points rects) (now (marks .entry)) (now (marks .exit)) r
+        ⌝ }
 {
     let np = points as usize;
-    let Kept::Held { n, t } = all_points(body, np, w, marks) else {
+    let Kept::Held { n, t } = all_points(body, np, w, marks, across) else {
         return Marked::TooMany;
     };
-    let Kept::Held { n: k, t: u } = all_rects(body, np, rects as usize, w, marks, n, t) else {
+    let Kept::Held { n: k, t: u } = all_rects(body, np, rects as usize, w, marks, n, t, across) else {
         return Marked::TooMany;
     };
     Marked::All {

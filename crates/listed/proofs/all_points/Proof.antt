@@ -12,10 +12,10 @@ use Rattle.listed.proofs.all_points.Statement.{statement}
 use Rattle.listed.proofs.all_points.Tie as tie
 
 abbrev Inv-loop : tie.InvT-loop
-Inv-loop body points w s₀ k₀ u₀ i₀ s k u i = Steps (positions w) (λ j q. anyBelow j (λ i. atPoint w body i q)) s₀ 0 s k u i × (i ≤ points)
+Inv-loop body points w s₀ across k₀ u₀ i₀ s k u i = Steps (positions w) (λ j q. anyBelow j (λ i. atPoint across w body i q)) s₀ 0 s k u i × (i ≤ points)
 
 abbrev μ-loop : tie.MeasureT-loop
-μ-loop body points w s₀ k₀ u₀ i₀ s k u i = points - i
+μ-loop body points w s₀ across k₀ u₀ i₀ s k u i = points - i
 
 loop-holds : tie.Need-loop-holds Inv-loop μ-loop
 loop-holds c = (steps-start _ _ _ _ _ _ (front-none _ _) (λ q. any-none _), omega arith)
@@ -40,7 +40,7 @@ loop-again c =
     let in-loop = c .before .before .before .before .before .before .before .before .loop in
     let at = c .before .before .before .before .before .before .before .before .before .before .before in (
       steps-next _ _ _ _ _ _ _ _ (in-loop .inv .0) _ _ (one .result) _ _ (c .before .k1 .given .1) (one .ensures) (one .kept .1 .1 .1 .0)
-          (λ q l. any-more (in-loop .i) (λ i. atPoint (at .args .w) (at .args .body .now) i q)),
+          (λ q l. any-more (in-loop .i) (λ i. atPoint (at .args .across) (at .args .w) (at .args .body .now) i q)),
       omega (arith, c .before .before .before .before .before .before .before .loop-test .taken),
     )
 
@@ -57,8 +57,8 @@ returns c =
     let less = c .before .before .before .before .before .before .loop-test .taken in
     let at = c .before .before .before .before .before .before .before .before .before .before in
     steps-full _ _ _ _ _ _ _ _ (in-loop .inv .0) _ _ _ (one .result) (c .enum-told .given .1) (one .ensures)
-    (λ q l. any-low (in-loop .i) (at .args .points) (λ i. atPoint (at .args .w) (at .args .body .now) i q) (in-loop .inv .1))
-    (λ q l. any-at (in-loop .i) (at .args .points) (λ i. atPoint (at .args .w) (at .args .body .now) i q) less)
+    (λ q l. any-low (in-loop .i) (at .args .points) (λ i. atPoint (at .args .across) (at .args .w) (at .args .body .now) i q) (in-loop .inv .1))
+    (λ q l. any-at (in-loop .i) (at .args .points) (λ i. atPoint (at .args .across) (at .args .w) (at .args .body .now) i q) less)
 
 same-length-2 : tie.Need-same-length-2 Inv-loop μ-loop
 same-length-2 c = c .before .loop .inv .0 .long
@@ -69,7 +69,7 @@ returns-2 c =
     let at = c .before .before .before .before in
     let done : in-loop .i ≡ at .args .points = omega (arith, in-loop .inv .1, c .loop-test .left) in
     steps-end _ _ _ _ _ _ _ _ _ (in-loop .inv .0) (λ q l. ap
-    (λ (n : ℕ). anyBelow n (λ i. atPoint (at .args .w) (at .args .body .now) i q)) done)
+    (λ (n : ℕ). anyBelow n (λ i. atPoint (at .args .across) (at .args .w) (at .args .body .now) i q)) done)
 
 pub all-points-spec : {M : Type 1} → statement M
 all-points-spec =

@@ -12,11 +12,11 @@ use Rattle.listed.proofs.all_rects.Statement.{statement}
 use Rattle.listed.proofs.all_rects.Tie as tie
 
 abbrev Inv-loop : tie.InvT-loop
-Inv-loop body points rects w s₀ n t k₀ u₀ i₀ s k u i = Steps (positions w)
-    (λ j q. anyBelow j (λ i. inRect w body points i q)) s₀ t s k u i × (i ≤ rects)
+Inv-loop body points rects w s₀ n t across k₀ u₀ i₀ s k u i = Steps (positions w)
+    (λ j q. anyBelow j (λ i. inRect across w body points i q)) s₀ t s k u i × (i ≤ rects)
 
 abbrev μ-loop : tie.MeasureT-loop
-μ-loop body points rects w s₀ n t k₀ u₀ i₀ s k u i = rects - i
+μ-loop body points rects w s₀ n t across k₀ u₀ i₀ s k u i = rects - i
 
 loop-holds : tie.Need-loop-holds Inv-loop μ-loop
 loop-holds c = (steps-start _ _ _ _ _ _ (c .before .before .pre .0) (λ q. any-none _), omega arith)
@@ -41,7 +41,7 @@ loop-again c =
     let in-loop = c .before .before .before .before .before .before .before .before .loop in
     let at = c .before .before .before .before .before .before .before .before .before .before .before in (
       steps-next _ _ _ _ _ _ _ _ (in-loop .inv .0) _ _ (one .result) _ _ (c .before .k1 .given .1) (one .ensures) (one .kept .1 .1 .1 .1 .0)
-          (λ q l. any-more (in-loop .i) (λ i. inRect (at .args .w) (at .args .body .now) (at .args .points) i q)),
+          (λ q l. any-more (in-loop .i) (λ i. inRect (at .args .across) (at .args .w) (at .args .body .now) (at .args .points) i q)),
       omega (arith, c .before .before .before .before .before .before .before .loop-test .taken),
     )
 
@@ -58,9 +58,9 @@ returns c =
     let less = c .before .before .before .before .before .before .loop-test .taken in
     let at = c .before .before .before .before .before .before .before .before .before .before in
     steps-full _ _ _ _ _ _ _ _ (in-loop .inv .0) _ _ _ (one .result) (c .enum-told .given .1) (one .ensures)
-    (λ q l. any-low (in-loop .i) (at .args .rects) (λ i. inRect (at .args .w) (at .args .body .now) (at .args .points) i q)
+    (λ q l. any-low (in-loop .i) (at .args .rects) (λ i. inRect (at .args .across) (at .args .w) (at .args .body .now) (at .args .points) i q)
     (in-loop .inv .1)) (λ q l. any-at (in-loop .i) (at .args .rects)
-    (λ i. inRect (at .args .w) (at .args .body .now) (at .args .points) i q) less)
+    (λ i. inRect (at .args .across) (at .args .w) (at .args .body .now) (at .args .points) i q) less)
 
 same-length-2 : tie.Need-same-length-2 Inv-loop μ-loop
 same-length-2 c = c .before .loop .inv .0 .long
@@ -71,7 +71,7 @@ returns-2 c =
     let at = c .before .before .before .before in
     let done : in-loop .i ≡ at .args .rects = omega (arith, in-loop .inv .1, c .loop-test .left) in
     steps-end _ _ _ _ _ _ _ _ _ (in-loop .inv .0) (λ q l. ap
-    (λ (n : ℕ). anyBelow n (λ i. inRect (at .args .w) (at .args .body .now) (at .args .points) i q)) done)
+    (λ (n : ℕ). anyBelow n (λ i. inRect (at .args .across) (at .args .w) (at .args .body .now) (at .args .points) i q)) done)
 
 pub all-rects-spec : {M : Type 1} → statement M
 all-rects-spec =

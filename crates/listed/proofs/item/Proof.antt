@@ -1,9 +1,9 @@
--- `listed::item` meets its contract: inside the window the cut numbers mark what the image positions mark.
+-- `listed::item` meets its contract: inside the window the cut numbers mark what the image positions mark, by rows and by columns.
 -- Assumes nothing.
 use native.Mathlib.Omega.{arith}
 use borrow.Author.Needs.{needs}
 use Rattle.marks.proofs.Sizes.{area}
-use Rattle.listed.proofs.Listing.{Cutting, cutting, cut-none, cut-no-rows, cut-inside, cut-marks}
+use Rattle.listed.proofs.Listing.{Cutting, cutting, cut-none, rows-inside, columns-inside, row-marks, column-marks, lies-so}
 use Rattle.marks.proofs.Joining.{joined-as}
 use Rattle.listed.proofs.item.Statement.{statement}
 use Rattle.listed.proofs.item.Tie as tie
@@ -26,58 +26,49 @@ less-requires-4 c κs = search needs
 lesser-requires-2 : tie.Need-lesser-requires-2
 lesser-requires-2 c κs = search needs
 
+-- the numbers of the cut
+abbrev start : tie.After-lesser2 → tie.Start
+start c = c .before .before .before .before .before .before .before
+
+cut : (c : tie.After-lesser2) → let a = start c .args in
+    Cutting (a .w) (a .r0) (a .c0) (a .r1) (a .c1) (c .before .before .before .before .before .less .result) (c .before .before .less3 .result)
+    (c .before .before .before .lesser .result) (c .lesser2 .result)
+cut c =
+    cutting _ _ _ _ _ _ _ _ _ _ _ (c .before .before .before .before .before .less .ensures) (c .before .before .before .before .less2 .ensures)
+    (c .before .before .before .lesser .ensures) (c .before .before .less3 .ensures) (c .before .less4 .ensures) (c .lesser2 .ensures)
+
 returns : tie.Need-returns
 returns c =
-    let y0 = c .before .before .before .before .before .before .less in
-    let dy = c .before .before .before .before .before .less2 in
-    let y1 = c .before .before .before .before .lesser in
-    let x0 = c .before .before .before .less3 in
-    let dx = c .before .before .less4 in
-    let x1 = c .before .lesser2 in
-    let at = c .before .before .before .before .before .before .before .before in
-    let v : Cutting (at .args .w) (at .args .r0) (at .args .c0) (at .args .r1) (at .args .c1) (y0 .result) (x0 .result) (y1 .result)
-    (x1 .result) =
-    cutting _ _ _ _ _ _ _ _ _ _ _ (y0 .ensures) (dy .ensures) (y1 .ensures) (x0 .ensures) (dx .ensures) (x1 .ensures) in
-    cut-none _ _ _ _ _ _ _ _ _ (at .pre .1) v (c .if1 .taken) _ _ _ (at .pre .0)
+    let at = start (c .before) in
+    cut-none _ _ _ _ _ _ _ _ _ (at .pre .1) (cut (c .before)) (at .args .across) (λ y x. omega (arith, c .if1 .taken)) _ _ _ (at .pre .0)
 
 returns-2 : tie.Need-returns-2
 returns-2 c =
-    let y0 = c .before .before .before .before .before .before .before .less in
-    let dy = c .before .before .before .before .before .before .less2 in
-    let y1 = c .before .before .before .before .before .lesser in
-    let x0 = c .before .before .before .before .less3 in
-    let dx = c .before .before .before .less4 in
-    let x1 = c .before .before .lesser2 in
-    let at = c .before .before .before .before .before .before .before .before .before in
-    let v : Cutting (at .args .w) (at .args .r0) (at .args .c0) (at .args .r1) (at .args .c1) (y0 .result) (x0 .result) (y1 .result)
-    (x1 .result) =
-    cutting _ _ _ _ _ _ _ _ _ _ _ (y0 .ensures) (dy .ensures) (y1 .ensures) (x0 .ensures) (dx .ensures) (x1 .ensures) in
-    cut-no-rows _ _ _ _ _ _ _ _ _ (at .pre .1) v (c .if2 .taken) _ _ _ (at .pre .0)
+    let at = start (c .before .before) in
+    cut-none _ _ _ _ _ _ _ _ _ (at .pre .1) (cut (c .before .before)) (at .args .across) (λ y x. omega (arith, c .if2 .taken)) _ _ _ (at .pre .0)
 
-mul-patch : tie.Need-mul-patch
-mul-patch c = omega (
-  arith,
-  area (c .before .before .before .before .before .before .before .before .before .before .before .args .w)
-      (c .before .before .before .before .before .before .before .before .before .before .before .pre .1),
-)
+mul-top : tie.Need-mul-top
+mul-top c =
+    let at = start (c .before .before .before) in
+    omega (arith, area (at .args .w) (at .pre .1))
 
 patch-requires : tie.Need-patch-requires
 patch-requires c κs =
-    let y0 = c .before .before .before .before .before .before .before .before .before .less in
-    let dy = c .before .before .before .before .before .before .before .before .less2 in
-    let y1 = c .before .before .before .before .before .before .before .lesser in
-    let x0 = c .before .before .before .before .before .before .less3 in
-    let dx = c .before .before .before .before .before .less4 in
-    let x1 = c .before .before .before .before .lesser2 in
-    let at = c .before .before .before .before .before .before .before .before .before .before .before in
-    let v : Cutting (at .args .w) (at .args .r0) (at .args .c0) (at .args .r1) (at .args .c1) (y0 .result) (x0 .result) (y1 .result)
-    (x1 .result) =
-    cutting _ _ _ _ _ _ _ _ _ _ _ (y0 .ensures) (dy .ensures) (y1 .ensures) (x0 .ensures) (dx .ensures) (x1 .ensures) in (
+    let at = start (c .before .before .before .before .before) in (
       at .pre .0,
       (
-        cut-inside _ _ _ _ _ _ _ _ _ (at .pre .1) v (c .before .before .before .if1 .left),
-        omega
-            (arith, c .before .before .if2 .left),
+        columns-inside _ _ _ _ _ _ _ _ _ (at .pre .1) (cut (c .before .before .before .before .before)) (c .before .before .before .if2 .left),
+        omega (arith, c .before .before .before .before .if1 .left),
+      ),
+    )
+
+patch-requires-2 : tie.Need-patch-requires-2
+patch-requires-2 c κs =
+    let at = start (c .before .before .before .before .before) in (
+      at .pre .0,
+      (
+        rows-inside _ _ _ _ _ _ _ _ _ (at .pre .1) (cut (c .before .before .before .before .before)) (c .before .before .before .before .if1 .left),
+        omega (arith, c .before .before .before .if2 .left),
       ),
     )
 
@@ -86,18 +77,24 @@ same-length c = search needs
 
 returns-3 : tie.Need-returns-3
 returns-3 c =
-    let y0 = c .before .before .before .before .before .before .before .before .before .before .before .before .less in
-    let dy = c .before .before .before .before .before .before .before .before .before .before .before .less2 in
-    let y1 = c .before .before .before .before .before .before .before .before .before .before .lesser in
-    let x0 = c .before .before .before .before .before .before .before .before .before .less3 in
-    let dx = c .before .before .before .before .before .before .before .before .less4 in
-    let x1 = c .before .before .before .before .before .before .before .lesser2 in
-    let at = c .before .before .before .before .before .before .before .before .before .before .before .before .before .before in
-    let v : Cutting (at .args .w) (at .args .r0) (at .args .c0) (at .args .r1) (at .args .c1) (y0 .result) (x0 .result) (y1 .result)
-    (x1 .result) =
-    cutting _ _ _ _ _ _ _ _ _ _ _ (y0 .ensures) (dy .ensures) (y1 .ensures) (x0 .ensures) (dx .ensures) (x1 .ensures) in
-    joined-as _ _ _ _ _ _ (c .before .before .patch .result) (cut-marks _ _ _ _ _ _ _ _ _ (at .pre .1) v)
-    (c .before .before .patch .ensures)
+    let before = c .before .before .before .before .before .before .before .before in
+    let at = start before in
+    let a = at .args in
+    let patch = c .before .before .patch in
+    lies-so (a .across) _ (a .w) (a .r0) (a .c0) (a .r1) (a .c1) _ _ _ (patch .result) (c .before .before .before .before .if3 .taken)
+    (joined-as _ _ _ _ _ _ (patch .result) (column-marks _ _ _ _ _ _ _ _ _ (at .pre .1) (cut before)) (patch .ensures))
+
+same-length-2 : tie.Need-same-length-2
+same-length-2 c = search needs
+
+returns-4 : tie.Need-returns-4
+returns-4 c =
+    let before = c .before .before .before .before .before .before .before .before in
+    let at = start before in
+    let a = at .args in
+    let patch = c .before .before .patch2 in
+    lies-so (a .across) _ (a .w) (a .r0) (a .c0) (a .r1) (a .c1) _ _ _ (patch .result) (c .before .before .before .before .if3 .left)
+    (joined-as _ _ _ _ _ _ (patch .result) (row-marks _ _ _ _ _ _ _ _ _ (at .pre .1) (cut before)) (patch .ensures))
 
 pub item-spec : {M : Type 1} → statement M
 item-spec =
@@ -111,7 +108,10 @@ item-spec =
     lesser-requires-2
     returns
     returns-2
-    mul-patch
+    mul-top
     patch-requires
+    patch-requires-2
     same-length
-    returns-3)
+    returns-3
+    same-length-2
+    returns-4)

@@ -49,7 +49,7 @@ returns c =
     let column = c .before .before .before .before .u32-at2 in
     let item = c .before .before .item in
     joined-as _ _ _ _ _ _ (item .result)
-    (λ q l. point-marks (at .args .w) (at .args .body .now) (at .args .i) (row .result) (column .result) (row .ensures)
+    (λ q l. point-marks (at .args .across) (at .args .w) (at .args .body .now) (at .args .i) (row .result) (column .result) (row .ensures)
     (column .ensures) q) (item .ensures)
 
 pub point-spec : {M : Type 1} → statement M

@@ -66,7 +66,7 @@ returns c =
     let right = c .before .before .before .before .u32-at4 in
     let item = c .before .before .item in
     joined-as _ _ _ _ _ _ (item .result)
-    (λ q l. rect-marks (at .args .w) (at .args .body .now) (at .args .points) (at .args .i) (top .result) (left .result) (bottom .result)
+    (λ q l. rect-marks (at .args .across) (at .args .w) (at .args .body .now) (at .args .points) (at .args .i) (top .result) (left .result) (bottom .result)
     (right .result)
     (top .ensures) (left .ensures) (bottom .ensures) (right .ensures) q)
     (item .ensures)

@@ -1,12 +1,12 @@
--- `listed::list_marks` meets its contract: points, then rectangles, then what is held is packed: the chosen positions; or there are too many.
+-- `listed::gather` meets its contract: points, then rectangles, then what is held is packed: the chosen positions; or there are too many.
 -- Assumes nothing.
 use native.Mathlib.Omega.{arith}
 use borrow.Author.Needs.{needs}
 use Rattle.marks.proofs.Joining.{held-front}
 use Rattle.marks.proofs.Sizes.{area}
 use Rattle.listed.proofs.Listing.{points-over, rects-over, list-done}
-use Rattle.listed.proofs.list_marks.Statement.{statement}
-use Rattle.listed.proofs.list_marks.Tie as tie
+use Rattle.listed.proofs.gather.Statement.{statement}
+use Rattle.listed.proofs.gather.Tie as tie
 
 all-points-requires : tie.Need-all-points-requires
 all-points-requires c κs = search needs
@@ -24,7 +24,7 @@ returns : tie.Need-returns
 returns c =
     let at = c .before .before .before .before .before .before .before .before in
     let points = c .before .before .before .before .all-points in
-    points-over (at .args .w) (at .args .body .now) (at .args .points) (at .args .rects) _ _ (points .result) (points .ensures)
+    points-over (at .args .across) (at .args .w) (at .args .body .now) (at .args .points) (at .args .rects) _ _ (points .result) (points .ensures)
     (c .enum-told .given .1)
 
 all-rects-requires : tie.Need-all-rects-requires
@@ -49,7 +49,7 @@ returns-2 c =
     let at = c .before .before .before .before .before .before .before .before .before .before .before .before .before .before .before in
     let points = c .before .before .before .before .before .before .before .before .before .before .before .all-points in
     let rects = c .before .before .before .before .all-rects in
-    rects-over (at .args .w) (at .args .body .now) (at .args .points) (at .args .rects) _ _ (points .result) (points .ensures) _ _
+    rects-over (at .args .across) (at .args .w) (at .args .body .now) (at .args .points) (at .args .rects) _ _ (points .result) (points .ensures) _ _
     (c .before .before .before .before .before .before .before .n .given .1) (points .kept .1 .1 .1 .0) _ (rects .result)
     (rects .ensures) (c .enum-told2 .given .1)
 
@@ -74,13 +74,13 @@ returns-3 c =
     let points = c .before .before .before .before .before .before .before .before .before .before .before .before .before .before .before .before .before .all-points in
     let rects = c .before .before .before .before .before .before .before .before .before .before .all-rects in
     let small = c .before .before .compact in
-    list-done (at .args .w) (at .args .body .now) (at .args .points) (at .args .rects) _ _ (points .result) (points .ensures) _ _
+    list-done (at .args .across) (at .args .w) (at .args .body .now) (at .args .points) (at .args .rects) _ _ (points .result) (points .ensures) _ _
     (c .before .before .before .before .before .before .before .before .before .before .before .before .before .n .given .1)
     (points .kept .1 .1 .1 .0) _ (rects .result) (rects .ensures) _ _
     (c .before .before .before .before .before .before .k .given .1) (rects .kept .1 .1 .1 .1 .0) _ _ (small .ensures) (small .kept .0)
 
-pub list-marks-spec : {M : Type 1} → statement M
-list-marks-spec =
+pub gather-spec : {M : Type 1} → statement M
+gather-spec =
     tie.close
     (tie.spec
     all-points-requires
