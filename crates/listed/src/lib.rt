@@ -108,15 +108,7 @@ fn item(
 }
 
 // Point i: the rectangle of one position.
-fn point(
-    body: &[u8],
-    i: usize,
-    w: Window,
-    s: &mut [u32],
-    n: usize,
-    t: usize,
-    across: bool,
-) -> Kept
+fn point(body: &[u8], i: usize, w: Window, s: &mut [u32], n: usize, t: usize, across: bool) -> Kept
     requires { ⌜ Front (positions w) (now s) n t ⌝ }
     requires { ⌜ Fits w ⌝ }
     requires { ⌜ i < 2 ^ 32 ⌝ }
@@ -226,7 +218,8 @@ pub fn gather(
     let Kept::Held { n, t } = all_points(body, np, w, marks, across) else {
         return Marked::TooMany;
     };
-    let Kept::Held { n: k, t: u } = all_rects(body, np, rects as usize, w, marks, n, t, across) else {
+    let Kept::Held { n: k, t: u } = all_rects(body, np, rects as usize, w, marks, n, t, across)
+    else {
         return Marked::TooMany;
     };
     Marked::All {
