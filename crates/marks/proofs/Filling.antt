@@ -119,6 +119,20 @@ module _ (top : ℕ) (s : List ℕ) (n t : ℕ) (s₁ : List ℕ) (m : ℕ) (v :
         same = λ q. w .same q ∙ v .same q;
       }
 
+-- ---- an entry that is not held may be any number
+
+pub front-kept : (top : ℕ) (s : List ℕ) (n t : ℕ) (s′ : List ℕ) → Front top s n t → take t s′ ≡ take t s → length s′ ≡ length s → Front top s′ n t
+front-kept top s n t s′ f e l =
+    record {
+      order = f .order;
+      fits = omega (arith, f .fits);
+      rises = rw first (f .rises);
+      below = λ q h. f .below q (ap (λ (x : List ℕ). has x q) (sym e) ∙ h);
+    }
+  where
+    first : take n s′ ≡ take n s
+    first = sym (take-take n t s′ (f .order)) ∙ ap (λ (x : List ℕ). take n x) e ∙ take-take n t s (f .order)
+
 -- ---- placing one position
 
 -- what stands among the first n stands among the first t

@@ -16,7 +16,7 @@ use Rattle.marks.specs.Marks.{chosen}
 use Rattle.sorts.specs.Sorts.{occ, has, Rises, Cut}
 use Rattle.marks.specs.Scratch.{Front, Packed, Tidied, Gains, Joined, span}
 use Rattle.sorts.proofs.Occ.{below-or, equal-or, occ-parts, occ-at, occ-some, has-true, some-has, rises-take, rises-drop, rises-from, rises-places}
-use Rattle.marks.proofs.Filling.{has-more}
+use Rattle.marks.proofs.Filling.{has-more, front-kept}
 use Rattle.marks.proofs.Chosen.{both, count-le, count-same, chosen-full, is-chosen}
 
 -- ---- tests
@@ -58,6 +58,17 @@ gains-packed top s t s₁ k v = record { front = v .front; same = λ q l. v .sam
 
 pub gains-tidied : (top : ℕ) (s : List ℕ) (n t : ℕ) (s₁ : List ℕ) (m : ℕ) → Tidied top s n t s₁ m → Gains top (λ q. false) s t s₁ n (n + m)
 gains-tidied top s n t s₁ m v = record { front = v .front; same = λ q l. v .same q ∙ sym (or-false (has (take t s) q)) }
+
+-- an entry that was not held, or is not, may have changed
+pub gains-from : (top : ℕ) (m : ℕ → Bool) (s s₀ : List ℕ) (t : ℕ) (s₁ : List ℕ) (n₁ t₁ : ℕ) → take t s₀ ≡ take t s → Gains top m s₀ t s₁ n₁ t₁
+    → Gains top m s t s₁ n₁ t₁
+gains-from top m s s₀ t s₁ n₁ t₁ e g =
+    record { front = g .front; same = λ q l. g .same q l ∙ ap (λ (x : List ℕ). has x q || m q) e }
+
+pub gains-kept : (top : ℕ) (m : ℕ → Bool) (s : List ℕ) (t : ℕ) (s₁ : List ℕ) (n₁ t₁ : ℕ) (s₂ : List ℕ) → Gains top m s t s₁ n₁ t₁
+    → take t₁ s₂ ≡ take t₁ s₁ → length s₂ ≡ length s₁ → Gains top m s t s₂ n₁ t₁
+gains-kept top m s t s₁ n₁ t₁ s₂ g e l =
+    record { front = front-kept top s₁ n₁ t₁ s₂ (g .front) e l; same = λ q h. ap (λ (x : List ℕ). has x q) e ∙ g .same q h }
 
 -- what a step leaves that found room
 pub held-front : (top : ℕ) (m : ℕ → Bool) (s : List ℕ) (t₀ : ℕ) (s₁ : List ℕ) (r : Kept) (n t : ℕ) → r ≡ K.Held n t

@@ -1,4 +1,4 @@
 pub mod Chosen
 pub mod Filling
 pub mod Joining
-pub mod Listing
+pub mod Sizes

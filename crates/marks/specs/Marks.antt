@@ -1,11 +1,11 @@
 -- Marks in the u32 scratch: the distinct marked positions, ascending, or too many for it. Document 01, 'What comes back' (5) and Repair.
-use Prim.Native.Nat.{ℕ, zero, suc, _+_, _*_, _/_, _%_, _≤_, _<_}
+use Prim.Native.Nat.{ℕ, zero, suc, _≤_, _<_}
 use mathlib.Core.Bool.{Bool, cond}
 use mathlib.Core.List.{List, [], _∷_}
 use mathlib.Core.Path.{_≡_}
 use lib.ListN.{length, take}
 use Rattle.dng.specs.declared.Window.{Window}
-use Rattle.dng.specs.Repair.{countBelow, positions, listed}
+use Rattle.dng.specs.Repair.{countBelow}
 use Rattle.marks.specs.declared.Marked.{Marked}
 use Rattle.marks.specs.declared.Marked.the-variants as M
 
@@ -24,10 +24,6 @@ pub record Holds (top : ℕ) (m : ℕ → Bool) (s s′ : List ℕ) (n : ℕ) : 
 abbrev pub Gathered : (top : ℕ) → (ℕ → Bool) → (s s′ : List ℕ) → Marked → Type 0
 Gathered top m s s′ (M.All n) = Holds top m s s′ n
 Gathered top m s s′ M.TooMany = length s < countBelow top m
-
--- position q of the window is listed
-abbrev pub listedAt : Window → List ℕ → (np nr q : ℕ) → Bool
-listedAt w b np nr q = listed b np nr (w .y0 + q / w .width) (w .x0 + q % w .width)
 
 -- what a repair has checked of its window
 pub record Fits (w : Window) : Type 0 where

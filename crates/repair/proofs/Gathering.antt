@@ -18,7 +18,8 @@ use Rattle.dng.specs.Run.{Kind}
 use Rattle.dng.specs.Answer.{inRange}
 use Rattle.marks.specs.declared.Marked.{Marked}
 use Rattle.marks.specs.declared.Marked.the-variants as M
-use Rattle.marks.specs.Marks.{Fits, Gathered, Holds, chosen, listedAt}
+use Rattle.marks.specs.Marks.{Fits, Gathered, Holds, chosen}
+use Rattle.listed.specs.Listed.{listedAt}
 use Rattle.marks.proofs.Chosen.{chosen-rises, chosen-in}
 use Rattle.means.specs.Looks.{marked}
 use Rattle.scan.proofs.Places.{and-first, and-second}

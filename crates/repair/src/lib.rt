@@ -251,7 +251,7 @@ fn gather_f32(
             bayer_phase: _,
             points,
             rects,
-        } => marks::list_marks(body, points, rects, w, marks),
+        } => columns::list_marks(body, points, rects, w, marks),
         _ => Marked::All { n: 0 },
     }
 }
@@ -272,7 +272,7 @@ fn gather_u16(samples: &[u16], w: Window, op: Opcode, body: &[u8], marks: &mut [
             bayer_phase: _,
             points,
             rects,
-        } => marks::list_marks(body, points, rects, w, marks),
+        } => columns::list_marks(body, points, rects, w, marks),
         _ => Marked::All { n: 0 },
     }
 }

@@ -14,7 +14,7 @@ use Rattle.dng.specs.declared.Window.{Window}
 use Rattle.dng.specs.Select.{active}
 use Rattle.dng.specs.Repair.{positions, complete, sampleAt, badValue}
 use Rattle.marks.specs.Marks.{Fits}
-use Rattle.marks.proofs.Listing.{area}
+use Rattle.marks.proofs.Sizes.{area}
 
 pub and-first : (a b : Bool) → (a && b) ≡ true → a ≡ true
 and-first true b e = refl

@@ -7,7 +7,7 @@ use native.Mathlib.Omega.{arith}
 use borrow.Author.Needs.{needs}
 use lib.ListN.{getD}
 use Rattle.fills.proofs.Lying.{column-in, row-in}
-use Rattle.marks.proofs.Listing.{area}
+use Rattle.marks.proofs.Sizes.{area}
 use Rattle.scan.proofs.Places.{position-is}
 use Rattle.repair.proofs.first.Statement.{statement}
 use Rattle.repair.proofs.first.Tie as tie

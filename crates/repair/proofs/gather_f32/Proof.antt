@@ -11,7 +11,7 @@ use Rattle.repair.proofs.gather_f32.Tie as tie
 use Rattle.repair.proofs.gather_f32.Reads as reads
 use Rattle.repair.proofs.gather_f32.Lts as lts
 use Rattle.convert.proofs.f32_of_u32.Reads as f32-of-u32-reads
-use Rattle.marks.proofs.list_marks.Reads as list-marks-reads
+use Rattle.columns.proofs.list_marks.Reads as list-marks-reads
 use Rattle.scan.proofs.constant_marks_f32.Reads as constant-marks-f32-reads
 
 enum-known-op : tie.Need-enum-known-op

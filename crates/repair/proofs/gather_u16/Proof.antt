@@ -9,7 +9,7 @@ use Rattle.repair.proofs.gather_u16.Statement.{statement}
 use Rattle.repair.proofs.gather_u16.Tie as tie
 use Rattle.repair.proofs.gather_u16.Reads as reads
 use Rattle.repair.proofs.gather_u16.Lts as lts
-use Rattle.marks.proofs.list_marks.Reads as list-marks-reads
+use Rattle.columns.proofs.list_marks.Reads as list-marks-reads
 use Rattle.scan.proofs.constant_marks_u16.Reads as constant-marks-u16-reads
 
 enum-known-op : tie.Need-enum-known-op

@@ -4,7 +4,7 @@ use native.Mathlib.Nat.{lt-of-lt-of-le}
 use native.Mathlib.Omega.{arith}
 use borrow.Author.Needs.{needs}
 use lib.ListN.{getD}
-use Rattle.marks.proofs.Listing.{area}
+use Rattle.marks.proofs.Sizes.{area}
 use Rattle.scan.proofs.Places.{column-is}
 use Rattle.scan.proofs.spot_of.Statement.{statement}
 use Rattle.scan.proofs.spot_of.Tie as tie

@@ -1,0 +1,81 @@
+// The listed positions of a window. Where it is far taller than wide they are gathered by its columns, of which it has few, and then turned.
+use dng::Window;
+use marks::Marked;
+ghost use mathlib.Core.Path.{_≡_};
+ghost use Prim.Native.Nat.{_*_, _/_, _^_, _≤_, _<_};
+ghost use Rattle.points.specs.Points.{each};
+ghost use Rattle.sorts.specs.Sorts.{Distinct};
+ghost use Rattle.dng.specs.Repair.{positions};
+ghost use Rattle.marks.specs.Marks.{Gathered, Fits};
+ghost use Rattle.listed.specs.Listed.{listedAt};
+ghost use Rattle.columns.specs.Columns.{turned, Turns};
+
+// Position q, counted by columns, as it is counted by rows; m is the reciprocal of the height.
+fn turned(q: usize, width: usize, height: usize, m: usize) -> u32
+    requires { ⌜ (1 ≤ height) × (q < width * height) × (width * height ≤ 2 ^ 32) × (m ≡ 2 ^ 32 / height) ⌝ }
+    ensures { λ r. ⌜ r ≡ turned width height q ⌝ }
+{
+    let x = scan::row_of(q, height, m);
+    let y = q - x * height;
+    (y * width + x) as u32
+}
+
+// Each position.
+fn turn(s: &mut [u32], width: usize, height: usize, m: usize)
+    requires { ⌜ Turns width height m (now s) ⌝ }
+    ensures { λ _. ⌜ now (s .exit) ≡ each (λ i q. turned width height q) (now (s .entry)) ⌝ }
+{
+    let mut i = 0;
+    while i < s.len() {
+        s[i] = turned(s[i] as usize, width, height, m);
+        i += 1;
+    }
+}
+
+// Marks that were gathered by columns, by rows and ascending; how many they are.
+fn in_order(s: &mut [u32], width: usize, height: usize) -> usize
+    requires { ⌜ Turns width height (2 ^ 32 / height) (now s) ⌝ }
+    ensures { λ r. ⌜ Distinct (each (λ i q. turned width height q) (now (s .entry))) (now (s .exit)) r ⌝ }
+{
+    turn(s, width, height, 4294967296 / height);
+    sorts::pack(s)
+}
+
+fn by_columns(body: &[u8], points: u32, rects: u32, w: Window, marks: &mut [u32]) -> Marked
+    requires { ⌜ Fits w ⌝ }
+    ensures { λ r. ⌜ Gathered (positions w) (listedAt w (now (body .entry)) points rects) (now (marks .entry)) (now (marks .exit)) r ⌝ }
+{
+    match listed::gather(body, points, rects, w, marks, true) {
+        Marked::All { n } => Marked::All {
+            n: in_order(&mut marks[..n], w.width, w.height),
+        },
+        Marked::TooMany => Marked::TooMany,
+    }
+}
+
+// Whether a rectangle may have far more rows than the window has columns.
+fn narrow(w: Window, rects: u32) -> bool {
+    if rects == 0 {
+        return false;
+    }
+    w.width < w.height / 16
+}
+
+// The listed positions inside the window, each once, ascending at the front of `marks`; or that there are more than it has entries.
+//
+// Cost. A run, which is a point, a row of a rectangle or a rectangle of whole rows, takes a binary search, and one more for each stretch of it that
+// the front holds. Each of its other positions takes a few steps, and at most five shares of a sort, with a step for each bit of a position, 32 at
+// most: of what is sorted at least a quarter has been appended since the last time, or a half where room is scarce; and once all that is held is
+// sorted besides, at the end or when one entry is left. Where the front holds three quarters of the scratch, what it lacks is joined to it in a few
+// steps for each entry. That takes more than a quarter of the room, so it happens at most log len / log 4/3 times. So about L·log of the window's
+// size for L positions named, in whatever order, and what is named again once the front holds it takes no more than a search for its stretch.
+pub fn list_marks(body: &[u8], points: u32, rects: u32, w: Window, marks: &mut [u32]) -> Marked
+    requires { ⌜ Fits w ⌝ }
+    ensures { λ r. ⌜ Gathered (positions w) (listedAt w (now (body .entry)) points rects) (now (marks .entry)) (now (marks .exit)) r ⌝ }
+{
+    if narrow(w, rects) {
+        by_columns(body, points, rects, w, marks)
+    } else {
+        listed::gather(body, points, rects, w, marks, false)
+    }
+}
