@@ -1,7 +1,7 @@
 // Which rows, columns and planes a region selects, worked out once per row and handed to the steps as a walk.
 // The numbers are those of a region as the list has them: a pitch of 0 counts as 1.
 ghost use mathlib.Core.Path.{_≡_};
-ghost use Prim.Native.Nat.{_+_, _-_, _*_, min, max};
+ghost use Prim.Native.Nat.{_+_, _-_, _*_, _/_, _≤_, _<_, min, max};
 ghost use Rattle.points.specs.Select.{selects, First};
 ghost use Rattle.select.specs.Walks.{Walks};
 
@@ -43,6 +43,20 @@ pub fn less(a: usize, b: usize) -> usize
     if b < a { a - b } else { 0 }
 }
 
+// A distance in steps, rounded up. Nothing is divided where the step is 1, or where there is no distance.
+fn steps_up(n: usize, step: usize) -> usize
+    requires { ⌜ (1 ≤ step) × (n < 4294967296) × (step < 4294967296) ⌝ }
+    ensures { λ r. ⌜ r ≡ (n + (step - 1)) / step ⌝ }
+{
+    if step < 2 {
+        return n;
+    }
+    if n == 0 {
+        return 0;
+    }
+    (n + (step - 1)) / step
+}
+
 // The distance from left, rounded up to whole steps.
 pub fn first_column(left: u32, pitch: u32, x0: u32) -> Start
     ensures { λ r. ⌜ First left pitch x0 (r .col) (r .nth) ⌝ }
@@ -51,7 +65,7 @@ pub fn first_column(left: u32, pitch: u32, x0: u32) -> Start
     let at = x0 as usize;
     let step = larger(pitch as usize, 1);
     let start = larger(lo, at);
-    let nth = (start - lo + (step - 1)) / step;
+    let nth = steps_up(start - lo, step);
     Start {
         col: lo + nth * step - at,
         nth,
@@ -70,6 +84,9 @@ pub fn row_selected(top: u32, bottom: u32, pitch: u32, y: usize) -> bool
     }
     if hi <= y {
         return false;
+    }
+    if step < 2 {
+        return true;
     }
     (y - lo) % step == 0
 }

@@ -1,23 +1,25 @@
 -- `first_column` meets its contract: the round-up division of proofs/RoundUp, and its numbers fit. Assumes nothing.
 use Prim.Native.Nat.{ℕ, _+_, _-_, _*_, _/_, _≤_, _<_}
+use mathlib.Core.Path.{sym, subst}
 use native.Mathlib.Omega.{arith}
 use borrow.Author.Needs.{needs}
+use Rattle.points.specs.Select.{First}
 use Rattle.select.proofs.RoundUp.{up-from, up-below, first-up}
 use Rattle.select.proofs.first_column.Statement.{statement}
 use Rattle.select.proofs.first_column.Tie as tie
 
 -- how far the distance from left is rounded up
-abbrev gap : tie.After-larger2 → ℕ
-gap c = c .larger2 .result - c .before .before .args .left
+abbrev gap : tie.After-steps-up → ℕ
+gap c = c .before .larger2 .result - c .before .before .before .args .left
 
-abbrev step : tie.After-larger2 → ℕ
-step c = c .before .larger .result
+abbrev step : tie.After-steps-up → ℕ
+step c = c .before .before .larger .result
 
-from : (c : tie.After-larger2) → gap c ≤ (gap c + (step c - 1)) / step c * step c
-from c = up-from (gap c) (step c) (omega arith)
+from : (c : tie.After-steps-up) → gap c ≤ c .steps-up .result * step c
+from c = subst (λ (n : ℕ). gap c ≤ n * step c) (sym (c .steps-up .ensures)) (up-from (gap c) (step c) (omega arith))
 
-below : (c : tie.After-larger2) → (gap c + (step c - 1)) / step c * step c < gap c + step c
-below c = up-below (gap c) (step c) (omega arith)
+below : (c : tie.After-steps-up) → c .steps-up .result * step c < gap c + step c
+below c = subst (λ (n : ℕ). n * step c < gap c + step c) (sym (c .steps-up .ensures)) (up-below (gap c) (step c) (omega arith))
 
 larger-requires : tie.Need-larger-requires
 larger-requires c κs = search needs
@@ -25,31 +27,26 @@ larger-requires c κs = search needs
 larger-requires-2 : tie.Need-larger-requires-2
 larger-requires-2 c κs = search needs
 
-sub-nth : tie.Need-sub-nth
-sub-nth c = search needs
+sub-steps-up : tie.Need-sub-steps-up
+sub-steps-up c = search needs
 
-sub-nth-2 : tie.Need-sub-nth-2
-sub-nth-2 c = search needs
-
-add-nth : tie.Need-add-nth
-add-nth c = search needs
-
-div-nth : tie.Need-div-nth
-div-nth c = search needs
+steps-up-requires : tie.Need-steps-up-requires
+steps-up-requires c κs = (omega arith, omega arith, omega arith)
 
 mul-t9 : tie.Need-mul-t9
 mul-t9 c = omega (arith, below c)
 
-add-t11 : tie.Need-add-t11
-add-t11 c = omega (arith, below c)
+add-t10 : tie.Need-add-t10
+add-t10 c = omega (arith, below c)
 
-sub-t10 : tie.Need-sub-t10
-sub-t10 c = omega (arith, from c)
+sub-t11 : tie.Need-sub-t11
+sub-t11 c = omega (arith, from c)
 
 returns : tie.Need-returns
 returns c =
-    first-up (c .before .before .args .left) (c .before .before .args .pitch) (c .before .before .args .x0) (c .before .larger .result)
-    (c .larger2 .result) (c .before .larger .ensures) (c .larger2 .ensures)
+    let a = c .before .before .before .args in
+    subst (λ (n : ℕ). First (a .left) (a .pitch) (a .x0) (a .left + n * step c - a .x0) n) (sym (c .steps-up .ensures))
+    (first-up (a .left) (a .pitch) (a .x0) (step c) (c .before .larger2 .result) (c .before .before .larger .ensures) (c .before .larger2 .ensures))
 
 pub first-column-spec : {M : Type 1} → statement M
 first-column-spec =
@@ -57,11 +54,9 @@ first-column-spec =
     (tie.spec
     larger-requires
     larger-requires-2
-    sub-nth
-    sub-nth-2
-    add-nth
-    div-nth
+    sub-steps-up
+    steps-up-requires
     mul-t9
-    add-t11
-    sub-t10
+    add-t10
+    sub-t11
     returns)
