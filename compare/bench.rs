@@ -253,6 +253,37 @@ fn named(kind: &str, n: u32) {
     assert!(done);
 }
 
+// One list of rectangles, with exactly the room that it needs: three quarters of a window in order, and then n times the same other one, which
+// stands behind the marks that are in order while the room is nearly full ("rows"); or n times one column of a window of four ("columns").
+fn overlapping(kind: &str, n: u32) {
+    let columns = kind == "columns";
+    let (w, h) = if columns { (4, 65_536) } else { (2048, 512) };
+    let again = if columns { [0, 1, h, 2] } else { [0, 0, 32, w - 1] };
+    let first = if columns { [0, 0, 1, 1] } else { [128, 0, h, w] };
+    let mut b = Vec::new();
+    for x in [0, 0, n + 1] {
+        word(&mut b, x);
+    }
+    for r in std::iter::once(first).chain((0..n).map(|_| again)) {
+        for x in r {
+            word(&mut b, x);
+        }
+    }
+    let mut list = Vec::new();
+    word(&mut list, 1);
+    entry(&mut list, 5, &b);
+    let size = |r: [u32; 4]| ((r[2] - r[0]) * (r[3] - r[1])) as usize;
+    let room = size(first) + size(again);
+    let mut samples = vec![1.0; (w * h) as usize];
+    let (mut marks, mut values) = (vec![0; room], vec![0.0; room]);
+    let mut room = Room { marks: &mut marks, values: &mut values, names: &mut [] };
+    let frame = Frame::new(w as usize, h as usize, 1).period(2);
+    mark(1);
+    let done = frame.run_f32(&list, &mut samples, &mut room).number() == 0;
+    mark(2);
+    assert!(done);
+}
+
 // A list of n opcodes of one kind over a window without bad pixels, run or read once.
 fn many(kind: &str, n: u32) {
     let (w, h) = (32, 24);
@@ -275,6 +306,7 @@ fn main() {
         match args.len() {
             1 => MANY.iter().for_each(|kind| println!("{kind}")),
             _ if ["points", "repeats", "full"].contains(&args[1].as_str()) => named(&args[1], args[2].parse().expect("how many")),
+            _ if ["rows", "columns"].contains(&args[1].as_str()) => overlapping(&args[1], args[2].parse().expect("how many")),
             _ => many(&args[1], args[2].parse().expect("how many")),
         }
         return;

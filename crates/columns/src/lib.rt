@@ -64,11 +64,15 @@ fn narrow(w: Window, rects: u32) -> bool {
 // The listed positions inside the window, each once, ascending at the front of `marks`; or that there are more than it has entries.
 //
 // Cost. A run, which is a point, a row of a rectangle or a rectangle of whole rows, takes a binary search, and one more for each stretch of it that
-// the front holds. Each of its other positions takes a few steps, and at most five shares of a sort, with a step for each bit of a position, 32 at
-// most: of what is sorted at least a quarter has been appended since the last time, or a half where room is scarce; and once all that is held is
-// sorted besides, at the end or when one entry is left. Where the front holds three quarters of the scratch, what it lacks is joined to it in a few
-// steps for each entry. That takes more than a quarter of the room, so it happens at most log len / log 4/3 times. So about L·log of the window's
-// size for L positions named, in whatever order, and what is named again once the front holds it takes no more than a search for its stretch.
+// the front of the scratch holds; rows are columns here where those are far fewer. Each of its other positions is appended, and takes at most five
+// shares of a sort, with a step for each bit of a position, 32 at most: of what is sorted at least a quarter has been appended since the last time,
+// or a half where room is scarce; and once all that is held is sorted besides, at the end or when one entry is left. Where the front holds three
+// quarters of the scratch, what it lacks is joined to it in a few steps for each entry: when it takes more than a quarter of the room, which happens
+// at most log len / log 4/3 times, or after len entries were sorted. So about L·log of the window's size for L positions named, in whatever order.
+//
+// What is named again is appended again until it is joined. Between two joins each of r rectangles appends at most the a positions that the second
+// join adds, and all of them at most a few times the marks, or 1,024. So n rectangles append no more than a few times √n times the marks, however
+// large they are and however they overlap.
 pub fn list_marks(body: &[u8], points: u32, rects: u32, w: Window, marks: &mut [u32]) -> Marked
     requires { ⌜ Fits w ⌝ }
     ensures { λ r. ⌜ Gathered (positions w) (listedAt w (now (body .entry)) points rects) (now (marks .entry)) (now (marks .exit)) r ⌝ }
