@@ -1,9 +1,9 @@
 -- The new values of the marks that are repaired stand one behind another in the scratch: turn by turn, over any means. Assumes nothing.
-use Prim.Native.Nat.{ℕ, _+_, _-_, _*_, _/_, _≤_, _<_}
+use Prim.Native.Nat.{ℕ, _+_, _-_, _*_, _≤_, _<_}
 use mathlib.Core.Path.{_≡_, refl, sym, ap, subst, _∙_}
 use mathlib.Core.Bool.{Bool, true, false}
 use mathlib.Core.List.{List}
-use native.Mathlib.Nat.{not-suc-le-zero, mul-add, mul-one, mul-zero, mul-div-cancel-left, add-sub-cancel-left, add-assoc}
+use native.Mathlib.Nat.{not-suc-le-zero, mul-add, mul-one, add-sub-cancel-left, add-assoc}
 use native.Mathlib.Omega.{arith}
 use lib.Ieee.{Float, nan}
 use lib.ListN.{length, getD, take, set, length-set}
@@ -59,10 +59,11 @@ module _ {A : Type 0} (d : A) (toFloat : A → Float) (w : Window) (step : ℕ) 
 
 -- ---- mark by mark
 
--- after i of the n marks; the next value goes to `at`
-pub record Filling (p n : ℕ) (test : ℕ → Bool) (mean : ℕ → ℕ → Float) (marks : List ℕ) (values₀ values : List Float) (at i : ℕ) : Type 0 where
+-- after i of the n marks, `done` of them repaired; the next value goes to p * done
+pub record Filling (p n : ℕ) (test : ℕ → Bool) (mean : ℕ → ℕ → Float) (marks : List ℕ) (values₀ values : List Float) (done i : ℕ) : Type 0 where
   pub within : i ≤ n
-  pub next : at ≡ p * countIn test (take i marks)
+  pub few : done ≤ i
+  pub count : done ≡ countIn test (take i marks)
   pub same : length values ≡ length values₀
   pub filled : Filled p i test mean marks values
 
@@ -86,14 +87,21 @@ module _ (p n : ℕ) (test : ℕ → Bool) (marks : List ℕ) (i : ℕ) (held : 
 module _ (p n : ℕ) (test : ℕ → Bool) (mean : ℕ → ℕ → Float) (marks : List ℕ) (values₀ : List Float) where
   pub fill-start : Filling p n test mean marks values₀ values₀ 0 0
   unfolding countIn
-  fill-start = record { within = omega arith; next = sym (mul-zero p); same = refl; filled = λ i h. absurd (not-suc-le-zero h) }
+  fill-start = record { within = omega arith; few = omega arith; count = refl; same = refl; filled = λ i h. absurd (not-suc-le-zero h) }
 
-  module _ (values : List Float) (at i : ℕ) (f : Filling p n test mean marks values₀ values at i) (held : n ≤ length marks) (h : i < n) where
-    pub fill-no : test (getD marks i 0) ≡ false → Filling p n test mean marks values₀ values at (i + 1)
+  module _ (values : List Float) (done i : ℕ) (f : Filling p n test mean marks values₀ values done i) (held : n ≤ length marks) (h : i < n) where
+    -- the values of the next mark that is repaired have room
+    pub fill-room : test (getD marks i 0) ≡ true → p * countIn test (take n marks) ≤ length values₀ → p * done + p ≤ length values
+    fill-room t r =
+        let room = next-room p n test marks i held (p * done) (length values₀) (ap (λ (c : ℕ). p * c) (f .count)) h t r in
+        omega (arith, room, f .same)
+
+    pub fill-no : test (getD marks i 0) ≡ false → Filling p n test mean marks values₀ values done (i + 1)
     fill-no t =
         record {
           within = omega arith;
-          next = next-no p n test marks i held at (f .next) h t;
+          few = omega (arith, f .few);
+          count = f .count ∙ sym (count-no test marks i (omega arith) t);
           same = f .same;
           filled = λ j l u k m.
               equal-or j i (λ d. absurd (apart (sym (subst (λ (y : ℕ). test (getD marks y 0) ≡ true) d u) ∙ t)))
@@ -103,17 +111,24 @@ module _ (p n : ℕ) (test : ℕ → Bool) (mean : ℕ → ℕ → Float) (marks
         apart : true ≡ false → ⊥
         apart e = let z : _≡_ {A = ℕ} 0 1 = cc in omega arith
 
-    pub fill-yes : (values′ : List Float) → test (getD marks i 0) ≡ true → at + p ≤ length values
-        → values′ ≡ each (between at (at + p) (λ j v. mean (getD marks i 0) (j - at))) values
-        → Filling p n test mean marks values₀ values′ (at + p) (i + 1)
+    pub fill-yes : (values′ : List Float) → test (getD marks i 0) ≡ true → p * done + p ≤ length values
+        → values′ ≡ each (between (p * done) (p * done + p) (λ j v. mean (getD marks i 0) (j - p * done))) values
+        → Filling p n test mean marks values₀ values′ (done + 1) (i + 1)
     fill-yes values′ t r e =
         record {
           within = omega arith;
-          next = next-yes p n test marks i held at (f .next) h t;
+          few = omega (arith, f .few);
+          count = omega (arith, f .count, count-yes test marks i (omega arith) t);
           same = ap length e ∙ length-each G values ∙ f .same;
           filled = λ j l u k m. equal-or j i (λ d. here j d k m) (λ d. before j (omega arith) u k m);
         }
       where
+        at : ℕ
+        at = p * done
+
+        next : at ≡ p * countIn test (take i marks)
+        next = ap (λ (c : ℕ). p * c) (f .count)
+
         G : ℕ → Float → Float
         G = between at (at + p) (λ j v. mean (getD marks i 0) (j - at))
 
@@ -123,7 +138,7 @@ module _ (p n : ℕ) (test : ℕ → Bool) (mean : ℕ → ℕ → Float) (marks
         before : (j : ℕ) → j < i → test (getD marks j 0) ≡ true → (k : ℕ) → k < p
             → getD values′ (p * countIn test (take j marks) + k) nan ≡ mean (getD marks j 0) k
         before j l u k m =
-            let s : p * countIn test (take j marks) + p ≤ at = rw (f .next) (place-next test p marks j i l (omega arith) u) in
+            let s : p * countIn test (take j marks) + p ≤ at = rw next (place-next test p marks j i l (omega arith) u) in
             read (p * countIn test (take j marks) + k) (omega arith)
             ∙ between-low at (at + p) (λ j v. mean (getD marks i 0) (j - at)) (p * countIn test (take j marks) + k) _ (omega arith)
             ∙ f .filled j l u k m
@@ -137,13 +152,10 @@ module _ (p n : ℕ) (test : ℕ → Bool) (mean : ℕ → ℕ → Float) (marks
         here : (j : ℕ) → j ≡ i → (k : ℕ) → k < p → getD values′ (p * countIn test (take j marks) + k) nan ≡ mean (getD marks j 0) k
         here j d k m =
             subst (λ (y : ℕ). getD values′ (p * countIn test (take y marks) + k) nan ≡ mean (getD marks y 0) k) (sym d)
-            (subst (λ (a : ℕ). getD values′ (a + k) nan ≡ mean (getD marks i 0) k) (f .next) (there k m))
+            (subst (λ (a : ℕ). getD values′ (a + k) nan ≡ mean (getD marks i 0) k) next (there k m))
 
-  -- how many marks have their values: as many as the places that these take
-  pub fill-count : (values : List Float) (at i : ℕ) → Filling p n test mean marks values₀ values at i → n ≤ i → 1 ≤ p
-      → at / p ≡ countIn test (take n marks)
-  fill-count values at i f h some =
-      ap (λ (k : ℕ). k / p) (f .next) ∙ mul-div-cancel-left (countIn test (take i marks)) some ∙ count-end test marks i n (f .within) h
-
-  pub fill-end : (values : List Float) (at i : ℕ) → Filling p n test mean marks values₀ values at i → n ≤ i → Filled p n test mean marks values
-  fill-end values at i f h j l u k m = f .filled j (omega (arith, f .within)) u k m
+  -- all marks passed: how many have their values, and these
+  pub fill-end : (values : List Float) (done i : ℕ) → Filling p n test mean marks values₀ values done i → n ≤ i
+      → (done ≡ countIn test (take n marks)) × Filled p n test mean marks values
+  fill-end values done i f h =
+      (f .count ∙ count-end test marks i n (f .within) h, λ j l u k m. f .filled j (omega (arith, f .within)) u k m)

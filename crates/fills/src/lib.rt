@@ -161,6 +161,7 @@ fn pixel_u16(
 
 // The new values of every mark that is repaired, one behind another, from the samples as they are at the start; and how many marks they are.
 // The places of the rows above and below move on with the marks, so that a lone mark is known without a search.
+// The marks repaired are counted and the places of their values follow, so that the count takes no division.
 pub fn fill_f32(
     samples: &[f32],
     marks: &[u32],
@@ -176,7 +177,7 @@ pub fn fill_f32(
         ⌜ (r ≡ mended (now (marks .entry)) n w step) × Filled (w .planes) n (mendable w step (marked (now (marks .entry)) n))
         (meanAt nan (λ u. u) w step (marked (now (marks .entry)) n) (now (samples .entry))) (now (marks .entry)) (now (values .exit)) ⌝ }
 {
-    let mut at = 0;
+    let mut done = 0;
     let mut up = 0;
     let mut down = 0;
     let mut i = 0;
@@ -186,14 +187,15 @@ pub fn fill_f32(
         let lone = lone::alone(marks, n, w, step, i, up, down);
         let spot = scan::spot_of(marks, i, w, m);
         if mends_told(marks, n, w, step, spot, lone) {
+            let at = w.planes * done;
             pixel_f32(samples, marks, n, w, step, spot, lone, values, at);
-            at += w.planes;
+            done += 1;
             i += 1;
         } else {
             i += 1;
         }
     }
-    at / w.planes
+    done
 }
 
 // The same of u16 samples.
@@ -212,7 +214,7 @@ pub fn fill_u16(
         ⌜ (r ≡ mended (now (marks .entry)) n w step) × Filled (w .planes) n (mendable w step (marked (now (marks .entry)) n))
         (meanAt 0 (λ u. wholeIn binary32 u) w step (marked (now (marks .entry)) n) (now (samples .entry))) (now (marks .entry)) (now (values .exit)) ⌝ }
 {
-    let mut at = 0;
+    let mut done = 0;
     let mut up = 0;
     let mut down = 0;
     let mut i = 0;
@@ -222,12 +224,13 @@ pub fn fill_u16(
         let lone = lone::alone(marks, n, w, step, i, up, down);
         let spot = scan::spot_of(marks, i, w, m);
         if mends_told(marks, n, w, step, spot, lone) {
+            let at = w.planes * done;
             pixel_u16(samples, marks, n, w, step, spot, lone, values, at);
-            at += w.planes;
+            done += 1;
             i += 1;
         } else {
             i += 1;
         }
     }
-    at / w.planes
+    done
 }

@@ -3,9 +3,11 @@ use Prim.Native.Nat.{ℕ, zero, suc, _-_, _*_, _≤_}
 use mathlib.Core.Path.{_≡_, refl, sym, ap, subst, fun-ext, _∙_}
 use mathlib.Core.Bool.{Bool, true, false}
 use mathlib.Core.List.{List, [], _∷_}
+use native.Mathlib.Nat.{mul-zero}
 use native.Mathlib.Omega.{arith}
 use borrow.Author.Tests.{leb-true, leb-false}
 use lib.Dec.{leb}
+use lib.Ieee.{Float}
 use lib.ListN.{length}
 use types.Run.{OneOf, miss}
 use denote.Enum.Declared.{tagOf}
@@ -23,15 +25,16 @@ use Rattle.listed.specs.Listed.{listedAt}
 use Rattle.marks.proofs.Chosen.{chosen-rises, chosen-in}
 use Rattle.means.specs.Looks.{marked}
 use Rattle.scan.proofs.Places.{and-first, and-second}
+use Rattle.sorts.specs.Sorts.{occ, has}
 use Rattle.sorts.proofs.Occ.{has-true}
 use Rattle.points.specs.Points.{each}
 use Rattle.repair.specs.declared.Fixed.{Fixed}
 use Rattle.repair.specs.declared.Fixed.the-variants as F
 use Rattle.repair.specs.Fixes.{Fixes}
-use Rattle.fills.specs.Fills.{Marking, mended}
-use Rattle.repair.specs.Works.{Ranges, Settled}
+use Rattle.fills.specs.Fills.{Marking, countIn, mended}
+use Rattle.repair.specs.Works.{Ranges, Mended, Settled}
 use Rattle.repair.proofs.Counting.{count-none}
-use Rattle.repair.proofs.Totals.{fixes-none, fixes-marks, fixes-settled}
+use Rattle.repair.proofs.Totals.{repair-none, fixes-none, fixes-marks, fixes-settled}
 
 -- ---- what the ranges say
 
@@ -135,6 +138,22 @@ module _ (p m room : ℕ) (r : Bool) (e : r ≡ leb (p * m) room) where
 
   pub settled-short : {A : Type 0} (s new : List A) (n : ℕ) → r ≡ false → Settled s s new p room n m F.Values
   settled-short s new n t = (leb-false (p * m) room (sym e ∙ t), refl)
+
+-- no marks: the samples stay, whatever the scratch
+module _ {A : Type 0} (none : A) (toFloat : A → Float) (ofMean : Float → A) (w : Window) (step : ℕ) (marks : List ℕ) (room : ℕ) (s : List A) where
+  mended-none : Mended s (each (repairAt none toFloat ofMean w step (marked marks 0) s) s) (w .planes) room 0 (mended marks 0 w step) 0 0
+  unfolding countIn has occ
+  mended-none =
+      record {
+        repaired = refl;
+        left = refl;
+        fits = omega (arith, mul-zero (w .planes));
+        samples = sym (repair-none none toFloat ofMean w (marked marks 0) (λ q. refl) step s);
+      }
+
+  pub settled-none : (n : ℕ) (o : Fixed) → n ≡ 0 → o ≡ F.Done 0 (0 - 0)
+      → Settled s s (each (repairAt none toFloat ofMean w step (marked marks n) s) s) (w .planes) room n (mended marks n w step) o
+  settled-none n o e d = rw (e, d) mended-none
 
 module _ {A : Type 0} (kind : Kind A) (w : Window) (period : ℕ) (op : Opcode) (b : List ℕ) (s : List A) (m : List ℕ) (room : ℕ) where
   -- the window is not whole: no marks

@@ -173,7 +173,8 @@ fn done(n: usize, repaired: usize) -> Fixed
     Fixed::Done { repaired, left }
 }
 
-// Room for the new values first; with too little of it nothing is written. The width's reciprocal is worked out once for all marks.
+// Room for the new values first; with too little of it nothing is written. The width's reciprocal, a division, is worked out once for
+// all marks, and with none of them not at all.
 fn settle_f32(
     samples: &mut [f32],
     marks: &[u32],
@@ -188,6 +189,9 @@ fn settle_f32(
         (each (repairAt nan (λ u. u) (λ u. u) w step (marked (now (marks .entry)) n) (now (samples .entry))) (now (samples .entry)))
         (w .planes) (length (now (values .entry))) n (mended (now (marks .entry)) n w step) r ⌝ }
 {
+    if n == 0 {
+        return done(0, 0);
+    }
     let m = scan::reciprocal(w);
     if fills::enough(values.len(), marks, n, w, m, step) {
         let repaired = fills::fill_f32(samples, marks, n, w, m, step, values);
@@ -213,6 +217,9 @@ fn settle_u16(
         (each (repairAt 0 (λ u. wholeIn binary32 u) (λ u. roundHeld 65535 u) w step (marked (now (marks .entry)) n) (now (samples .entry)))
         (now (samples .entry))) (w .planes) (length (now (values .entry))) n (mended (now (marks .entry)) n w step) r ⌝ }
 {
+    if n == 0 {
+        return done(0, 0);
+    }
     let m = scan::reciprocal(w);
     if fills::enough(values.len(), marks, n, w, m, step) {
         let repaired = fills::fill_u16(samples, marks, n, w, m, step, values);
