@@ -1,4 +1,5 @@
--- What is seen of ascending marks from one place among them.
+-- What is seen of ascending marks from one place among them. Nothing here has to be believed: what it comes to is `alone`'s contract, in the words of
+-- means/specs/Looks.
 use Prim.Native.Nat.{ℕ, _≤_, _<_}
 use mathlib.Core.Bool.{false}
 use mathlib.Core.List.{List}
