@@ -158,7 +158,7 @@ fn row_block(
         (now (row .entry))
         ⌝ }
 {
-    if steps::selected(g, r) {
+    if steps::touched(g, r, start, row.len()) {
         planes_block(
             row,
             g,

@@ -1,16 +1,18 @@
--- A plane after another is a region's row; a walk that is made from a region may be walked, and selects the region's columns. Over any sample
--- kind A. Assumes nothing.
-use Prim.Native.Nat.{ℕ, _+_, _-_, _/_, _%_, _≤_, _<_, min, max}
-use mathlib.Core.Path.{_≡_, sym, ap, ap₂, subst, _∙_}
-use mathlib.Core.Bool.{Bool, true, false, cond}
+-- A plane after another is a region's row; a walk that is made from a region may be walked, and selects the region's columns; a row with none of
+-- a region's samples is left. Over any sample kind A. Assumes nothing.
+use Prim.Native.Nat.{ℕ, _+_, _-_, _*_, _/_, _%_, _≤_, _<_, min, max}
+use mathlib.Core.Path.{_≡_, refl, sym, ap, ap₂, subst, _∙_}
+use mathlib.Core.Bool.{Bool, true, false, cond, _&&_}
 use mathlib.Core.List.{List}
+use native.Mathlib.Nat.{mod-lt, div-lt-iff-lt-mul}
 use native.Mathlib.Omega.{arith}
-use borrow.Author.Tests.{eq-eqb, ne-eqb}
+use borrow.Author.Tests.{eq-eqb, ne-eqb, lt-leb, le-ltb}
 use lib.Dec.{leb, ltb, eqb}
 use lib.ListN.{length}
 use Rattle.points.specs.Points.{each}
 use Rattle.points.specs.Select.{selects, inRow, onColumns, First}
-use Rattle.points.proofs.Each.{length-each, each-agree, each-none}
+use Rattle.points.proofs.Each.{below-or, length-each, each-agree, each-none}
+use Rattle.points.proofs.Select.{selects-high}
 use Rattle.points.proofs.Walk.{planes-none, planes-next, planes-end}
 use Rattle.select.specs.declared.Walk.{Walk}
 use Rattle.select.specs.declared.Start.{Start}
@@ -20,7 +22,7 @@ use Rattle.dng.specs.Select.{Rule, onRegion, onRow, wholePixel}
 use Rattle.dng.specs.Bounds.{RowFits}
 use Rattle.steps.specs.declared.Place.{Place}
 use Rattle.steps.specs.Ready.{Leaves}
-use Rattle.steps.specs.Planes.{WalkIs, Along, regionPlanes}
+use Rattle.steps.specs.Planes.{WalkIs, Along, Untouched, touches, regionPlanes}
 use Rattle.steps.proofs.Plans.{either}
 
 -- a pitch of 0 counts as 1, once and again
@@ -76,6 +78,60 @@ module _ {g : Place} {r : Region} {s : Start} {plane : ℕ} {k : Walk} (w : Walk
       T : ℕ → A → A
       T i v =
           cond (leb plane (i % g .planes)) (cond (ltb (i % g .planes) (plane + 1)) (f (g .x0 + i / g .planes) (i % g .planes) v) v) v
+
+-- ---- a row that has none of a region's samples
+
+and-false : (b : Bool) → b && false ≡ false
+and-false true = refl
+and-false false = refl
+
+module _ (g : Place) (r : Region) where
+  off-column : (i : ℕ) → selects (r .left) (r .right) (r .«col_pitch») (g .x0 + i / g .planes) ≡ false → touches g r i ≡ false
+  unfolding touches
+  off-column i h = rw h (and-false (selects (r .top) (r .bottom) (r .«row_pitch») (g .y)))
+
+  off-plane : (i : ℕ) → leb (r .plane) (i % g .planes) && ltb (i % g .planes) (r .plane + r .planes) ≡ false → touches g r i ≡ false
+  unfolding touches
+  off-plane i h =
+      rw (h, and-false (selects (r .left) (r .right) (r .«col_pitch») (g .x0 + i / g .planes)))
+      (and-false (selects (r .top) (r .bottom) (r .«row_pitch») (g .y)))
+
+  -- the row has none of the region's planes
+  pub none-by-planes : (n : ℕ) → 1 ≤ g .planes → min (r .plane + r .planes) (g .planes) ≤ r .plane → Untouched g r n
+  none-by-planes n some h =
+      record {
+        none = λ i q.
+            let k : i % g .planes < g .planes = mod-lt i some in
+            below-or (i % g .planes) (r .plane)
+            (λ a. off-plane i (rw (lt-leb (r .plane) (i % g .planes) a)))
+            (λ a.
+            off-plane i (rw (le-ltb (i % g .planes) (r .plane + r .planes) (omega arith)) (and-false (leb (r .plane) (i % g .planes)))));
+      }
+
+  module _ {col nth : ℕ} (f : First (r .left) (r .«col_pitch») (g .x0) col nth) where
+    -- the region's columns end before the first that the row could have
+    pub none-by-columns : (n : ℕ) → r .right ≤ g .x0 + col → Untouched g r n
+    none-by-columns n h =
+        record {
+          none = λ i q.
+              off-column i
+              (below-or (g .x0 + i / g .planes) (g .x0 + col) (λ a. f .none (r .right) (g .x0 + i / g .planes) (omega arith) a)
+              (λ a. selects-high (r .left) (r .right) (r .«col_pitch») (g .x0 + i / g .planes) (omega arith)));
+        }
+
+    -- the row ends before the region's first column
+    pub none-by-length : (n : ℕ) → 1 ≤ g .planes → n ≤ col * g .planes → Untouched g r n
+    none-by-length n some h =
+        record {
+          none = λ i q.
+              let a : i / g .planes < col = div-lt-iff-lt-mul some .1 (omega arith) in
+              off-column i (f .none (r .right) (g .x0 + i / g .planes) (omega arith) (omega arith));
+        }
+
+  -- the row is not selected
+  pub none-by-row : (n : ℕ) → selects (r .top) (r .bottom) (r .«row_pitch») (g .y) ≡ false → Untouched g r n
+  unfolding touches
+  none-by-row n h = record { none = λ i q. rw h }
 
 module _ {A : Type 0} where
   -- a walk that changes nothing
@@ -134,7 +190,7 @@ module _ {A : Type 0} where
   unfolding regionPlanes
   length-planes g r n f l = length-each _ l
 
-  -- ---- a row that the region selects, and one that it does not
+  -- ---- a row that the region selects, and one that has none of its samples
 
   pub row-in : (g : Place) (r : Region) (f : ℕ → ℕ → ℕ → A → A) (l : List A) → selects (r .top) (r .bottom) (r .«row_pitch») (g .y) ≡ true
       → regionPlanes g r (r .planes) (f (g .y)) l ≡ each (onRow (g .x0) (g .planes) (g .y) (length l) (onRegion r f)) l
@@ -144,13 +200,26 @@ module _ {A : Type 0} where
       at : ℕ → A → A
       at i v = onColumns (r .left) (r .right) (r .«col_pitch») (r .plane) (r .planes) (f (g .y)) (g .x0 + i / g .planes) (i % g .planes) v
 
-  pub row-out : (g : Place) (r : Region) (f : ℕ → ℕ → ℕ → A → A) (l : List A) → selects (r .top) (r .bottom) (r .«row_pitch») (g .y) ≡ false
+  -- one of the four fails, so the value is left
+  left-as : (s c a b : Bool) (x v : A) → s && (c && (a && b)) ≡ false → cond s (cond c (cond a (cond b x v) v) v) v ≡ v
+  left-as true true true true x v h = absurd (let z : _≡_ {A = ℕ} 0 1 = cc in omega arith)
+  left-as true true true false x v h = refl
+  left-as true true false b x v h = refl
+  left-as true false a b x v h = refl
+  left-as false c a b x v h = refl
+
+  pub row-untouched : (g : Place) (r : Region) (f : ℕ → ℕ → ℕ → A → A) (l : List A) → Untouched g r (length l)
       → l ≡ each (onRow (g .x0) (g .planes) (g .y) (length l) (onRegion r f)) l
-  unfolding onRow onRegion
-  row-out g r f l h = sym (each-none _ l (λ i v q. ap (λ (b : Bool). cond b (at i v) v) h))
-    where
-      at : ℕ → A → A
-      at i v = onColumns (r .left) (r .right) (r .«col_pitch») (r .plane) (r .planes) (f (g .y)) (g .x0 + i / g .planes) (i % g .planes) v
+  unfolding onRow onRegion onColumns touches
+  row-untouched g r f l u =
+      sym
+      (each-none _ l
+      (λ i v h.
+      left-as (selects (r .top) (r .bottom) (r .«row_pitch») (g .y)) (selects (r .left) (r .right) (r .«col_pitch») (g .x0 + i / g .planes))
+      (leb (r .plane) (i % g .planes)) (ltb (i % g .planes) (r .plane + r .planes))
+      (f (g .y) (g .x0 + i / g .planes) (i % g .planes) v)
+      v
+      (u .none i h)))
 
   -- ---- rules of a row
 

@@ -1,9 +1,12 @@
--- The walk over one plane of a row, made from the row's place, a region and its first column; and what the planes of a row share.
-use Prim.Native.Nat.{ℕ, _-_, _<_, min, max}
+-- The walk over one plane of a row, made from the row's place, a region and its first column; what the planes of a row share; and which samples
+-- of a row are a region's.
+use Prim.Native.Nat.{ℕ, _+_, _-_, _/_, _%_, _<_, min, max}
 use mathlib.Core.Path.{_≡_}
+use mathlib.Core.Bool.{Bool, false, _&&_}
 use mathlib.Core.List.{List}
+use lib.Dec.{leb, ltb}
 use Rattle.points.specs.Points.{each}
-use Rattle.points.specs.Select.{inRow, onColumns}
+use Rattle.points.specs.Select.{selects, inRow, onColumns}
 use Rattle.select.specs.declared.Walk.{Walk}
 use Rattle.select.specs.declared.Start.{Start}
 use Rattle.dng.specs.declared.Region.{Region}
@@ -60,3 +63,14 @@ AxisFor (ScaleColumns n) g v = Unit
 unfoldable pub regionPlanes : {A : Type 0} → Place → Region → (n : ℕ) → (ℕ → ℕ → A → A) → List A → List A
 regionPlanes g r n f l =
     each (inRow (g .x0) (g .planes) (onColumns (r .left) (r .right) (r .«col_pitch») (r .plane) n f)) l
+
+-- sample i of a row is one of the region's: its row, its column and its plane are
+unfoldable pub touches : Place → Region → (i : ℕ) → Bool
+touches g r i =
+    selects (r .top) (r .bottom) (r .«row_pitch») (g .y)
+    && (selects (r .left) (r .right) (r .«col_pitch») (g .x0 + i / g .planes)
+    && (leb (r .plane) (i % g .planes) && ltb (i % g .planes) (r .plane + r .planes)))
+
+-- no sample of a row of n is one of the region's
+pub record Untouched (g : Place) (r : Region) (n : ℕ) : Type 0 where
+  pub none : (i : ℕ) → i < n → touches g r i ≡ false

@@ -1,6 +1,6 @@
 // One opcode on one lent row. A run prepares an opcode once and hands it to each of its rows.
 ghost use mathlib.Core.Path.{_≡_};
-ghost use mathlib.Core.Bool.{true, cond};
+ghost use mathlib.Core.Bool.{true, false, cond};
 ghost use lib.Dec.{eqb};
 ghost use Prim.Native.Nat.{_+_, min};
 ghost use lib.ListN.{length};
@@ -15,7 +15,7 @@ ghost use Rattle.gain.specs.Gain.{AxisIs};
 ghost use Rattle.vignette.specs.Reach.{frameAt};
 ghost use Rattle.steps.specs.Plans.{planOf, taskRule, taskFits, tableSize};
 ghost use Rattle.steps.specs.Ready.{Ready};
-ghost use Rattle.steps.specs.Planes.{WalkIs, Along, AxisFor, mapPlane, regionPlanes};
+ghost use Rattle.steps.specs.Planes.{WalkIs, Along, AxisFor, Untouched, mapPlane, regionPlanes};
 use dng::Grid;
 use dng::Opcode;
 use dng::Radial;
@@ -322,9 +322,24 @@ pub fn planes_end(g: Place, r: Region) -> usize
     select::plane_end(r.plane, r.planes, g.planes as usize)
 }
 
-pub fn selected(g: Place, r: Region) -> bool
-    ensures { λ b. ⌜ b ≡ selects (r .top) (r .bottom) (r .«row_pitch») (g .y) ⌝ }
+// Whether a row of len samples has any of the region's: a plane, a column, and the row itself. The row's pitch is asked last, since it may take a
+// division.
+pub fn touched(g: Place, r: Region, start: Start, len: usize) -> bool
+    requires { ⌜
+        RowFits (g .x0) (g .planes) (g .y) len × First (r .left) (r .«col_pitch») (g .x0) (start .col) (start .nth)
+        ⌝ }
+    ensures { λ b.
+        ⌜ (b ≡ true → selects (r .top) (r .bottom) (r .«row_pitch») (g .y) ≡ true) × (b ≡ false → Untouched g r len) ⌝ }
 {
+    if planes_end(g, r) <= r.plane as usize {
+        return false;
+    }
+    if r.right as usize <= g.x0 as usize + start.col {
+        return false;
+    }
+    if len <= start.col * g.planes as usize {
+        return false;
+    }
     select::row_selected(r.top, r.bottom, r.row_pitch, g.y as usize)
 }
 
@@ -369,7 +384,7 @@ fn region_row(row: &mut [f32], g: Place, r: Region, t: Task, start: Start, body:
         (onRegion r (taskRule (frameAt scale (g .«full_width») (g .«full_height»)) r (now (body .entry)) t)))
         (now (row .entry)) ⌝ }
 {
-    if selected(g, r) {
+    if touched(g, r, start, row.len()) {
         region_planes(row, g, r, t, start, body, scale);
     }
 }
@@ -463,7 +478,7 @@ fn region_row16(row: &mut [u16], g: Place, r: Region, n: u32, start: Start, body
         (onRegion r (λ y x k v. cond (eqb n 0) v (mapTable16 n (now (body .entry)) v))))
         (now (row .entry)) ⌝ }
 {
-    if selected(g, r) {
+    if touched(g, r, start, row.len()) {
         region_planes16(row, g, r, n, start, body);
     }
 }

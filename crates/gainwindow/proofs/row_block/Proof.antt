@@ -1,6 +1,6 @@
--- `row_block` meets its contract: a row that the region does not select stays. Assumes nothing.
+-- `row_block` meets its contract: a row that has none of the region's samples stays. Assumes nothing.
 use Prim.Native.Nat.{ℕ, _+_, _*_}
-use mathlib.Core.Path.{sym, _∙_}
+use mathlib.Core.Path.{_∙_}
 use mathlib.Core.List.{List}
 use borrow.Author.Needs.{needs}
 use lib.Ieee.{Float}
@@ -8,7 +8,7 @@ use Rattle.dng.specs.declared.Region.{Region}
 use Rattle.dng.specs.declared.Grid.{Grid}
 use Rattle.gain.specs.Blocks.{within}
 use Rattle.steps.specs.declared.Place.{Place}
-use Rattle.steps.proofs.Planes.{row-in, row-out}
+use Rattle.steps.proofs.Planes.{row-in, row-untouched}
 use Rattle.gainwindow.specs.Columns.{pitchOf, gainRule}
 use Rattle.gainwindow.proofs.row_block.Statement.{statement}
 use Rattle.gainwindow.proofs.row_block.Tie as tie
@@ -18,8 +18,8 @@ abbrev rule : Place → Region → (from w : ℕ) → List ℕ → (pv ph : ℕ)
 rule g r from w body pv ph grid mp y =
     within (g .x0 + from) (g .x0 + from + w * pitchOf r) (gainRule (g .«full_width») (g .«full_height») body r pv ph grid mp y)
 
-selected-requires : tie.Need-selected-requires
-selected-requires c κs = search needs
+touched-requires : tie.Need-touched-requires
+touched-requires c κs = search needs
 
 planes-block-requires : tie.Need-planes-block-requires
 planes-block-requires c κs = search needs
@@ -33,13 +33,13 @@ returns c =
     let a = i .before .before .before .before .before .before .args in
     c .before .before .planes-block .ensures
     ∙ row-in (a .g) (a .r) (rule (a .g) (a .r) (a .from) (a .w) (a .body .now) (a .points-v) (a .points-h) (a .grid) (a .map-planes)) (a .row .now)
-    (sym (i .before .selected .ensures) ∙ i .if1 .taken)
+    (i .before .touched .ensures .0 (i .if1 .taken))
 
 returns-2 : tie.Need-returns-2
 returns-2 c =
     let a = c .before .before .before .before .before .before .args in
-    row-out (a .g) (a .r) (rule (a .g) (a .r) (a .from) (a .w) (a .body .now) (a .points-v) (a .points-h) (a .grid) (a .map-planes)) (a .row .now)
-    (sym (c .before .selected .ensures) ∙ c .if1 .left)
+    row-untouched (a .g) (a .r) (rule (a .g) (a .r) (a .from) (a .w) (a .body .now) (a .points-v) (a .points-h) (a .grid) (a .map-planes)) (a .row .now)
+    (c .before .touched .ensures .1 (c .if1 .left))
 
 pub row-block-spec : {M : Type 1} → statement M
-row-block-spec = tie.close (tie.spec selected-requires planes-block-requires same-length returns returns-2)
+row-block-spec = tie.close (tie.spec touched-requires planes-block-requires same-length returns returns-2)

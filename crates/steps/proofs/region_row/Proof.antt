@@ -1,14 +1,14 @@
--- `region_row` meets its contract: a row that the region does not select stays. Assumes nothing.
-use mathlib.Core.Path.{sym, _∙_}
+-- `region_row` meets its contract: a row that has none of the region's samples stays. Assumes nothing.
+use mathlib.Core.Path.{_∙_}
 use borrow.Author.Needs.{needs}
 use Rattle.vignette.specs.Reach.{frameAt}
 use Rattle.steps.specs.Plans.{taskRule}
-use Rattle.steps.proofs.Planes.{row-in, row-out}
+use Rattle.steps.proofs.Planes.{row-in, row-untouched}
 use Rattle.steps.proofs.region_row.Statement.{statement}
 use Rattle.steps.proofs.region_row.Tie as tie
 
-selected-requires : tie.Need-selected-requires
-selected-requires c κs = search needs
+touched-requires : tie.Need-touched-requires
+touched-requires c κs = search needs
 
 region-planes-requires : tie.Need-region-planes-requires
 region-planes-requires c κs = search needs
@@ -22,19 +22,19 @@ returns c =
     let a = i .before .before .before .before .args in
     c .before .before .region-planes .ensures
     ∙ row-in (a .g) (a .r) (taskRule (frameAt (a .scale) (a .g .«full_width») (a .g .«full_height»)) (a .r) (a .body .now) (a .t)) (a .row .now)
-    (sym (i .before .selected .ensures) ∙ i .if1 .taken)
+    (i .before .touched .ensures .0 (i .if1 .taken))
 
 returns-2 : tie.Need-returns-2
 returns-2 c =
     let a = c .before .before .before .before .args in
-    row-out (a .g) (a .r) (taskRule (frameAt (a .scale) (a .g .«full_width») (a .g .«full_height»)) (a .r) (a .body .now) (a .t)) (a .row .now)
-    (sym (c .before .selected .ensures) ∙ c .if1 .left)
+    row-untouched (a .g) (a .r) (taskRule (frameAt (a .scale) (a .g .«full_width») (a .g .«full_height»)) (a .r) (a .body .now) (a .t)) (a .row .now)
+    (c .before .touched .ensures .1 (c .if1 .left))
 
 pub region-row-spec : {M : Type 1} → statement M
 region-row-spec =
     tie.close
     (tie.spec
-    selected-requires
+    touched-requires
     region-planes-requires
     same-length
     returns

@@ -1,15 +1,15 @@
--- `region_row16` meets its contract: a row that the region does not select stays. Assumes nothing.
+-- `region_row16` meets its contract: a row that has none of the region's samples stays. Assumes nothing.
 use mathlib.Core.Bool.{cond}
-use mathlib.Core.Path.{sym, _∙_}
+use mathlib.Core.Path.{_∙_}
 use borrow.Author.Needs.{needs}
 use lib.Dec.{eqb}
 use Rattle.dng.specs.Value.{mapTable16}
-use Rattle.steps.proofs.Planes.{row-in, row-out}
+use Rattle.steps.proofs.Planes.{row-in, row-untouched}
 use Rattle.steps.proofs.region_row16.Statement.{statement}
 use Rattle.steps.proofs.region_row16.Tie as tie
 
-selected-requires : tie.Need-selected-requires
-selected-requires c κs = search needs
+touched-requires : tie.Need-touched-requires
+touched-requires c κs = search needs
 
 region-planes16-requires : tie.Need-region-planes16-requires
 region-planes16-requires c κs = search needs
@@ -23,19 +23,19 @@ returns c =
     let a = i .before .before .before .before .args in
     c .before .before .region-planes16 .ensures
     ∙ row-in (a .g) (a .r) (λ y x k v. cond (eqb (a .n) 0) v (mapTable16 (a .n) (a .body .now) v)) (a .row .now)
-    (sym (i .before .selected .ensures) ∙ i .if1 .taken)
+    (i .before .touched .ensures .0 (i .if1 .taken))
 
 returns-2 : tie.Need-returns-2
 returns-2 c =
     let a = c .before .before .before .before .args in
-    row-out (a .g) (a .r) (λ y x k v. cond (eqb (a .n) 0) v (mapTable16 (a .n) (a .body .now) v)) (a .row .now)
-    (sym (c .before .selected .ensures) ∙ c .if1 .left)
+    row-untouched (a .g) (a .r) (λ y x k v. cond (eqb (a .n) 0) v (mapTable16 (a .n) (a .body .now) v)) (a .row .now)
+    (c .before .touched .ensures .1 (c .if1 .left))
 
 pub region-row16-spec : {M : Type 1} → statement M
 region-row16-spec =
     tie.close
     (tie.spec
-    selected-requires
+    touched-requires
     region-planes16-requires
     same-length
     returns
