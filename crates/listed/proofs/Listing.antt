@@ -20,7 +20,7 @@ use Rattle.marks.specs.declared.Kept.the-variants as K
 use Rattle.marks.specs.Marks.{chosen, Holds, Fits}
 use Rattle.sorts.specs.Sorts.{occ, has, Rises}
 use Rattle.marks.specs.Scratch.{Front, Packed, Gains, Joined, span}
-use Rattle.listed.specs.Listed.{block, Inside, rowAt, columnAt, inImage, atPoint, inRect, listedIn}
+use Rattle.listed.specs.Listed.{block, Inside, Within, rowAt, columnAt, inImage, atPoint, inRect, listedIn}
 use Rattle.sorts.proofs.Occ.{equal-or}
 use Rattle.marks.proofs.Chosen.{both, count-le, count-same, chosen-count, is-chosen-has}
 use Rattle.marks.proofs.Sizes.{area}
@@ -196,18 +196,66 @@ lies-so across b w r0 c0 r1 c1 s t s′ r e j =
 
 -- ---- points and rectangles
 
-one-span : (a y : ℕ) → span a (a + 1) y ≡ eqb a y
-one-span a y =
-    iff-eq _ _ (λ e. let w = span-is a (a + 1) y e in eq-eqb a y (omega (arith, w .0, w .1)))
-    (λ e. let z = eqb-true a y e in span-of a (a + 1) y (omega arith) (omega arith))
+-- a position's row and column are the window's
+at-window : (across : Bool) (w : Window) (q : ℕ) → Fits w → q < positions w → (rowAt across w q < w .height) × (columnAt across w q < w .width)
+at-window true w q f l = (mod-lt q (f .tall), div-lt-iff-lt-mul {k = w .height} {x = q} {y = w .width} (f .tall) .1 l)
+at-window false w q f l =
+    (div-lt-iff-lt-mul {k = w .width} {x = q} {y = w .height} (f .wide) .1 (rw (mul-comm (w .height) (w .width)) l), mod-lt q (f .wide))
 
-pub point-marks : (across : Bool) (w : Window) (b : List ℕ) (i r c : ℕ) → r ≡ u32At b (12 + 8 * i) → c ≡ u32At b (16 + 8 * i) → (q : ℕ)
-    → inImage across w r c (r + 1) (c + 1) q ≡ atPoint across w b i q
-unfolding inImage pointAt
-point-marks across w b i r c e d q =
-    let y : ℕ = w .y0 + rowAt across w q in
-    let x : ℕ = w .x0 + columnAt across w q in
-    ap₂ _&&_ (one-span r y ∙ ap (λ (v : ℕ). eqb v y) e) (one-span c x ∙ ap (λ (v : ℕ). eqb v x) d)
+-- and tell it
+same-place : (across : Bool) (w : Window) (q p : ℕ) → rowAt across w q ≡ rowAt across w p → columnAt across w q ≡ columnAt across w p → q ≡ p
+same-place true w q p e d =
+    omega (arith, div-add-mod' q (w .height), div-add-mod' p (w .height), ap (λ (x : ℕ). x * w .height) d, e)
+same-place false w q p e d =
+    omega (arith, div-add-mod' q (w .width), div-add-mod' p (w .width), ap (λ (y : ℕ). y * w .width) e, d)
+
+-- the position of a row and a column
+abbrev pub Lies : Bool → Window → (y x q : ℕ) → Type 0
+Lies across w y x q = (q < positions w) × (rowAt across w q ≡ y) × (columnAt across w q ≡ x)
+
+pub by-column : (across : Bool) (w : Window) (y x : ℕ) → across ≡ true → y < w .height → x < w .width → Lies across w y x (x * w .height + y)
+by-column across w y x e a b =
+    subst (λ (t : Bool). Lies t w y x (x * w .height + y)) (sym e)
+    (omega (arith, suc-mul x (w .height), mul-le-mul-right {m = suc x} {n = w .width} (w .height) b), digits-mod x a, digits-div x a)
+
+pub by-row : (across : Bool) (w : Window) (y x : ℕ) → across ≡ false → y < w .height → x < w .width → Lies across w y x (y * w .width + x)
+by-row across w y x e a b =
+    subst (λ (t : Bool). Lies t w y x (y * w .width + x)) (sym e)
+    (omega (arith, suc-mul y (w .width), mul-le-mul-right {m = suc y} {n = w .height} (w .width) a, mul-comm (w .width) (w .height)), digits-div y b, digits-mod y b)
+
+module _ (across : Bool) (w : Window) (b : List ℕ) (i r c : ℕ) (f : Fits w) (row : r ≡ u32At b (12 + 8 * i)) (column : c ≡ u32At b (16 + 8 * i)) where
+  -- a point that is named lies there
+  named : (q : ℕ) → atPoint across w b i q ≡ true → (r ≡ w .y0 + rowAt across w q) × (c ≡ w .x0 + columnAt across w q)
+  unfolding pointAt
+  named q e =
+      let t = and-both (eqb (u32At b (12 + 8 * i)) (w .y0 + rowAt across w q)) (eqb (u32At b (16 + 8 * i)) (w .x0 + columnAt across w q)) e in
+      (row ∙ eqb-true _ _ (t .0), column ∙ eqb-true _ _ (t .1))
+
+  -- inside the window it is one position
+  pub point-marks : (p : ℕ) → Within w r c → Lies across w (r - w .y0) (c - w .x0) p → (q : ℕ) → eqb q p ≡ atPoint across w b i q
+  unfolding pointAt
+  point-marks p v l q =
+      iff-eq _ _
+      (λ e.
+      let z : q ≡ p = eqb-true q p e in
+      let y : rowAt across w q ≡ r - w .y0 = ap (rowAt across w) z ∙ l .1 in
+      let x : columnAt across w q ≡ c - w .x0 = ap (columnAt across w) z ∙ l .2 in
+      let a : u32At b (12 + 8 * i) ≡ w .y0 + rowAt across w q = omega (arith, row, y, v .top) in
+      let d : u32At b (16 + 8 * i) ≡ w .x0 + columnAt across w q = omega (arith, column, x, v .left) in
+      and-of _ _ (eq-eqb _ _ a) (eq-eqb _ _ d))
+      (λ e.
+      let t = named q e in
+      eq-eqb q p
+      (same-place across w q p (omega (arith, t .0, l .1)) (omega (arith, t .1, l .2))))
+
+  -- and outside it none
+  pub point-outside : (Within w r c → ⊥) → (s : List ℕ) (n t : ℕ) → Front (positions w) s n t → Gains (positions w) (atPoint across w b i) s t s n t
+  point-outside h s n t g =
+      gains-held (positions w) (atPoint across w b i) s n t g
+      (λ q l e.
+      let t = named q e in
+      let m = at-window across w q f l in
+      absurd (h (record { top = omega (arith, t .0); left = omega (arith, t .1); bottom = omega (arith, t .0, m .0); right = omega (arith, t .1, m .1) })))
 
 pub rect-marks : (across : Bool) (w : Window) (b : List ℕ) (np i r0 c0 r1 c1 : ℕ) → r0 ≡ u32At b (12 + 8 * np + 16 * i)
     → c0 ≡ u32At b (12 + 8 * np + 16 * i + 4)

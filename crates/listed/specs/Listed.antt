@@ -1,5 +1,5 @@
 -- Listed positions: points and rectangles of the image in a window. Document 01, 'Repair': listed points and rectangles, bottom and right excluded.
-use Prim.Native.Nat.{ℕ, _+_, _*_, _/_, _%_, _^_, _≤_}
+use Prim.Native.Nat.{ℕ, _+_, _*_, _/_, _%_, _^_, _≤_, _<_}
 use mathlib.Core.Bool.{Bool, _&&_, cond}
 use mathlib.Core.List.{List}
 use Rattle.dng.specs.declared.Window.{Window}
@@ -23,6 +23,13 @@ pub record Inside (width c0 r1 c1 top : ℕ) : Type 0 where
   pub columns : c1 ≤ width
   pub rows : r1 * width ≤ top
   pub small : top ≤ 2 ^ 32
+
+-- the image position lies in the window
+pub record Within (w : Window) (row column : ℕ) : Type 0 where
+  pub top : w .y0 ≤ row
+  pub left : w .x0 ≤ column
+  pub bottom : row < w .y0 + w .height
+  pub right : column < w .x0 + w .width
 
 -- The row and the column of position q, where positions are counted by rows, or `across`: by columns.
 abbrev pub rowAt : Bool → Window → ℕ → ℕ

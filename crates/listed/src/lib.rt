@@ -3,11 +3,12 @@ use dng::Window;
 use marks::Kept;
 use marks::Marked;
 ghost use mathlib.Core.Path.{_≡_};
+ghost use mathlib.Core.Bool.{true, false};
 ghost use Prim.Native.Nat.{ℕ, _≤_, _<_, _-_, _^_};
 ghost use Rattle.dng.specs.Repair.{anyBelow, positions};
 ghost use Rattle.marks.specs.Marks.{Gathered, Fits};
 ghost use Rattle.marks.specs.Scratch.{Front, Joined};
-ghost use Rattle.listed.specs.Listed.{block, Inside, inImage, atPoint, inRect, listedIn};
+ghost use Rattle.listed.specs.Listed.{block, Inside, Within, rowAt, columnAt, inImage, atPoint, inRect, listedIn};
 
 // Columns c0 up to c1 of rows r0 up to r1, row by row.
 fn rows(
@@ -107,7 +108,37 @@ fn item(
     }
 }
 
-// Point i: the rectangle of one position.
+// Whether an image position lies in the window.
+fn inside(w: Window, row: usize, column: usize) -> bool
+    requires { ⌜ Fits w ⌝ }
+    ensures { λ r. ⌜ (r ≡ true → Within w row column) × (r ≡ false → Within w row column → ⊥) ⌝ }
+{
+    if row < w.y0 {
+        return false;
+    }
+    if column < w.x0 {
+        return false;
+    }
+    if row < w.y0 + w.height {
+        column < w.x0 + w.width
+    } else {
+        false
+    }
+}
+
+// The position in row y, column x of the window.
+fn position(w: Window, y: usize, x: usize, across: bool) -> u32
+    requires { ⌜ Fits w × (y < w .height) × (x < w .width) ⌝ }
+    ensures { λ q. ⌜ (q < positions w) × (rowAt across w q ≡ y) × (columnAt across w q ≡ x) ⌝ }
+{
+    if across {
+        (x * w.height + y) as u32
+    } else {
+        (y * w.width + x) as u32
+    }
+}
+
+// Point i.
 fn point(body: &[u8], i: usize, w: Window, s: &mut [u32], n: usize, t: usize, across: bool) -> Kept
     requires { ⌜ Front (positions w) (now s) n t ⌝ }
     requires { ⌜ Fits w ⌝ }
@@ -116,7 +147,12 @@ fn point(body: &[u8], i: usize, w: Window, s: &mut [u32], n: usize, t: usize, ac
 {
     let row = words::u32_at(body, 12 + 8 * i) as usize;
     let column = words::u32_at(body, 16 + 8 * i) as usize;
-    item(s, n, t, w, row, column, row + 1, column + 1, across)
+    if inside(w, row, column) {
+        let p = position(w, row - w.y0, column - w.x0, across);
+        marks::one(s, n, t, p, w.width * w.height)
+    } else {
+        Kept::Held { n, t }
+    }
 }
 
 // Rectangle i.

@@ -1,7 +1,10 @@
--- `listed::point` meets its contract: a point is the rectangle of one position.
+-- `listed::point` meets its contract: inside the window a point is one position, outside it none.
 -- Assumes nothing.
+use native.Mathlib.Omega.{arith}
 use borrow.Author.Needs.{needs}
-use Rattle.listed.proofs.Listing.{point-marks}
+use Rattle.marks.proofs.Sizes.{area}
+use Rattle.listed.specs.Listed.{Within}
+use Rattle.listed.proofs.Listing.{point-marks, point-outside}
 use Rattle.marks.proofs.Joining.{joined-as}
 use Rattle.listed.proofs.point.Statement.{statement}
 use Rattle.listed.proofs.point.Tie as tie
@@ -30,27 +33,54 @@ u32-at-requires-2 c κs = search needs
 cast-column : tie.Need-cast-column
 cast-column c = search needs
 
-add-item : tie.Need-add-item
-add-item c = search needs
+inside-requires : tie.Need-inside-requires
+inside-requires c κs = search needs
 
-add-item-2 : tie.Need-add-item-2
-add-item-2 c = search needs
+within : (c : tie.Then1) → Within (c .before .before .before .before .before .before .args .w) (c .before .before .before .u32-at .result) (c .before .before .u32-at2 .result)
+within c = c .before .inside .ensures .0 (c .if1 .taken)
 
-item-requires : tie.Need-item-requires
-item-requires c κs = search needs
+sub-position : tie.Need-sub-position
+sub-position c = within (c .before) .top
+
+sub-position-2 : tie.Need-sub-position-2
+sub-position-2 c = within (c .before .before) .left
+
+position-requires : tie.Need-position-requires
+position-requires c κs =
+    let v = within (c .before .before) in
+    (c .before .before .before .before .before .before .before .before .pre .1 .0, omega (arith, v .top, v .bottom), omega (arith, v .left, v .right))
+
+mul-one : tie.Need-mul-one
+mul-one c =
+    let at = c .before .before .before .before .before .before .before .before .before .before .before in
+    omega (arith, area (at .args .w) (at .pre .1 .0))
+
+one-requires : tie.Need-one-requires
+one-requires c κs = (c .before .before .before .before .before .before .before .before .before .before .before .pre .0, c .before .before .position .ensures .0)
 
 same-length : tie.Need-same-length
 same-length c = search needs
 
 returns : tie.Need-returns
 returns c =
-    let at = c .before .before .before .before .before .before .before .before in
-    let row = c .before .before .before .before .before .u32-at in
-    let column = c .before .before .before .before .u32-at2 in
-    let item = c .before .before .item in
-    joined-as _ _ _ _ _ _ (item .result)
-    (λ q l. point-marks (at .args .across) (at .args .w) (at .args .body .now) (at .args .i) (row .result) (column .result) (row .ensures)
-    (column .ensures) q) (item .ensures)
+    let at = c .before .before .before .before .before .before .before .before .before .before .before .before .before .before in
+    let a = at .args in
+    let row = c .before .before .before .before .before .before .before .before .before .before .before .u32-at in
+    let column = c .before .before .before .before .before .before .before .before .before .before .u32-at2 in
+    let place = c .before .before .before .before .before .position in
+    let one = c .before .before .one in
+    joined-as _ _ _ _ _ _ (one .result)
+    (λ q l. point-marks (a .across) (a .w) (a .body .now) (a .i) (row .result) (column .result) (at .pre .1 .0) (row .ensures) (column .ensures)
+    (place .result) (within (c .before .before .before .before .before .before .before .before)) (place .ensures) q) (one .ensures)
+
+returns-2 : tie.Need-returns-2
+returns-2 c =
+    let at = c .before .before .before .before .before .before in
+    let a = at .args in
+    let row = c .before .before .before .u32-at in
+    let column = c .before .before .u32-at2 in
+    point-outside (a .across) (a .w) (a .body .now) (a .i) (row .result) (column .result) (at .pre .1 .0) (row .ensures) (column .ensures)
+    (c .before .inside .ensures .1 (c .if1 .left)) _ _ _ (at .pre .0)
 
 pub point-spec : {M : Type 1} → statement M
 point-spec =
@@ -64,8 +94,12 @@ point-spec =
     add-u32-at-2
     u32-at-requires-2
     cast-column
-    add-item
-    add-item-2
-    item-requires
+    inside-requires
+    sub-position
+    sub-position-2
+    position-requires
+    mul-one
+    one-requires
     same-length
-    returns)
+    returns
+    returns-2)
