@@ -1,10 +1,10 @@
 -- Positions counted by columns and by rows: each is the other's, the marked ones of both are equally many, and turned marks in order are the
 -- window's. Assumes nothing.
-use Prim.Native.Nat.{ℕ, zero, suc, _+_, _-_, _*_, _/_, _%_, _^_, _≤_, _<_}
+use Prim.Native.Nat.{ℕ, zero, suc, _+_, _-_, _*_, _/_, _%_, _≤_, _<_}
 use mathlib.Core.Path.{_≡_, refl, sym, ap, ap₂, subst, _∙_}
 use mathlib.Core.Bool.{Bool, true, false, cond}
 use mathlib.Core.List.{List, _++_}
-use native.Mathlib.Nat.{div-add-mod', mod-lt, div-lt-iff-lt-mul, mul-comm, mul-le-mul-right, suc-mul, zero-mul}
+use native.Mathlib.Nat.{div-add-mod', mod-lt, div-lt-iff-lt-mul, mul-comm, mul-le-mul, mul-le-mul-right, suc-mul, zero-mul}
 use native.Mathlib.Omega.{arith}
 use lib.Arith.{digits-div, digits-mod}
 use lib.ListN.{length, getD, take, drop, length-append}
@@ -21,7 +21,6 @@ use Rattle.marks.specs.declared.Marked.the-variants as M
 use Rattle.marks.specs.Marks.{chosen, Holds, Gathered, Fits}
 use Rattle.marks.proofs.Chosen.{count-same, chosen-has, chosen-in, chosen-count, is-chosen-has}
 use Rattle.marks.proofs.Joining.{iff-eq}
-use Rattle.marks.proofs.Sizes.{area}
 use Rattle.listed.specs.Listed.{listedAt, listedIn}
 use Rattle.columns.specs.Columns.{turned, Turns}
 
@@ -115,10 +114,13 @@ module _ (w h : ℕ) (wide : 1 ≤ w) (tall : 1 ≤ h) where
       subst (λ (x : ℕ). x < w * h) is
       (turned-below w h (getD l (o .0) 0) tall (below (getD l (o .0) 0) (some-has l _ (occ-at l (o .0) j))))
 
+pub few : (w h : ℕ) (s : List ℕ) → Turns w h s → w * h ≤ 4294967296
+few w h s v = mul-le-mul (v .wide) (v .high)
+
 -- an entry that the loop has not come to
-pub still-below : (w h m : ℕ) (s₀ s : List ℕ) (i : ℕ) → Turns w h m s₀ → s ≡ each (between 0 i (λ j q. turned w h q)) s₀ → i < length s₀
+pub still-below : (w h : ℕ) (s₀ s : List ℕ) (i : ℕ) → Turns w h s₀ → s ≡ each (between 0 i (λ j q. turned w h q)) s₀ → i < length s₀
     → getD s i 0 < w * h
-still-below w h m s₀ s i v e l =
+still-below w h s₀ s i v e l =
     let same : getD s i 0 ≡ getD s₀ i 0 =
     ap (λ (x : List ℕ). getD x i 0) e ∙ getD-each (between 0 i (λ j q. turned w h q)) s₀ i 0 l
     ∙ between-high 0 i (λ j q. turned w h q) i (getD s₀ i 0) (omega arith) in
@@ -207,12 +209,12 @@ module _ (w : Window) (b : List ℕ) (np nr : ℕ) (f : Fits w) where
   over-turned s h =
       omega (arith, count-turned W H (listedAt w b np nr) (listedIn true w b np nr) (f .tall) by-columns)
 
-  pub turns : (s s₁ : List ℕ) (n : ℕ) → Holds (positions w) (listedIn true w b np nr) s s₁ n → Turns W H (2 ^ 32 / H) (take n s₁)
+  pub turns : (s s₁ : List ℕ) (n : ℕ) → Holds (positions w) (listedIn true w b np nr) s s₁ n → Turns W H (take n s₁)
   turns s s₁ n v =
       record {
         tall = f .tall;
-        small = area w f;
-        share = refl;
+        wide = f .width;
+        high = f .height;
         below = λ q e.
             let o : 1 ≤ occ (chosen (listedIn true w b np nr) 0 (positions w)) q =
             has-true (chosen (listedIn true w b np nr) 0 (positions w)) q (ap (λ (l : List ℕ). has l q) (sym (v .front)) ∙ e) in

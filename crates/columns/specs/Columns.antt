@@ -1,5 +1,5 @@
 -- Positions counted by columns, and by rows. Nothing here has to be believed: proofs/Turning says what it comes to.
-use Prim.Native.Nat.{ℕ, _+_, _*_, _/_, _%_, _^_, _≤_, _<_}
+use Prim.Native.Nat.{ℕ, _+_, _*_, _/_, _%_, _≤_, _<_}
 use mathlib.Core.Path.{_≡_}
 use mathlib.Core.Bool.{true}
 use mathlib.Core.List.{List}
@@ -10,8 +10,8 @@ unfoldable pub turned : (w h q : ℕ) → ℕ
 turned w h q = q % h * w + q / h
 
 -- what turning positions may rely on
-pub record Turns (w h m : ℕ) (s : List ℕ) : Type 0 where
+pub record Turns (w h : ℕ) (s : List ℕ) : Type 0 where
   pub tall : 1 ≤ h
-  pub small : w * h ≤ 2 ^ 32
-  pub share : m ≡ 2 ^ 32 / h
+  pub wide : w ≤ 65536
+  pub high : h ≤ 65536
   pub below : (q : ℕ) → has s q ≡ true → q < w * h

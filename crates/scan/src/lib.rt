@@ -43,7 +43,7 @@ pub fn reciprocal(w: Window) -> usize
 
 // How many rows of `width` positions lie before q, by the width's reciprocal m: the product is the row or one less, so that no
 // division is taken for a mark.
-pub fn row_of(q: usize, width: usize, m: usize) -> usize
+fn row_of(q: usize, width: usize, m: usize) -> usize
     requires { ⌜ (1 ≤ width) × ((q < 2 ^ 32) × (m ≡ 2 ^ 32 / width)) ⌝ }
     ensures { λ r. ⌜ r ≡ q / width ⌝ }
 {

@@ -1,15 +1,11 @@
 -- `columns::in_order` meets its contract: turned, then packed. Assumes nothing.
 use mathlib.Core.Path.{subst}
 use mathlib.Core.List.{List}
-use native.Mathlib.Omega.{arith}
 use borrow.Author.Needs.{needs}
 use Prim.Native.Nat.{ℕ}
 use Rattle.sorts.specs.Sorts.{Distinct}
 use Rattle.columns.proofs.in_order.Statement.{statement}
 use Rattle.columns.proofs.in_order.Tie as tie
-
-div-turn : tie.Need-div-turn
-div-turn c = omega (arith, c .before .before .pre .tall)
 
 turn-requires : tie.Need-turn-requires
 turn-requires c κs = search needs
@@ -27,4 +23,4 @@ returns c =
     subst (λ (l : List ℕ). Distinct l (pack .last .0) (pack .result)) (turn .ensures) (pack .ensures)
 
 pub in-order-spec : {M : Type 1} → statement M
-in-order-spec = tie.close (tie.spec div-turn turn-requires pack-requires same-length returns)
+in-order-spec = tie.close (tie.spec turn-requires pack-requires same-length returns)

@@ -1,49 +1,75 @@
 -- `columns::turn` meets its contract: each turn of the loop writes one position. Assumes nothing.
-use Prim.Native.Nat.{ℕ, _-_, _*_, _<_}
+use Prim.Native.Nat.{_-_, _*_, _≤_, _<_, _^_}
 use mathlib.Core.Path.{_≡_, refl, sym, ap, _∙_}
 use native.Mathlib.Omega.{arith}
-use borrow.Author.Needs.{needs}
 use lib.ListN.{length, getD}
 use Rattle.points.specs.Points.{each, between}
 use Rattle.points.proofs.Each.{length-each, each-agree}
 use Rattle.points.proofs.Parts.{between-in, each-between-empty, store}
 use Rattle.columns.specs.Columns.{turned}
-use Rattle.columns.proofs.Turning.{still-below}
+use Rattle.columns.proofs.Turning.{Parts, parts, still-below, few}
 use Rattle.columns.proofs.turn.Statement.{statement}
 use Rattle.columns.proofs.turn.Tie as tie
 
 abbrev Inv-loop : tie.InvT-loop
-Inv-loop s₀ width height m i₀ s i = (s ≡ each (between 0 i (λ j q. turned width height q)) s₀) × (length s ≡ length s₀)
+Inv-loop s₀ width height x₀ i₀ s x i = (s ≡ each (between 0 i (λ j q. turned width height q)) s₀) × (length s ≡ length s₀) × (x < 2 ^ 32)
 
 abbrev μ-loop : tie.MeasureT-loop
-μ-loop s₀ width height m i₀ s i = length s₀ - i
+μ-loop s₀ width height x₀ i₀ s x i = length s₀ - i
 
 loop-holds : tie.Need-loop-holds Inv-loop μ-loop
-loop-holds c = (sym (each-between-empty 0 0 _ _ (omega arith)), refl)
+loop-holds c = (sym (each-between-empty 0 0 _ _ (omega arith)), refl, omega arith)
 
-mul-turned : tie.Need-mul-turned Inv-loop μ-loop
-mul-turned c = omega arith
+mul-q : tie.Need-mul-q Inv-loop μ-loop
+mul-q c = omega arith
 
-slice-read-turned : tie.Need-slice-read-turned Inv-loop μ-loop
-slice-read-turned c = omega arith
+slice-read-q : tie.Need-slice-read-q Inv-loop μ-loop
+slice-read-q c = omega arith
 
 entry : (c : tie.After-slice-known2 Inv-loop μ-loop) → let a = c .before .before .before .before .args in
     getD (c .before .before .loop .s) (c .before .before .loop .i) 0 < a .width * a .height
 entry c =
     let at = c .before .before .before .before in
     let a = at .args in
-    still-below (a .width) (a .height) (a .m) (a .s .now) _ _ (at .pre) (c .before .before .loop .inv .0) (omega arith)
+    still-below (a .width) (a .height) (a .s .now) _ _ (at .pre) (c .before .before .loop .inv .0) (omega arith)
 
-cast-turned : tie.Need-cast-turned Inv-loop μ-loop
-cast-turned c = omega (arith, entry c, c .before .before .before .before .pre .small)
+-- a window's positions are no more than 2^32
+small : (c : tie.After-slice-known2 Inv-loop μ-loop) → let a = c .before .before .before .before .args in a .width * a .height ≤ 4294967296
+small c =
+    let at = c .before .before .before .before in
+    few (at .args .width) (at .args .height) (at .args .s .now) (at .pre)
 
-turned-requires : tie.Need-turned-requires Inv-loop μ-loop
-turned-requires c κs =
+known : (c : tie.After-column-of Inv-loop μ-loop) → let a = c .before .before .before .before .before .args in
+    Parts (a .width) (a .height) (getD (c .before .before .before .loop .s) (c .before .before .before .loop .i) 0) (c .column-of .result)
+known c =
+    let at = c .before .before .before .before .before in
+    parts (at .args .width) (at .args .height) _ _ (at .pre .tall) (entry (c .before)) (c .column-of .ensures)
+
+cast-q : tie.Need-cast-q Inv-loop μ-loop
+cast-q c = omega (arith, entry c, small c)
+
+column-of-requires : tie.Need-column-of-requires Inv-loop μ-loop
+column-of-requires c κs =
     let pre = c .before .before .before .before .pre in
-    (pre .tall, entry c, pre .small, pre .share)
+    (pre .tall, pre .high, omega (arith, entry c, small c), c .before .before .loop .inv .2)
 
 mul-s : tie.Need-mul-s Inv-loop μ-loop
-mul-s c = omega arith
+mul-s c = omega (arith, known c .under, entry (c .before), small (c .before))
+
+sub-s : tie.Need-sub-s Inv-loop μ-loop
+sub-s c = known c .under
+
+mul-s-2 : tie.Need-mul-s-2 Inv-loop μ-loop
+mul-s-2 c = omega (arith, known c .below, small (c .before))
+
+add-s : tie.Need-add-s Inv-loop μ-loop
+add-s c = omega (arith, known c .below, small (c .before))
+
+cast-s : tie.Need-cast-s Inv-loop μ-loop
+cast-s c = omega (arith, known c .below, small (c .before))
+
+mul-s-3 : tie.Need-mul-s-3 Inv-loop μ-loop
+mul-s-3 c = omega arith
 
 slice-write-s : tie.Need-slice-write-s Inv-loop μ-loop
 slice-write-s c = omega arith
@@ -58,8 +84,8 @@ loop-again : tie.Need-loop-again Inv-loop μ-loop
 loop-again c =
     let s = c .before .before .before .before .before .args in
     let a = c .before .before .before .loop in
-    let grown = store 0 (λ j q. turned (s .width) (s .height) q) 0 (a .i) (s .s .now) (a .s) _ (a .inv .0) (c .turned .ensures) (omega arith) (omega arith) in
-    (grown, ap length grown ∙ length-each _ _)
+    let grown = store 0 (λ j q. turned (s .width) (s .height) q) 0 (a .i) (s .s .now) (a .s) _ (a .inv .0) (known c .is) (omega arith) (omega arith) in
+    (grown, ap length grown ∙ length-each _ _, omega (arith, known c .below, small (c .before)))
 
 same-length : tie.Need-same-length Inv-loop μ-loop
 same-length c = omega arith
@@ -78,11 +104,16 @@ turn-spec =
     Inv-loop
     μ-loop
     loop-holds
-    mul-turned
-    slice-read-turned
-    cast-turned
-    turned-requires
+    mul-q
+    slice-read-q
+    cast-q
+    column-of-requires
     mul-s
+    sub-s
+    mul-s-2
+    add-s
+    cast-s
+    mul-s-3
     slice-write-s
     add-i
     loop-less
