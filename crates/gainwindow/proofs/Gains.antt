@@ -12,7 +12,7 @@ use Rattle.dng.specs.declared.Region.{Region}
 use Rattle.dng.specs.declared.Window.{Window}
 use Rattle.dng.specs.Answer.{frameOf}
 use Rattle.dng.specs.Bounds.{bounded}
-use Rattle.dng.specs.Select.{onRegion, onWindow}
+use Rattle.dng.specs.Select.{onRegion, onRow, onWindow}
 use Rattle.dng.specs.Value.{gained, ruleOf}
 use Rattle.gainwindow.specs.Columns.{MapFits, gainRule}
 use Rattle.gainwindow.specs.declared.Gain.{Gain}
@@ -25,6 +25,14 @@ module _ (op : Opcode) {x : Gain} {r : Region} {pv ph : ℕ} {g : Grid} {mp : �
 
   pub map-fits : bounded op ≡ true → MapFits pv ph g mp
   map-fits h = subst (λ (o : Opcode). bounded o ≡ true) opcode h
+
+  -- on a row, in a frame of the full sizes fw and fh
+  pub map-row : (x0 p y n fw fh : ℕ) (scale : Float) (b : List ℕ) (s row : List Float)
+      → row ≡ each (onRow x0 p y n (onRegion r (gainRule fw fh b r pv ph g mp))) s
+      → row ≡ each (onRow x0 p y n (ruleOf (record { scale = scale; fullWidth = fw; fullHeight = fh }) op b)) s
+  unfolding gained
+  map-row x0 p y n fw fh scale b s row ran =
+      ran ∙ ap (λ (o : Opcode). each (onRow x0 p y n (ruleOf (record { scale = scale; fullWidth = fw; fullHeight = fh }) o b)) s) (sym opcode)
 
   pub map-rule : (w : Window) (scale : Float) (n : ℕ) (b : List ℕ) (s row : List Float)
       → row ≡ each (onWindow w n (onRegion r (gainRule (w .«full_width») (w .«full_height») b r pv ph g mp))) s

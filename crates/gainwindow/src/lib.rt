@@ -320,7 +320,7 @@ fn columns_end(w: Window, r: Region) -> usize
 }
 
 // The blocks of the columns that the region and the window share, one after another.
-fn blocks(
+pub fn blocks(
     samples: &mut [f32],
     w: Window,
     r: Region,

@@ -1,7 +1,9 @@
 // A list on one lent row: the row form as a caller knows it. Document 01, 'Taken and left' and 'What comes back'.
 use dng::Cursor;
 use dng::Entry;
+use dng::Grid;
 use dng::Opcode;
+use dng::Region;
 use dng::RowAnswer;
 use dng::RowWindow;
 use dng::Step;
@@ -11,14 +13,16 @@ use settles::RowPlan;
 use steps::Place;
 ghost use mathlib.Core.Path.{_≡_};
 ghost use mathlib.Core.Bool.{true};
+ghost use Prim.Native.Nat.{_≤_};
 ghost use lib.ListN.{length};
 ghost use Rattle.points.specs.Points.{each};
 ghost use Rattle.dng.specs.List.{itemsOf, bodyOf};
-ghost use Rattle.dng.specs.Select.{onRow};
+ghost use Rattle.dng.specs.Select.{onRow, onRegion};
 ghost use Rattle.dng.specs.Value.{ruleOf};
 ghost use Rattle.dng.specs.Run.{rowOn};
 ghost use Rattle.dng.specs.Answer.{rowOut};
 ghost use Rattle.dng.specs.Bounds.{bounded, RowFits};
+ghost use Rattle.gainwindow.specs.Columns.{MapFits, gainRule};
 ghost use Rattle.rows.specs.Rows.{RowRan, Narrow, placeOf, Spans, windowOf, frameOf};
 
 // The row's place in the image. Its numbers are in range, so that none is cut.
@@ -65,6 +69,45 @@ fn step_one(list: &[u8], row: &mut [f32], g: Place, e: Entry, op: Opcode, scale:
     steps::row_step(&mut *row, g, op, ready, entries::body(list, e), scale);
 }
 
+// A gain map on all planes, by blocks of columns. A row that has no sample of the region is left first.
+fn gain_planes(
+    row: &mut [f32],
+    g: Place,
+    width: usize,
+    r: Region,
+    body: &[u8],
+    points_v: u32,
+    points_h: u32,
+    grid: Grid,
+    map_planes: u32,
+)
+    requires { ⌜
+        RowFits (g .x0) (g .planes) (g .y) (length (now row)) × Spans g width (length (now row)) × (g .y ≤ 16777216)
+        × MapFits «points_v» «points_h» grid «map_planes»
+        ⌝ }
+    ensures { λ _.
+        ⌜ now (row .exit)
+        ≡ each
+        (onRow (g .x0) (g .planes) (g .y) (length (now (row .entry)))
+        (onRegion r (gainRule (g .«full_width») (g .«full_height») (now (body .entry)) r «points_v» «points_h» grid «map_planes»)))
+        (now (row .entry)) ⌝ }
+{
+    let start = select::first_column(r.left, r.col_pitch, g.x0);
+    if steps::touched(g, r, start, row.len()) {
+        gainwindow::blocks(
+            row,
+            window_of(g, width),
+            r,
+            start,
+            body,
+            points_v,
+            points_h,
+            grid,
+            map_planes,
+        );
+    }
+}
+
 // One opcode of the list. The planes of a gain map share the positions of their columns; one plane has nothing to share, and no window begins
 // at a row past `MAX_PLACE`.
 fn perform_one(
@@ -98,9 +141,10 @@ fn perform_one(
             grid,
             map_planes,
         } => {
-            gainwindow::gain_window(
+            gain_planes(
                 row,
-                window_of(g, width),
+                g,
+                width,
                 region,
                 entries::body(list, e),
                 points_v,

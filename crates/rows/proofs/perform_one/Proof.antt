@@ -1,15 +1,11 @@
--- `rows::perform_one` meets its contract: the step, or a gain map's own run over the window that has the row alone. Assumes nothing.
+-- `rows::perform_one` meets its contract: the step, or a gain map on all planes. Assumes nothing.
 use borrow.Author.Needs.{needs}
 use borrow.Author.Tests.{ltb-false}
 use denote.Ref.{now}
 use lib.ListN.{length}
-use Rattle.dng.specs.declared.Window.{Window}
-use Rattle.dng.specs.Answer as answer
-use Rattle.dng.specs.Value.{ruleOf}
-use Rattle.gainwindow.proofs.Gains.{map-fits, map-rule}
+use Rattle.gainwindow.proofs.Gains.{map-fits, map-row}
 use Rattle.rows.specs.Rows.{frameOf}
 use Rattle.rows.proofs.Laws.{lent}
-use Rattle.rows.proofs.Single.{single-fits, single-ordered, single-row}
 use Rattle.rows.proofs.perform_one.Statement.{statement}
 use Rattle.rows.proofs.perform_one.Tie as tie
 
@@ -31,21 +27,18 @@ gain-of-requires c κs = search needs
 enum-known-region : tie.Need-enum-known-region
 enum-known-region c = search needs
 
-window-of-requires : tie.Need-window-of-requires
-window-of-requires c κs = search needs
-
 body-requires : tie.Need-body-requires
 body-requires c κs = search needs
 
-gain-window-requires : tie.Need-gain-window-requires
-gain-window-requires c κs =
-    let v = c .before in
-    let m = v .before .before .before in
+gain-planes-requires : tie.Need-gain-planes-requires
+gain-planes-requires c κs =
+    let m = c .before .before .before in
     let o = m .before .before in
     let i = o .before in
     let s = i .before .before .before .before .before .before in (
-      single-fits (v .window-of .ensures) (s .pre .0) (s .pre .2) (ltb-false 16777216 (s .args .g .y) (i .if2 .left)),
-      single-ordered (v .window-of .ensures) (s .pre .2),
+      s .pre .0,
+      s .pre .2,
+      ltb-false 16777216 (s .args .g .y) (i .if2 .left),
       map-fits (s .args .op) (o .gain-of .ensures) (m .region .given .1) (s .pre .1),
     )
 
@@ -61,17 +54,14 @@ same-length-2 c = search needs
 returns-2 : tie.Need-returns-2
 returns-2 c =
     let b = c .before .before .before in
-    let v = b .before in
-    let m = v .before .before .before in
+    let m = b .before .before .before in
     let o = m .before .before in
     let s = o .before .before .before .before .before .before .before in
     let a = s .args in
     let g = a .g in
     lent (frameOf g (a .scale)) (g .x0) (g .planes) (g .y) (now (a .list)) (a .e) (a .op) (b .body .ensures) (now (a .row))
-    (single-row (v .window-of .ensures) (now (a .row)) (s .pre .0) (s .pre .2)
-    (λ (w : Window). ruleOf (answer.frameOf w (a .scale)) (a .op) (b .body .result .now))
-    (map-rule (a .op) (o .gain-of .ensures) (m .region .given .1) (v .window-of .result) (a .scale) (length (now (a .row))) (b .body .result .now)
-    (now (a .row)) _ (c .before .before .gain-window .ensures)))
+    (map-row (a .op) (o .gain-of .ensures) (m .region .given .1) (g .x0) (g .planes) (g .y) (length (now (a .row))) (g .«full_width») (g .«full_height»)
+    (a .scale) (b .body .result .now) (now (a .row)) _ (c .before .before .gain-planes .ensures))
 
 same-length-3 : tie.Need-same-length-3
 same-length-3 c = search needs
@@ -89,9 +79,8 @@ perform-one-spec =
     returns
     gain-of-requires
     enum-known-region
-    window-of-requires
     body-requires
-    gain-window-requires
+    gain-planes-requires
     enum-told
     step-one-requires-2
     same-length-2
