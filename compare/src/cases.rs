@@ -42,8 +42,6 @@ fn frame(r: &mut Rng, size: usize) -> Frame {
     let (width, height) = match size {
         0 => (r.below(5), r.below(4)),
         1 => (r.within(1, 9), r.within(1, 6)),
-        // one of four far taller than wide: their listed marks are gathered by columns
-        2 if r.once(4) => (r.within(1, 3), r.within(32, 90)),
         2 => (r.within(1, 40), r.within(1, 12)),
         _ => {
             if r.once(2) {

@@ -1,6 +1,7 @@
 // The limits of document 01 at their exact places, which chance does not find.
 use crate::cases::{Case, Lengths};
 use crate::lists::{list_of, word};
+use crate::rng::Rng;
 use rolbhunga::Frame;
 
 const MOST: usize = 1 << 24;
@@ -63,6 +64,36 @@ fn bad(np: u32, nr: u32, bytes: usize) -> Vec<u8> {
 fn many(n: usize, id: u32, body: &[u8]) -> Vec<u8> {
     let e: Vec<(u32, Vec<u8>)> = (0..n).map(|_| (id, body.to_vec())).collect();
     list_of(&e)
+}
+
+// Listed points and rectangles that overlap, in windows about 16 times as tall as wide: taller ones are gathered by columns. The numbers come
+// from a fixed sequence, near the window and somewhat outside.
+fn narrow() -> Vec<(&'static str, Case)> {
+    let mut r = Rng::new(16, 0);
+    let mut v = Vec::new();
+    for n in 0..600 {
+        let width = 1 + n % 4;
+        let height = [16 * width + 15, 16 * width + 16, 16 * width + 17, 90][n / 4 % 4];
+        let at = [0, 3, 16_777_216][n % 3];
+        let frame = Frame::new(width, height, 1 + n % 2).at(at, at).stride(width + n % 3).period([1, 2, 5][n / 16 % 3]);
+        let mut near = |size: usize| (at + r.below(size + 4)).saturating_sub(2) as u32;
+        let (points, rects) = (n % 7, 1 + n % 9);
+        let mut b = words(&[0, points as u32, rects as u32]);
+        for _ in 0..points {
+            let point = [near(height), near(width)];
+            b.extend(words(&point));
+        }
+        for _ in 0..rects {
+            let (a, b0, c, d) = (near(height), near(width), near(height), near(width));
+            b.extend(words(&[a.min(c), b0.min(d), a.max(c), b0.max(d)]));
+        }
+        let mut c = case(list_of(&[(5, b)]), frame);
+        let samples = frame.stride * height * frame.planes;
+        c.floats = (0..samples).map(|i| ((i % 11) as f32).to_bits()).collect();
+        c.wholes = (0..samples).map(|i| (i % 11) as u16).collect();
+        v.push(("a narrow window", c));
+    }
+    v
 }
 
 pub fn cases() -> Vec<(&'static str, Case)> {
@@ -156,5 +187,6 @@ pub fn cases() -> Vec<(&'static str, Case)> {
     let mut c = case(rows.clone(), Frame::new(2, 2, 3));
     c.row.push(0x4000_0000);
     v.push(("a row too long", c));
+    v.extend(narrow());
     v
 }

@@ -43,3 +43,9 @@ pub record Block (x0 fw : ℕ) (r : Region) (g : Grid) (ph from w : ℕ) (hs : L
   pub lies : Lies x0 r from
   pub few : w ≤ 65536
   pub filled : Filled (x0 + from) (pitchOf r) fw (g .«origin_h») (g .«spacing_h») ph w hs ts
+
+-- tables of nh and nt entries that a block may have its positions in
+pub record Tables (nh nt : ℕ) : Type 0 where
+  pub some : 1 ≤ nh
+  pub few : nh ≤ 65536
+  pub same : nh ≤ nt

@@ -12,7 +12,7 @@ ghost use Rattle.gain.specs.Gain.{AxisIs};
 ghost use Rattle.gain.specs.Blocks.{within, Filled, Begins};
 ghost use Rattle.steps.specs.Planes.{regionPlanes};
 ghost use Rattle.turns.specs.Windows.{WindowFits, Ordered};
-ghost use Rattle.gainwindow.specs.Columns.{MapFits, pitchOf, gainRule, blockRule, Lies, Block};
+ghost use Rattle.gainwindow.specs.Columns.{MapFits, pitchOf, gainRule, blockRule, Lies, Block, Tables};
 ghost use Rattle.gainwindow.specs.Gains.{GainIs};
 use dng::Grid;
 use dng::Opcode;
@@ -261,11 +261,13 @@ fn one_block(
     points_h: u32,
     grid: Grid,
     map_planes: u32,
+    hs: &mut [u32],
+    ts: &mut [f32],
 ) -> usize
     requires { ⌜
         WindowFits w × Ordered w × First (r .left) (r .«col_pitch») (w .x0) (start .col) (start .nth)
         × MapFits «points_v» «points_h» grid «map_planes» × Lies (w .x0) r from × (w .x0 + from < end)
-        × (end ≤ 16842752)
+        × (end ≤ 16842752) × Tables (length (now hs)) (length (now ts))
         ⌝ }
     ensures { λ far. ⌜
         (now (samples .exit)
@@ -277,12 +279,10 @@ fn one_block(
         × Lies (w .x0) r far × (from < far)
         ⌝ }
 {
-    let mut hs = [0u32; 2048];
-    let mut ts = [0.0f32; 2048];
     let pitch = select::larger(r.col_pitch as usize, 1);
     let count = gain::fill_block(
-        &mut hs,
-        &mut ts,
+        hs,
+        ts,
         w.x0 + from,
         pitch,
         end,
@@ -298,8 +298,8 @@ fn one_block(
         start,
         from,
         count,
-        &hs,
-        &ts,
+        hs,
+        ts,
         body,
         points_v,
         points_h,
@@ -320,7 +320,7 @@ fn columns_end(w: Window, r: Region) -> usize
 }
 
 // The blocks of the columns that the region and the window share, one after another.
-pub fn blocks(
+fn all_blocks(
     samples: &mut [f32],
     w: Window,
     r: Region,
@@ -330,10 +330,12 @@ pub fn blocks(
     points_h: u32,
     grid: Grid,
     map_planes: u32,
+    hs: &mut [u32],
+    ts: &mut [f32],
 )
     requires { ⌜
         WindowFits w × Ordered w × First (r .left) (r .«col_pitch») (w .x0) (start .col) (start .nth)
-        × MapFits «points_v» «points_h» grid «map_planes»
+        × MapFits «points_v» «points_h» grid «map_planes» × Tables (length (now hs)) (length (now ts))
         ⌝ }
     ensures { λ _. ⌜
         now (samples .exit)
@@ -358,6 +360,67 @@ pub fn blocks(
             points_h,
             grid,
             map_planes,
+            hs,
+            ts,
+        );
+    }
+}
+
+// The same with tables that are as long as is needed: to clear the long ones costs as much as a small window.
+pub fn blocks(
+    samples: &mut [f32],
+    w: Window,
+    r: Region,
+    start: Start,
+    body: &[u8],
+    points_v: u32,
+    points_h: u32,
+    grid: Grid,
+    map_planes: u32,
+)
+    requires { ⌜
+        WindowFits w × Ordered w × First (r .left) (r .«col_pitch») (w .x0) (start .col) (start .nth)
+        × MapFits «points_v» «points_h» grid «map_planes»
+        ⌝ }
+    ensures { λ _. ⌜
+        now (samples .exit)
+        ≡ each
+        (onWindow w (length (now (samples .entry)))
+        (onRegion r (gainRule (w .«full_width») (w .«full_height») (now (body .entry)) r «points_v» «points_h» grid «map_planes»)))
+        (now (samples .entry))
+        ⌝ }
+{
+    if select::less(columns_end(w, r), w.x0 + start.col) < 128 {
+        let mut hs = [0u32; 128];
+        let mut ts = [0.0f32; 128];
+        all_blocks(
+            samples,
+            w,
+            r,
+            start,
+            body,
+            points_v,
+            points_h,
+            grid,
+            map_planes,
+            &mut hs,
+            &mut ts,
+        );
+    } else {
+        let mut hs = [0u32; 2048];
+        let mut ts = [0.0f32; 2048];
+        all_blocks(
+            samples,
+            w,
+            r,
+            start,
+            body,
+            points_v,
+            points_h,
+            grid,
+            map_planes,
+            &mut hs,
+            &mut ts,
         );
     }
 }

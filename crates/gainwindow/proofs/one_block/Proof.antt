@@ -16,19 +16,13 @@ abbrev pitched : tie.After-fill-block → tie.After-larger
 pitched f = f .before .before .before .before .before
 
 abbrev begun : tie.After-fill-block → tie.Start
-begun f = pitched f .before .before .before .before
+begun f = pitched f .before .before .before .before .before .before
 
 cast-larger : tie.Need-cast-larger
 cast-larger c = search needs
 
 larger-requires : tie.Need-larger-requires
 larger-requires c κs = search needs
-
-slice-aggregate-fill-block : tie.Need-slice-aggregate-fill-block
-slice-aggregate-fill-block c = search needs
-
-slice-aggregate-fill-block-2 : tie.Need-slice-aggregate-fill-block-2
-slice-aggregate-fill-block-2 c = search needs
 
 add-fill-block : tie.Need-add-fill-block
 add-fill-block c = search needs
@@ -39,21 +33,15 @@ cast-fill-block c = search needs
 fill-block-requires : tie.Need-fill-block-requires
 fill-block-requires c κs = search needs
 
-slice-aggregate-block-rows : tie.Need-slice-aggregate-block-rows
-slice-aggregate-block-rows c = search needs
-
-slice-aggregate-block-rows-2 : tie.Need-slice-aggregate-block-rows-2
-slice-aggregate-block-rows-2 c = search needs
-
 block-rows-requires : tie.Need-block-rows-requires
 block-rows-requires c κs =
-    let f = c .before .before .before .before .before in
+    let f = c .before .before .before .before .before .before .before in
     let s = begun f in (
       s .pre .0,
       s .pre .1,
       s .pre .2,
       s .pre .3,
-      block-filled (pitched f .larger .ensures) (s .pre .4) (omega (arith, f .fill-block .ensures .1 .fits)) (f .fill-block .ensures .0),
+      block-filled (pitched f .larger .ensures) (s .pre .4) (omega (arith, f .fill-block .ensures .1 .fits, s .pre .7 .few)) (f .fill-block .ensures .0),
     )
 
 -- the next block begins below 2^33
@@ -64,15 +52,21 @@ near f =
     far-fits (s .args .w .x0) (s .args .from) (s .args .r) (f .fill-block .ensures .1) (l .larger .ensures) (s .pre .5) (s .pre .6) (omega (arith, l .larger .ensures, l .before .struct-known .given))
 
 next-block-requires : tie.Need-next-block-requires
-next-block-requires c κs = near (c .before .before .before .before .before .before .before .before)
+next-block-requires c κs = near (c .before .before .before .before .before .before .before .before .before .before)
 
 same-length : tie.Need-same-length
 same-length c = search needs
 
+same-length-2 : tie.Need-same-length-2
+same-length-2 c = search needs
+
+same-length-3 : tie.Need-same-length-3
+same-length-3 c = search needs
+
 returns : tie.Need-returns
 returns c =
     let b = c .before in
-    let f = b .before .before .before .before .before .before .before .before in
+    let f = b .before .before .before .before .before .before .before .before .before .before in
     let s = begun f in
     let a = s .args in
     let l = pitched f .larger .ensures in
@@ -83,7 +77,7 @@ returns c =
       b .before .before .block-rows .ensures
           ∙ ap (λ (e : ℕ). each (onWindow (a .w) (length (a .samples .now)) (blockRule (a .r) (a .w .x0 + a .from) e g)) (a .samples .now)) (sym here),
       subst (Lies (a .w .x0) (a .r)) (sym (c .next-block .ensures)) (lies-next (a .w .x0) (a .from) (a .r) n l (s .pre .4) (near f)),
-      omega (arith, c .next-block .ensures, far-on (a .w .x0) (a .from) (a .r) n l (s .pre .5) (omega arith)),
+      omega (arith, c .next-block .ensures, far-on (a .w .x0) (a .from) (a .r) n l (s .pre .5) (omega (arith, s .pre .7 .some))),
     )
 
 pub one-block-spec : {M : Type 1} → statement M
@@ -92,14 +86,12 @@ one-block-spec =
     (tie.spec
     cast-larger
     larger-requires
-    slice-aggregate-fill-block
-    slice-aggregate-fill-block-2
     add-fill-block
     cast-fill-block
     fill-block-requires
-    slice-aggregate-block-rows
-    slice-aggregate-block-rows-2
     block-rows-requires
     next-block-requires
     same-length
+    same-length-2
+    same-length-3
     returns)
