@@ -19,8 +19,8 @@ use Rattle.rows.specs.Rows.{Spans, windowOf}
 -- ---- the numbers
 
 module _ {g : Place} {width n : ℕ} {w : Window} (is : w ≡ windowOf g width) where
-  pub single-fits : RowFits (g .x0) (g .planes) (g .y) n → Spans g width n → g .y ≤ 16777216 → WindowFits w
-  single-fits f s top =
+  pub single-fits : RowFits (g .x0) (g .planes) (g .y) n → Spans g width n → WindowFits w
+  single-fits f s =
       subst WindowFits (sym is)
       (record {
         widest = s .most;
@@ -29,7 +29,7 @@ module _ {g : Place} {width n : ℕ} {w : Window} (is : w ≡ windowOf g width) 
         some = f .some;
         most = f .few;
         left = f .column;
-        top = top;
+        lowest = omega (arith, f .row);
         fullWide = s .wide;
         fullHigh = s .high;
       })

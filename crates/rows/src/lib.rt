@@ -13,7 +13,6 @@ use settles::RowPlan;
 use steps::Place;
 ghost use mathlib.Core.Path.{_≡_};
 ghost use mathlib.Core.Bool.{true};
-ghost use Prim.Native.Nat.{_≤_};
 ghost use lib.ListN.{length};
 ghost use Rattle.points.specs.Points.{each};
 ghost use Rattle.dng.specs.List.{itemsOf, bodyOf};
@@ -82,7 +81,7 @@ fn gain_planes(
     map_planes: u32,
 )
     requires { ⌜
-        RowFits (g .x0) (g .planes) (g .y) (length (now row)) × Spans g width (length (now row)) × (g .y ≤ 16777216)
+        RowFits (g .x0) (g .planes) (g .y) (length (now row)) × Spans g width (length (now row))
         × MapFits «points_v» «points_h» grid «map_planes»
         ⌝ }
     ensures { λ _.
@@ -108,8 +107,7 @@ fn gain_planes(
     }
 }
 
-// One opcode of the list. The planes of a gain map share the positions of their columns; one plane has nothing to share, and no window begins
-// at a row past `MAX_PLACE`.
+// One opcode of the list. The planes of a gain map share the positions of their columns; one plane has nothing to share.
 fn perform_one(
     list: &[u8],
     row: &mut [f32],
@@ -129,7 +127,7 @@ fn perform_one(
         (ruleOf (frameOf g scale) op (bodyOf (now (list .entry)) e)))
         (now (row .entry)) ⌝ }
 {
-    if g.planes < 2 || Window::MAX_PLACE < g.y as usize {
+    if g.planes < 2 {
         step_one(list, row, g, e, op, scale);
         return;
     }

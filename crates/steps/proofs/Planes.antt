@@ -4,7 +4,7 @@ use Prim.Native.Nat.{ℕ, _+_, _-_, _*_, _/_, _%_, _≤_, _<_, min, max}
 use mathlib.Core.Path.{_≡_, refl, sym, ap, ap₂, subst, _∙_}
 use mathlib.Core.Bool.{Bool, true, false, cond, _&&_}
 use mathlib.Core.List.{List}
-use native.Mathlib.Nat.{mod-lt, div-lt-iff-lt-mul}
+use native.Mathlib.Nat.{mod-lt, div-add-mod', mul-le-mul-right}
 use native.Mathlib.Omega.{arith}
 use borrow.Author.Tests.{eq-eqb, ne-eqb, lt-leb, le-ltb}
 use lib.Dec.{leb, ltb, eqb}
@@ -119,13 +119,17 @@ module _ (g : Place) (r : Region) where
               (λ a. selects-high (r .left) (r .right) (r .«col_pitch») (g .x0 + i / g .planes) (omega arith)));
         }
 
-    -- the row ends before the region's first column
-    pub none-by-length : (n : ℕ) → 1 ≤ g .planes → n ≤ col * g .planes → Untouched g r n
+    -- the row ends before the first sample that the region's first column could have
+    pub none-by-length : (n : ℕ) → 1 ≤ g .planes → n ≤ col * g .planes + r .plane → Untouched g r n
     none-by-length n some h =
         record {
           none = λ i q.
-              let a : i / g .planes < col = div-lt-iff-lt-mul some .1 (omega arith) in
-              off-column i (f .none (r .right) (g .x0 + i / g .planes) (omega arith) (omega arith));
+              below-or (i % g .planes) (r .plane)
+              (λ a. off-plane i (rw (lt-leb (r .plane) (i % g .planes) a)))
+              (λ a.
+              below-or (i / g .planes) col
+              (λ b. off-column i (f .none (r .right) (g .x0 + i / g .planes) (omega arith) (omega arith)))
+              (λ b. absurd (omega (arith, div-add-mod' i (g .planes), mul-le-mul-right (g .planes) b))));
         }
 
   -- the row is not selected

@@ -5,12 +5,14 @@ use mathlib.Core.Path.{_≡_}
 use mathlib.Core.Bool.{Bool, false, _&&_}
 use mathlib.Core.List.{List}
 use lib.Dec.{leb, ltb}
+use lib.Ieee.{Float, binary32, mul, div}
+use Rattle.convert.specs.Convert.{wholeIn}
 use Rattle.points.specs.Points.{each}
 use Rattle.points.specs.Select.{selects, inRow, onColumns}
 use Rattle.select.specs.declared.Walk.{Walk}
 use Rattle.select.specs.declared.Start.{Start}
 use Rattle.dng.specs.declared.Region.{Region}
-use Rattle.dng.specs.Value.{position}
+use Rattle.dng.specs.Value.{position, rowIndex, nth, nought, one}
 use Rattle.gain.specs.declared.Axis.{Axis}
 use Rattle.gain.specs.Gain.{AxisIs}
 use Rattle.steps.specs.declared.Place.{Place}
@@ -58,6 +60,16 @@ AxisFor (DeltaRows n) g v = Unit
 AxisFor (DeltaColumns n) g v = Unit
 AxisFor (ScaleRows n) g v = Unit
 AxisFor (ScaleColumns n) g v = Unit
+
+-- a row's delta over the scale, or its scale, which all planes share; of any other task nothing is asked
+abbrev pub ValueFor : Task → Region → (y : ℕ) → (body : List ℕ) → (scale value : Float) → Type 0
+ValueFor (Table n) r y b scale d = Unit
+ValueFor (Polynomial e) r y b scale d = Unit
+ValueFor (Gain pv ph grid mp) r y b scale d = Unit
+ValueFor (DeltaRows n) r y b scale d = d ≡ div binary32 (mul binary32 (nth n b nought (rowIndex r y)) (wholeIn binary32 65535)) scale
+ValueFor (DeltaColumns n) r y b scale d = Unit
+ValueFor (ScaleRows n) r y b scale d = d ≡ nth n b one (rowIndex r y)
+ValueFor (ScaleColumns n) r y b scale d = Unit
 
 -- `f` at the columns of the region and at n of its planes, from its first on
 unfoldable pub regionPlanes : {A : Type 0} → Place → Region → (n : ℕ) → (ℕ → ℕ → A → A) → List A → List A

@@ -15,7 +15,7 @@ ghost use Rattle.gain.specs.Gain.{AxisIs};
 ghost use Rattle.vignette.specs.Reach.{frameAt};
 ghost use Rattle.steps.specs.Plans.{planOf, taskRule, taskFits, tableSize};
 ghost use Rattle.steps.specs.Ready.{Ready};
-ghost use Rattle.steps.specs.Planes.{WalkIs, Along, AxisFor, Untouched, mapPlane, regionPlanes};
+ghost use Rattle.steps.specs.Planes.{WalkIs, Along, AxisFor, ValueFor, Untouched, mapPlane, regionPlanes};
 use dng::Grid;
 use dng::Opcode;
 use dng::Radial;
@@ -163,24 +163,6 @@ fn table_plane(row: &mut [f32], k: Walk, body: &[u8], n: u32, scale: f32)
     }
 }
 
-fn delta_rows(row: &mut [f32], k: Walk, r: Region, y: u32, body: &[u8], n: u32, scale: f32)
-    requires { ⌜ Walks k (length (now row)) ⌝ }
-    ensures { λ _.
-        ⌜ now (row .exit) ≡ walked k (λ x p v. delta scale (nth n (now (body .entry)) nought (rowIndex r y)) v) (now (row .entry)) ⌝ }
-{
-    let d = lines::row_delta(body, n, row_index(r, y), scale);
-    lines::add_row(row, k, d);
-}
-
-fn scale_rows(row: &mut [f32], k: Walk, r: Region, y: u32, body: &[u8], n: u32)
-    requires { ⌜ Walks k (length (now row)) ⌝ }
-    ensures { λ _.
-        ⌜ now (row .exit) ≡ walked k (λ x p v. scaled (nth n (now (body .entry)) one (rowIndex r y)) v) (now (row .entry)) ⌝ }
-{
-    let s = lines::row_scale(body, n, row_index(r, y));
-    lines::scale_row(row, k, s);
-}
-
 // The plane of a map for a plane of a row, counted from the region's first; past the map's last, the last.
 pub fn map_plane(plane: usize, first: u32, planes: u32) -> u32
     ensures { λ r. ⌜ r ≡ mapPlane plane first planes ⌝ }
@@ -226,6 +208,17 @@ fn axis_of(t: Task, g: Place) -> Axis
     }
 }
 
+// The delta or the scale of a row, which all planes share. No other task asks for one.
+fn value_of(t: Task, r: Region, y: u32, body: &[u8], scale: f32) -> f32
+    ensures { λ d. ⌜ ValueFor t r y (now (body .entry)) scale d ⌝ }
+{
+    match t {
+        Task::DeltaRows { n } => lines::row_delta(body, n, row_index(r, y), scale),
+        Task::ScaleRows { n } => lines::row_scale(body, n, row_index(r, y)),
+        _ => 0.0,
+    }
+}
+
 fn gain_plane(
     row: &mut [f32],
     k: Walk,
@@ -266,7 +259,7 @@ fn gain_plane(
     );
 }
 
-// A task on one plane of a row. v is the row's axis where the task is a gain map.
+// A task on one plane of a row. v and d are what the planes share: a gain map's axis, and the row's delta or scale.
 fn one_plane(
     row: &mut [f32],
     k: Walk,
@@ -274,10 +267,13 @@ fn one_plane(
     t: Task,
     g: Place,
     v: Axis,
+    d: f32,
     body: &[u8],
     scale: f32,
 )
-    requires { ⌜ Walks k (length (now row)) × Along r k × (taskFits t ≡ true) × AxisFor t g v ⌝ }
+    requires { ⌜
+        Walks k (length (now row)) × Along r k × (taskFits t ≡ true) × AxisFor t g v × ValueFor t r (g .y) (now body) scale d
+        ⌝ }
     ensures { λ _.
         ⌜ now (row .exit)
         ≡ walked k (taskRule (frameAt scale (g .«full_width») (g .«full_height»)) r (now (body .entry)) t (g .y)) (now (row .entry)) ⌝ }
@@ -291,9 +287,9 @@ fn one_plane(
             grid,
             map_planes,
         } => gain_plane(row, k, r, g, v, body, points_v, points_h, grid, map_planes),
-        Task::DeltaRows { n } => delta_rows(row, k, r, g.y, body, n, scale),
+        Task::DeltaRows { .. } => lines::add_row(row, k, d),
         Task::DeltaColumns { n } => delta_columns(row, k, r, body, n, scale),
-        Task::ScaleRows { n } => scale_rows(row, k, r, g.y, body, n),
+        Task::ScaleRows { .. } => lines::scale_row(row, k, d),
         Task::ScaleColumns { n } => scale_columns(row, k, r, body, n),
     }
 }
@@ -322,8 +318,8 @@ pub fn planes_end(g: Place, r: Region) -> usize
     select::plane_end(r.plane, r.planes, g.planes as usize)
 }
 
-// Whether a row of len samples has any of the region's: a plane, a column, and the row itself. The row's pitch is asked last, since it may take a
-// division.
+// Whether a row of len samples has any of the region's: a plane, a column, the first of that column's samples, and the row itself. The row's
+// pitch is asked last, since it may take a division.
 pub fn touched(g: Place, r: Region, start: Start, len: usize) -> bool
     requires { ⌜
         RowFits (g .x0) (g .planes) (g .y) len × First (r .left) (r .«col_pitch») (g .x0) (start .col) (start .nth)
@@ -337,7 +333,7 @@ pub fn touched(g: Place, r: Region, start: Start, len: usize) -> bool
     if r.right as usize <= g.x0 as usize + start.col {
         return false;
     }
-    if len <= start.col * g.planes as usize {
+    if len <= start.col * g.planes as usize + r.plane as usize {
         return false;
     }
     select::row_selected(r.top, r.bottom, r.row_pitch, g.y as usize)
@@ -365,9 +361,10 @@ fn region_planes(
 {
     let end = planes_end(g, r);
     let v = axis_of(t, g);
+    let d = value_of(t, r, g.y, body, scale);
     let mut p = r.plane as usize;
     while p < end {
-        one_plane(row, walk_at(g, r, start, p), r, t, g, v, body, scale);
+        one_plane(row, walk_at(g, r, start, p), r, t, g, v, d, body, scale);
         p += 1;
     }
 }

@@ -35,7 +35,7 @@ window-fits w period h =
       some = g .some;
       most = g .most;
       left = g .left;
-      top = g .top;
+      lowest = omega (arith, g .top, g .highest);
       fullWide = g .fullWide;
       fullHigh = g .fullHigh;
     }
@@ -90,7 +90,7 @@ module _ {A : Type 0} (w : Window) (f : Rule A) (s : List A) where
         some = fits .some;
         few = fits .most;
         column = fits .left;
-        row = omega (arith, fits .top, fits .highest);
+        row = omega (arith, fits .lowest);
         short = omega (arith, length-take (end - at) (drop at t), wide-fits w fits);
       })
 

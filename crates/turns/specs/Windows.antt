@@ -4,7 +4,7 @@ use Prim.Native.Nat.{ℕ, _+_, _≤_}
 use Rattle.dng.specs.declared.Window.{Window}
 use Rattle.steps.specs.declared.Place.{Place}
 
--- the numbers of a window in range
+-- the numbers of a window in range, and those of its rows
 pub record WindowFits (w : Window) : Type 0 where
   pub widest : w .width ≤ 65536
   pub highest : w .height ≤ 65536
@@ -12,7 +12,7 @@ pub record WindowFits (w : Window) : Type 0 where
   pub some : 1 ≤ w .planes
   pub most : w .planes ≤ 8
   pub left : w .x0 ≤ 16777216
-  pub top : w .y0 ≤ 16777216
+  pub lowest : w .y0 + w .height ≤ 16842752
   pub fullWide : w .«full_width» ≤ 16777216
   pub fullHigh : w .«full_height» ≤ 16777216
 

@@ -26,10 +26,10 @@ blocks-requires c κs =
     let a = at .args in
     let start = c .before .before .before .before .first-column in
     let is = c .window-of .ensures in (
-      single-fits is (at .pre .0) (at .pre .1) (at .pre .2),
+      single-fits is (at .pre .0) (at .pre .1),
       single-ordered is (at .pre .1),
       subst (λ (w : Window). First (a .r .left) (a .r .«col_pitch») (w .x0) (start .result .col) (start .result .nth)) (sym is) (start .ensures),
-      at .pre .3,
+      at .pre .2,
     )
 
 same-length : tie.Need-same-length

@@ -1,6 +1,5 @@
 -- `rows::perform_one` meets its contract: the step, or a gain map on all planes. Assumes nothing.
 use borrow.Author.Needs.{needs}
-use borrow.Author.Tests.{ltb-false}
 use denote.Ref.{now}
 use lib.ListN.{length}
 use Rattle.gainwindow.proofs.Gains.{map-fits, map-row}
@@ -8,9 +7,6 @@ use Rattle.rows.specs.Rows.{frameOf}
 use Rattle.rows.proofs.Laws.{lent}
 use Rattle.rows.proofs.perform_one.Statement.{statement}
 use Rattle.rows.proofs.perform_one.Tie as tie
-
-cast-if2 : tie.Need-cast-if2
-cast-if2 c = search needs
 
 step-one-requires : tie.Need-step-one-requires
 step-one-requires c κs = search needs
@@ -34,11 +30,9 @@ gain-planes-requires : tie.Need-gain-planes-requires
 gain-planes-requires c κs =
     let m = c .before .before .before in
     let o = m .before .before in
-    let i = o .before in
-    let s = i .before .before .before .before .before .before in (
+    let s = o .before .before .before .before .before in (
       s .pre .0,
       s .pre .2,
-      ltb-false 16777216 (s .args .g .y) (i .if2 .left),
       map-fits (s .args .op) (o .gain-of .ensures) (m .region .given .1) (s .pre .1),
     )
 
@@ -56,7 +50,7 @@ returns-2 c =
     let b = c .before .before .before in
     let m = b .before .before .before in
     let o = m .before .before in
-    let s = o .before .before .before .before .before .before .before in
+    let s = o .before .before .before .before .before in
     let a = s .args in
     let g = a .g in
     lent (frameOf g (a .scale)) (g .x0) (g .planes) (g .y) (now (a .list)) (a .e) (a .op) (b .body .ensures) (now (a .row))
@@ -73,7 +67,6 @@ pub perform-one-spec : {M : Type 1} → statement M
 perform-one-spec =
     tie.close
     (tie.spec
-    cast-if2
     step-one-requires
     same-length
     returns

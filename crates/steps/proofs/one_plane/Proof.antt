@@ -1,17 +1,22 @@
 -- `one_plane` meets its contract, task by task. Assumes nothing.
 use Prim.Native.Nat.{ℕ}
 use mathlib.Core.Path.{_≡_, sym, ap, subst, _∙_}
-use mathlib.Core.List.{List}
+use mathlib.Core.List.{List, [], _∷_}
 use borrow.Author.Needs.{needs}
-use lib.Ieee.{Float}
+use types.Run.{OneOf, miss}
+use denote.Enum.Declared.{tagOf}
+use lib.Ieee.{Float, binary32, add}
 use Rattle.select.specs.declared.Walk.{Walk}
 use Rattle.select.specs.Walks.{walked}
 use Rattle.dng.specs.declared.Region.{Region}
+use Rattle.dng.specs.Value.{delta, scaled}
 use Rattle.vignette.specs.Reach.{frameAt}
 use Rattle.steps.specs.declared.Task.{Task}
+use Rattle.steps.specs.declared.Task.the-variants.{Table, Polynomial, Gain, DeltaRows, DeltaColumns, ScaleRows, ScaleColumns}
 use Rattle.steps.specs.declared.Place.{Place}
 use Rattle.steps.specs.Plans.{taskRule, taskFits}
-use Rattle.steps.specs.Planes.{AxisFor}
+use Rattle.steps.specs.Planes.{AxisFor, ValueFor}
+use Rattle.steps.proofs.Task.{the-type}
 use Rattle.steps.proofs.Fits.{degree-fits}
 use Rattle.steps.proofs.one_plane.Statement.{statement}
 use Rattle.steps.proofs.one_plane.Tie as tie
@@ -22,6 +27,29 @@ taken : (k : Walk) (g : Place) (scale : Float) (r : Region) (b : List ℕ) (l : 
     ≡ walked k (taskRule (frameAt scale (g .«full_width») (g .«full_height»)) r b t (g .y)) l
 taken k g scale r b l e =
     ap (λ (w : Task). walked k (taskRule (frameAt scale (g .«full_width») (g .«full_height»)) r b w (g .y)) l) (sym e)
+
+-- the row's delta and scale, in the tasks that ask for one
+module _ (k : Walk) (g : Place) (scale : Float) (r : Region) (b : List ℕ) (l : List Float) (d : Float) where
+  delta-taken : (t : Task) → OneOf (3 ∷ []) (tagOf the-type t) → ValueFor t r (g .y) b scale d
+      → walked k (λ x p v. add binary32 v d) l ≡ walked k (taskRule (frameAt scale (g .«full_width») (g .«full_height»)) r b t (g .y)) l
+  unfolding delta
+  delta-taken (Table n) h e = absurd (miss (3 ∷ []) 0 tt h)
+  delta-taken (Polynomial n) h e = absurd (miss (3 ∷ []) 1 tt h)
+  delta-taken (Gain pv ph grid mp) h e = absurd (miss (3 ∷ []) 2 tt h)
+  delta-taken (DeltaRows n) h e = ap (λ (z : Float). walked k (λ x p v. add binary32 v z) l) e
+  delta-taken (DeltaColumns n) h e = absurd (miss (3 ∷ []) 4 tt h)
+  delta-taken (ScaleRows n) h e = absurd (miss (3 ∷ []) 5 tt h)
+  delta-taken (ScaleColumns n) h e = absurd (miss (3 ∷ []) 6 tt h)
+
+  scale-taken : (t : Task) → OneOf (5 ∷ []) (tagOf the-type t) → ValueFor t r (g .y) b scale d
+      → walked k (λ x p v. scaled d v) l ≡ walked k (taskRule (frameAt scale (g .«full_width») (g .«full_height»)) r b t (g .y)) l
+  scale-taken (Table n) h e = absurd (miss (5 ∷ []) 0 tt h)
+  scale-taken (Polynomial n) h e = absurd (miss (5 ∷ []) 1 tt h)
+  scale-taken (Gain pv ph grid mp) h e = absurd (miss (5 ∷ []) 2 tt h)
+  scale-taken (DeltaRows n) h e = absurd (miss (5 ∷ []) 3 tt h)
+  scale-taken (DeltaColumns n) h e = absurd (miss (5 ∷ []) 4 tt h)
+  scale-taken (ScaleRows n) h e = ap (λ (z : Float). walked k (λ x p v. scaled z v) l) e
+  scale-taken (ScaleColumns n) h e = absurd (miss (5 ∷ []) 6 tt h)
 
 enum-known-t : tie.Need-enum-known-t
 enum-known-t c = search needs
@@ -51,26 +79,26 @@ gain-plane-requires c κs =
       subst (λ (t : Task). AxisFor t (a .g) (a .v)) (u .t3 .given .1) (s .pre .3),
     )
 
+enum-told : tie.Need-enum-told
+enum-told c = search needs
+
+add-row-requires : tie.Need-add-row-requires
+add-row-requires c κs = search needs
+
 enum-known-t-4 : tie.Need-enum-known-t-4
 enum-known-t-4 c = search needs
-
-delta-rows-requires : tie.Need-delta-rows-requires
-delta-rows-requires c κs = search needs
-
-enum-known-t-5 : tie.Need-enum-known-t-5
-enum-known-t-5 c = search needs
 
 delta-columns-requires : tie.Need-delta-columns-requires
 delta-columns-requires c κs = search needs
 
-enum-known-t-6 : tie.Need-enum-known-t-6
-enum-known-t-6 c = search needs
+enum-told-2 : tie.Need-enum-told-2
+enum-told-2 c = search needs
 
-scale-rows-requires : tie.Need-scale-rows-requires
-scale-rows-requires c κs = search needs
+scale-row-requires : tie.Need-scale-row-requires
+scale-row-requires c κs = search needs
 
-enum-known-t-7 : tie.Need-enum-known-t-7
-enum-known-t-7 c = search needs
+enum-known-t-5 : tie.Need-enum-known-t-5
+enum-known-t-5 c = search needs
 
 scale-columns-requires : tie.Need-scale-columns-requires
 scale-columns-requires c κs = search needs
@@ -107,9 +135,11 @@ same-length-4 c = search needs
 
 returns-4 : tie.Need-returns-4
 returns-4 c =
-    let u = c .before .before .before .before .before in
-    let a = u .before .before .before .before .args in
-    c .before .before .delta-rows .ensures ∙ taken (a .k) (a .g) (a .scale) (a .r) (a .body .now) (a .row .now) (u .t4 .given .1)
+    let m = c .before .before .before .before .before in
+    let s = m .before .before .before in
+    let a = s .args in
+    c .before .before .add-row .ensures
+    ∙ delta-taken (a .k) (a .g) (a .scale) (a .r) (a .body .now) (a .row .now) (a .d) (a .t) (m .match .keys4) (s .pre .4)
 
 same-length-5 : tie.Need-same-length-5
 same-length-5 c = search needs
@@ -118,16 +148,18 @@ returns-5 : tie.Need-returns-5
 returns-5 c =
     let u = c .before .before .before .before .before in
     let a = u .before .before .before .before .args in
-    c .before .before .delta-columns .ensures ∙ taken (a .k) (a .g) (a .scale) (a .r) (a .body .now) (a .row .now) (u .t5 .given .1)
+    c .before .before .delta-columns .ensures ∙ taken (a .k) (a .g) (a .scale) (a .r) (a .body .now) (a .row .now) (u .t4 .given .1)
 
 same-length-6 : tie.Need-same-length-6
 same-length-6 c = search needs
 
 returns-6 : tie.Need-returns-6
 returns-6 c =
-    let u = c .before .before .before .before .before in
-    let a = u .before .before .before .before .args in
-    c .before .before .scale-rows .ensures ∙ taken (a .k) (a .g) (a .scale) (a .r) (a .body .now) (a .row .now) (u .t6 .given .1)
+    let m = c .before .before .before .before .before in
+    let s = m .before .before .before in
+    let a = s .args in
+    c .before .before .scale-row .ensures
+    ∙ scale-taken (a .k) (a .g) (a .scale) (a .r) (a .body .now) (a .row .now) (a .d) (a .t) (m .match .keys6) (s .pre .4)
 
 same-length-7 : tie.Need-same-length-7
 same-length-7 c = search needs
@@ -136,7 +168,7 @@ returns-7 : tie.Need-returns-7
 returns-7 c =
     let u = c .before .before .before .before .before in
     let a = u .before .before .before .before .args in
-    c .before .before .scale-columns .ensures ∙ taken (a .k) (a .g) (a .scale) (a .r) (a .body .now) (a .row .now) (u .t7 .given .1)
+    c .before .before .scale-columns .ensures ∙ taken (a .k) (a .g) (a .scale) (a .r) (a .body .now) (a .row .now) (u .t5 .given .1)
 
 pub one-plane-spec : {M : Type 1} → statement M
 one-plane-spec =
@@ -148,13 +180,13 @@ one-plane-spec =
     polynomial-row-requires
     enum-known-t-3
     gain-plane-requires
+    enum-told
+    add-row-requires
     enum-known-t-4
-    delta-rows-requires
-    enum-known-t-5
     delta-columns-requires
-    enum-known-t-6
-    scale-rows-requires
-    enum-known-t-7
+    enum-told-2
+    scale-row-requires
+    enum-known-t-5
     scale-columns-requires
     same-length
     returns

@@ -13,12 +13,12 @@ use Rattle.steps.proofs.region_planes.Statement.{statement}
 use Rattle.steps.proofs.region_planes.Tie as tie
 
 abbrev Inv-loop : tie.InvT-loop
-Inv-loop row₀ g r t start body scale end v p₀ row p =
+Inv-loop row₀ g r t start body scale end v d p₀ row p =
     (row ≡ regionPlanes g r (p - r .plane) (taskRule (frameAt scale (g .«full_width») (g .«full_height»)) r body t (g .y)) row₀)
     × (r .plane ≤ p) × (p ≤ max (r .plane) end) × (length row ≡ length row₀)
 
 abbrev μ-loop : tie.MeasureT-loop
-μ-loop row₀ g r t start body scale end v p₀ row p = end - p
+μ-loop row₀ g r t start body scale end v d p₀ row p = end - p
 
 planes-end-requires : tie.Need-planes-end-requires Inv-loop μ-loop
 planes-end-requires c κs = search needs
@@ -26,12 +26,15 @@ planes-end-requires c κs = search needs
 axis-of-requires : tie.Need-axis-of-requires Inv-loop μ-loop
 axis-of-requires c κs = search needs
 
+value-of-requires : tie.Need-value-of-requires Inv-loop μ-loop
+value-of-requires c κs = search needs
+
 cast-p : tie.Need-cast-p Inv-loop μ-loop
 cast-p c = search needs
 
 loop-holds : tie.Need-loop-holds Inv-loop μ-loop
 loop-holds c =
-    let a = c .before .before .before .before .before .args in
+    let a = c .before .before .before .before .before .before .args in
     (planes-begin (a .g) (a .r) _ (a .row .now), omega arith, omega arith, refl)
 
 walk-at-requires : tie.Need-walk-at-requires Inv-loop μ-loop
@@ -40,7 +43,8 @@ walk-at-requires c κs = search needs
 one-plane-requires : tie.Need-one-plane-requires Inv-loop μ-loop
 one-plane-requires c κs =
     let h = c .before .before .before in
-    let x = h .before .before in
+    let d = h .before .before in
+    let x = d .before in
     let e = x .before in
     let s = e .before .before .before in
     let a = s .args in (
@@ -49,6 +53,7 @@ one-plane-requires c κs =
       along-of (c .walk-at .ensures),
       s .pre .2,
       x .axis-of .ensures,
+      d .value-of .ensures,
     )
 
 add-p : tie.Need-add-p Inv-loop μ-loop
@@ -63,7 +68,7 @@ loop-again : tie.Need-loop-again Inv-loop μ-loop
 loop-again c =
     let w = c .before .before .before in
     let h = w .before .before .before in
-    let a = h .before .before .before .before .before .before .args in
+    let a = h .before .before .before .before .before .before .before .args in
     let done = planes-turn (w .walk-at .ensures) _ (a .row .now) (h .loop .row) _ (h .loop .inv .1) (h .loop .inv .0) (c .before .before .one-plane .ensures) in (
       done,
       omega (arith, h .loop .inv .1),
@@ -77,7 +82,7 @@ same-length c = c .before .loop .inv .3
 returns : tie.Need-returns Inv-loop μ-loop
 returns c =
     let h = c .before in
-    let e = h .before .before .before in
+    let e = h .before .before .before .before in
     let s = e .before .before .before in
     let a = s .args in
     h .loop .inv .0
@@ -92,6 +97,7 @@ region-planes-spec =
     μ-loop
     planes-end-requires
     axis-of-requires
+    value-of-requires
     cast-p
     loop-holds
     walk-at-requires

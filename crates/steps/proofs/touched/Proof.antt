@@ -60,9 +60,18 @@ mul-if3 c =
     let s = k .before .before .before .before in
     omega (arith, first-bound _ _ _ _ _ (s .pre .1), mul-le-mul-left (s .args .start .col) (s .pre .0 .few), k .struct-known2 .given)
 
+cast-if3-2 : tie.Need-cast-if3-2
+cast-if3-2 c = search needs
+
+add-if3 : tie.Need-add-if3
+add-if3 c =
+    let k = c .before .before .before .before .before .before in
+    let s = k .before .before .before .before in
+    omega (arith, first-bound _ _ _ _ _ (s .pre .1), mul-le-mul-left (s .args .start .col) (s .pre .0 .few), k .struct-known2 .given)
+
 returns-3 : tie.Need-returns-3
 returns-3 c =
-    let s = c .before .before .before .before .before .before .before .before .before .before in
+    let s = c .before .before .before .before .before .before .before .before .before .before .before in
     no (s .args .g) (s .args .r) (s .args .len)
     (none-by-length (s .args .g) (s .args .r) (s .pre .1) (s .args .len) (s .pre .0 .some) (c .if3 .taken))
 
@@ -74,7 +83,7 @@ row-selected-requires c κs = search needs
 
 returns-4 : tie.Need-returns-4
 returns-4 c =
-    let s = c .before .before .before .before .before .before .before .before .before .before .before .before in
+    let s = c .before .before .before .before .before .before .before .before .before .before .before .before .before in
     let is = c .row-selected .ensures in
     (λ e. sym is ∙ e, λ e. none-by-row (s .args .g) (s .args .r) (s .args .len) (sym is ∙ e))
 
@@ -91,6 +100,8 @@ touched-spec =
     returns-2
     cast-if3
     mul-if3
+    cast-if3-2
+    add-if3
     returns-3
     cast-row-selected
     row-selected-requires
