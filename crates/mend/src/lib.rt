@@ -6,8 +6,7 @@ use dng::Window;
 ghost use mathlib.Core.Path.{_≡_};
 ghost use mathlib.Core.Bool.{cond};
 ghost use Prim.Native.Nat.{_≤_};
-ghost use lib.ListN.{length, replicate};
-ghost use Rattle.dng.specs.Value.{nought};
+ghost use lib.ListN.{length};
 ghost use Rattle.dng.specs.Answer.{f32Out};
 ghost use Rattle.wholeform.specs.WholeForm.{widened, narrowed, atOne};
 ghost use Rattle.mend.specs.Mend.{notTaken, numbersOf, wholeMended, heldIn, mendOut, Rounded, Mends, MendsClear, HeldAbove};
@@ -67,16 +66,6 @@ fn held(wide: &[f32]) -> usize
         i += 1;
     }
     m
-}
-
-fn clear(wide: &mut [f32])
-    ensures { λ _. ⌜ now (wide .exit) ≡ replicate (length (now (wide .entry))) nought ⌝ }
-{
-    let mut i: usize = 0;
-    while i < wide.len() {
-        wide[i] = 0.0;
-        i += 1;
-    }
 }
 
 // What the f32 run answers, and how many samples were held when they were rounded back.
@@ -189,7 +178,7 @@ pub fn mend(
         r (now (samples .exit)) (now (wide .exit)) (now (names .exit)) (now (marks .exit)) (now (values .exit)) ⌝ }
 {
     let r = attempt(list, samples, &mut *wide, w, period, marks, values, names);
-    clear(wide);
+    samples::clear_f32(wide);
     r
 }
 

@@ -1,13 +1,10 @@
 -- What a plan makes of a run, over any sample kind, which lists a form takes and which opcodes it skips. Assumes nothing.
-use mathlib.Core.Path.{_≡_, refl, sym, ap, ap₂, subst, _∙_}
+use mathlib.Core.Path.{_≡_, sym, ap, ap₂, _∙_}
 use mathlib.Core.Bool.{Bool, true, cond}
-use mathlib.Core.List.{List, [], _∷_, _++_, append-nil}
-use Prim.Native.Nat.{ℕ, zero, suc, _+_, _≤_, _<_}
-use native.Mathlib.Nat.{not-suc-le-zero, le-of-suc-le-suc}
-use native.Mathlib.Numerals.{add-one}
-use native.Mathlib.Omega.{arith}
+use mathlib.Core.List.{List}
+use Prim.Native.Nat.{ℕ, _≤_}
 use lib.Ieee.{Float}
-use lib.ListN.{length, set, drop, replicate, drop-of-length-le}
+use lib.ListN.{length}
 use Rattle.dng.specs.declared.Window.{Window}
 use Rattle.dng.specs.declared.Answer.{Answer}
 use Rattle.dng.specs.List.{Item, itemsOf}
@@ -96,20 +93,3 @@ ran m v e f i c =
       marksClear = rw (sym e) (c .marksClear);
       valuesClear = rw (sym f) (c .valuesClear);
     }
-
--- ---- a loop that fills a list from the front: after i turns the first i entries are x, the others as they came
-
-module _ {A : Type 0} (x : A) where
-  fill-suc : (i : ℕ) (d : List A) → i < length d → set (replicate i x ++ drop i d) i x ≡ replicate (suc i) x ++ drop (suc i) d
-  fill-suc i [] h = absurd (not-suc-le-zero h)
-  fill-suc zero (y ∷ d) h = refl
-  fill-suc (suc i) (y ∷ d) h = ap (λ (t : List A). x ∷ t) (fill-suc i d (le-of-suc-le-suc h))
-
-  pub fill-more : (i : ℕ) (d : List A) → i < length d → set (replicate i x ++ drop i d) i x ≡ replicate (i + 1) x ++ drop (i + 1) d
-  fill-more i d h =
-      subst (λ (k : ℕ). set (replicate i x ++ drop i d) i x ≡ replicate k x ++ drop k d) (sym (add-one i)) (fill-suc i d h)
-
-  pub fill-all : (i : ℕ) (d : List A) → i ≤ length d → length d ≤ i → replicate i x ++ drop i d ≡ replicate (length d) x
-  fill-all i d h k =
-      let e : i ≡ length d = omega arith in
-      rw (drop-of-length-le d k, append-nil) (ap (λ (n : ℕ). replicate n x) e)

@@ -6,9 +6,8 @@ use performs::Performed;
 use settles::Plan;
 ghost use mathlib.Core.Path.{_≡_};
 ghost use mathlib.Core.Bool.{cond};
-ghost use lib.ListN.{length, replicate};
+ghost use lib.ListN.{length};
 ghost use Rattle.dng.specs.List.{itemsOf};
-ghost use Rattle.dng.specs.Value.{nought};
 ghost use Rattle.dng.specs.Run.{namesOf};
 ghost use Rattle.dng.specs.Answer.{f32Out, u16Out, Ran};
 ghost use Rattle.names.specs.Names.{skippedIn, writtenIn};
@@ -57,22 +56,12 @@ fn name(list: &[u8], names: &mut [u8], done: bool, whole: bool)
     }
 }
 
-fn clear_f32(values: &mut [f32])
-    ensures { λ _. ⌜ now (values .exit) ≡ replicate (length (now (values .entry))) nought ⌝ }
-{
-    let mut i = 0;
-    while i < values.len() {
-        values[i] = 0.0;
-        i += 1;
-    }
-}
-
 // Both scratch buffers, whatever a run answers.
 fn clear(marks: &mut [u32], values: &mut [f32])
     ensures { λ _. ⌜ Clear (length (now (marks .entry))) (length (now (values .entry))) (now (marks .exit)) (now (values .exit)) ⌝ }
 {
     sorts::clear(marks);
-    clear_f32(values);
+    samples::clear_f32(values);
 }
 
 // ---- f32

@@ -4,14 +4,15 @@ use mathlib.Core.Path.{ap, _∙_}
 use borrow.Author.Needs.{needs}
 use lib.ListN.{replicate}
 use Rattle.dng.specs.Value.{nought}
+use Rattle.samples.specs.Samples.{cleared}
 use Rattle.mend.proofs.mend.Statement.{statement}
 use Rattle.mend.proofs.mend.Tie as tie
 
 attempt-requires : tie.Need-attempt-requires
 attempt-requires c κs = search needs
 
-clear-requires : tie.Need-clear-requires
-clear-requires c κs = search needs
+clear-f32-requires : tie.Need-clear-f32-requires
+clear-f32-requires c κs = search needs
 
 same-length : tie.Need-same-length
 same-length c = search needs
@@ -29,11 +30,12 @@ same-length-5 : tie.Need-same-length-5
 same-length-5 c = search needs
 
 returns : tie.Need-returns
+unfolding cleared
 returns c =
     let tried = c .before .before .before .before .before .before .before .before .before .before .before .before .before .before in
     record {
       mended = tried .attempt .ensures;
-      wideClear = c .before .before .clear .ensures ∙ ap (λ (n : ℕ). replicate n nought) (tried .attempt .kept .1 .1 .0);
+      wideClear = c .before .before .clear-f32 .ensures ∙ ap (λ (n : ℕ). replicate n nought) (tried .attempt .kept .1 .1 .0);
     }
 
 pub mend-spec : {M : Type 1} → statement M
@@ -41,7 +43,7 @@ mend-spec =
     tie.close
     (tie.spec
     attempt-requires
-    clear-requires
+    clear-f32-requires
     same-length
     same-length-2
     same-length-3
