@@ -170,7 +170,7 @@ impl Scratch {
 
     /// A scratch that no list outgrows on this frame: the answers 4, 5 and 6 cannot come. It has an entry for every position and a
     /// value for every sample, which for the largest frames is more than most machines have; [`Scratch::new`] takes less. A frame
-    /// out of range, which every run refuses, gets none.
+    /// whose width, height or planes pass the limits, which every run refuses, gets only the names.
     pub fn enough(frame: &Frame) -> Scratch {
         let fits = frame.width <= 65_536 && frame.height <= 65_536 && frame.planes <= 8;
         let positions = if fits { frame.width * frame.height } else { 0 };

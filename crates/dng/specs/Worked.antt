@@ -16,7 +16,7 @@ use Rattle.convert.specs.Convert.{wholeIn, heldTo}
 use Rattle.dng.specs.declared.Region.{Region}
 use Rattle.dng.specs.declared.Window.{Window}
 use Rattle.dng.specs.declared.Opcode.{Opcode}
-use Rattle.dng.specs.declared.Opcode.the-variants.{WarpRectilinear, FixVignetteRadial, FixBadPixelsConstant, FixBadPixelsList, TrimBounds, MapTable, GainMap, DeltaPerRow, DeltaPerColumn, ScalePerRow, ScalePerColumn, Other}
+use Rattle.dng.specs.declared.Opcode.the-variants.{WarpRectilinear, FixVignetteRadial, FixBadPixelsConstant, FixBadPixelsList, TrimBounds, MapTable, MapPolynomial, GainMap, DeltaPerRow, DeltaPerColumn, ScalePerRow, ScalePerColumn, Other}
 use Rattle.dng.specs.declared.Parsed.{Parsed}
 use Rattle.dng.specs.declared.Parsed.the-variants as P
 use Rattle.dng.specs.List.{parsedAt, warpAt, badListAt, countedAt, polynomialAt, gainAt}
@@ -58,8 +58,11 @@ pub record Layouts : Type 0 where
   pub trim : read 6 (words (1 ∷ 2 ∷ 3 ∷ 4 ∷ [])) ≡ P.Read (TrimBounds 1 2 3 4)
   pub table : read 7 (area ++ (words (2 ∷ []) ++ (0 ∷ 1 ∷ 0 ∷ 2 ∷ []))) ≡ P.Read (MapTable areaIs 2)
   pub table-short : read 7 (area ++ (words (2 ∷ []) ++ (0 ∷ 1 ∷ 0 ∷ []))) ≡ P.Malformed
+  pub polynomial : read 8 (area ++ (words (3 ∷ []) ++ doubles)) ≡ P.Read (MapPolynomial areaIs 3)
   pub gain : read 9 (area ++ (words (2 ∷ 1 ∷ []) ++ (doubles ++ (words (2 ∷ []) ++ singles)))) ≡ P.Read (GainMap areaIs 2 1 (record { «spacing_v» = double 1; «spacing_h» = double 2; «origin_v» = double 3; «origin_h» = double 4 }) 2)
-  -- map planes of 0 count as 1, and a product of 0 is malformed
+  -- map planes of 0 count as 1: four points have their four gains, five do not. A product of 0 is malformed
+  pub gain-no-planes : read 9 (area ++ (words (2 ∷ 2 ∷ []) ++ (doubles ++ (words (0 ∷ []) ++ singles)))) ≡ P.Read (GainMap areaIs 2 2 (record { «spacing_v» = double 1; «spacing_h» = double 2; «origin_v» = double 3; «origin_h» = double 4 }) 0)
+  pub gain-no-planes-short : read 9 (area ++ (words (5 ∷ 1 ∷ []) ++ (doubles ++ (words (0 ∷ []) ++ singles)))) ≡ P.Malformed
   pub gain-none : read 9 (area ++ (words (0 ∷ 1 ∷ []) ++ (doubles ++ (words (2 ∷ []) ++ singles)))) ≡ P.Malformed
   pub delta-row : read 10 (area ++ words (1 ∷ 0 ∷ [])) ≡ P.Read (DeltaPerRow areaIs 1)
   pub delta-column : read 11 (area ++ words (1 ∷ 0 ∷ [])) ≡ P.Read (DeltaPerColumn areaIs 1)
@@ -70,7 +73,7 @@ pub record Layouts : Type 0 where
 pub layouts : Layouts
 unfolding big parsedAt warpAt badListAt countedAt polynomialAt gainAt ofBits ofFields odd trailingZeros ofInt round units size span climb
 layouts =
-    record { warp = refl; vignette = refl; constant = refl; constant-short = refl; bad-list = refl; bad-list-short = refl; trim = refl; table = refl; table-short = refl; gain = refl; gain-none = refl; delta-row = refl; delta-column = refl; scale-row = refl; scale-column = refl; other = refl }
+    record { warp = refl; vignette = refl; constant = refl; constant-short = refl; bad-list = refl; bad-list-short = refl; trim = refl; table = refl; table-short = refl; polynomial = refl; gain = refl; gain-no-planes = refl; gain-no-planes-short = refl; gain-none = refl; delta-row = refl; delta-column = refl; scale-row = refl; scale-column = refl; other = refl }
 
 -- ---- values
 

@@ -284,7 +284,8 @@ fn gather_u16(samples: &[u16], w: Window, op: Opcode, body: &[u8], marks: &mut [
     }
 }
 
-// A repair over the window. With too few samples, or none in a row or column, nothing is marked and no scratch is too small.
+// A repair over the window. With too few samples, none in a row or column, or a stride below the width, nothing is marked and no scratch is too
+// small.
 pub fn fix_f32(
     samples: &mut [f32],
     w: Window,

@@ -1,4 +1,4 @@
-// Which rows, columns and planes a region selects, worked out once per row and handed to the steps as a walk.
+// Which rows, columns and planes a region selects: the first column worked out once an opcode, the rest once a row, handed to the steps as a walk.
 // The numbers are those of a region as the list has them: a pitch of 0 counts as 1.
 ghost use mathlib.Core.Path.{_≡_};
 ghost use Prim.Native.Nat.{_+_, _-_, _*_, _/_, _≤_, _<_, min, max};
