@@ -380,7 +380,7 @@ pub fn count(c: &Case, o: &Oracle, n: &mut Counts) {
     }
     if f.numbers.number == 0 {
         let s = f.samples.unwrap_or(&[]);
-        let changed = s.iter().zip(&c.floats).filter(|(a, b)| a.to_bits() != **b);
+        let changed = s.iter().zip(&c.floats).filter(|(a, b)| !same(**a, f32::from_bits(**b)));
         add(n, "samples f32 changed".into(), changed.count() as u64);
         add(n, "samples f32 NaN".into(), s.iter().filter(|v| v.is_nan()).count() as u64);
         let odd = |v: &&f32| v.is_infinite() || v.is_subnormal() || v.to_bits() == 1 << 31;
@@ -397,7 +397,7 @@ pub fn count(c: &Case, o: &Oracle, n: &mut Counts) {
         add(n, "totals left u16".into(), u.numbers.left);
     }
     if let Some(row) = result {
-        add(n, "samples row changed".into(), row.iter().zip(&c.row).filter(|(a, b)| a.to_bits() != **b).count() as u64);
+        add(n, "samples row changed".into(), row.iter().zip(&c.row).filter(|(a, b)| !same(**a, f32::from_bits(**b))).count() as u64);
     }
     let g = &c.frame;
     if doc01::in_range(g) {
