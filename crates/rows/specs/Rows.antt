@@ -1,10 +1,11 @@
 -- What a row call promises, and where its row lies in the image. Document 01, 'What comes back'.
-use Prim.Native.Nat.{ℕ, _*_, _≤_}
+use Prim.Native.Nat.{ℕ, _-_, _*_, _≤_, _<_, max}
 use mathlib.Core.List.{List}
 use mathlib.Core.Path.{_≡_}
 use lib.Ieee.{Float}
 use Rattle.dng.specs.declared.RowWindow.{RowWindow}
 use Rattle.dng.specs.declared.Window.{Window}
+use Rattle.dng.specs.declared.Region.{Region}
 use Rattle.dng.specs.declared.RowAnswer.{RowAnswer}
 use Rattle.dng.specs.Value.{Frame}
 use Rattle.dng.specs.Answer.{RowOut}
@@ -49,6 +50,26 @@ windowOf g width =
       y0 = g .y;
       «full_width» = g .«full_width»;
       «full_height» = g .«full_height»;
+    }
+
+-- a row of n samples, p to a pixel, begins c columns; an empty one counts as one column
+pub record Begun (n p c : ℕ) : Type 0 where
+  pub some : 1 ≤ c
+  pub holds : n ≤ c * p
+  pub last : (c - 1) * p < max n 1
+
+-- the region with all rows from its top to its bottom
+abbrev pub everyRow : Region → Region
+everyRow r =
+    record {
+      top = r .top;
+      left = r .left;
+      bottom = r .bottom;
+      right = r .right;
+      plane = r .plane;
+      planes = r .planes;
+      «row_pitch» = 1;
+      «col_pitch» = r .«col_pitch»;
     }
 
 abbrev pub frameOf : Place → Float → Frame

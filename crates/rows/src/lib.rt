@@ -13,6 +13,7 @@ use settles::RowPlan;
 use steps::Place;
 ghost use mathlib.Core.Path.{_≡_};
 ghost use mathlib.Core.Bool.{true};
+ghost use Prim.Native.Nat.{_*_, _≤_};
 ghost use lib.ListN.{length};
 ghost use Rattle.points.specs.Points.{each};
 ghost use Rattle.dng.specs.List.{itemsOf, bodyOf};
@@ -22,7 +23,7 @@ ghost use Rattle.dng.specs.Run.{rowOn};
 ghost use Rattle.dng.specs.Answer.{rowOut};
 ghost use Rattle.dng.specs.Bounds.{bounded, RowFits};
 ghost use Rattle.gainwindow.specs.Columns.{MapFits, gainRule};
-ghost use Rattle.rows.specs.Rows.{RowRan, Narrow, placeOf, Spans, windowOf, frameOf};
+ghost use Rattle.rows.specs.Rows.{RowRan, Narrow, placeOf, Spans, Begun, everyRow, windowOf, frameOf};
 
 // The row's place in the image. Its numbers are in range, so that none is cut.
 fn place_of(w: RowWindow, y: usize) -> Place
@@ -68,7 +69,35 @@ fn step_one(list: &[u8], row: &mut [f32], g: Place, e: Entry, op: Opcode, scale:
     steps::row_step(&mut *row, g, op, ready, entries::body(list, e), scale);
 }
 
-// A gain map on all planes, by blocks of columns. A row that has no sample of the region is left first.
+// How many columns a row begins, of at most `width`. Only one that is cut short asks for a division.
+fn columns_of(len: usize, planes: u32, width: usize) -> usize
+    requires { ⌜ (1 ≤ planes) × (planes ≤ 8) × (1 ≤ width) × (width ≤ 65536) × (len ≤ width * planes) ⌝ }
+    ensures { λ c. ⌜ Begun len planes c ⌝ }
+{
+    let p = planes as usize;
+    if width * p <= len {
+        return width;
+    }
+    select::larger((len + p - 1) / p, 1)
+}
+
+// The region, of a row that is known to be selected: at a row pitch of 1 nothing is divided again.
+fn every_row(r: Region) -> Region
+    ensures { λ s. ⌜ s ≡ everyRow r ⌝ }
+{
+    Region {
+        top: r.top,
+        left: r.left,
+        bottom: r.bottom,
+        right: r.right,
+        plane: r.plane,
+        planes: r.planes,
+        row_pitch: 1,
+        col_pitch: r.col_pitch,
+    }
+}
+
+// A gain map on all planes, by blocks of the columns that the row has. A row that has no sample of the region is left first.
 fn gain_planes(
     row: &mut [f32],
     g: Place,
@@ -93,10 +122,11 @@ fn gain_planes(
 {
     let start = select::first_column(r.left, r.col_pitch, g.x0);
     if steps::touched(g, r, start, row.len()) {
+        let columns = columns_of(row.len(), g.planes, width);
         gainwindow::blocks(
             row,
-            window_of(g, width),
-            r,
+            window_of(g, columns),
+            every_row(r),
             start,
             body,
             points_v,
