@@ -63,14 +63,15 @@ fn by_rows(samples: &mut [f32], w: Window, op: Opcode, body: &[u8], scale: f32)
     rows(samples, w, op, ready, body, scale);
 }
 
-// The rows and planes of a gain map share the positions of their columns. A single row of one plane has nothing to share.
+// The rows and planes of a gain map share the positions of their columns. A single row of one plane has nothing to share, and where there are fewer
+// samples than columns, positions for all columns would cost more than the samples.
 fn by_kind(samples: &mut [f32], w: Window, op: Opcode, body: &[u8], scale: f32)
     requires { ⌜ WindowFits w × Ordered w × (bounded op ≡ true) ⌝ }
     ensures { λ _.
         ⌜ now (samples .exit)
         ≡ each (onWindow w (length (now (samples .entry))) (ruleOf (frameOf w scale) op (now (body .entry)))) (now (samples .entry)) ⌝ }
 {
-    if w.height < 2 && w.planes < 2 {
+    if samples.len() <= w.width || w.height < 2 && w.planes < 2 {
         by_rows(samples, w, op, body, scale);
         return;
     }

@@ -24,7 +24,7 @@ gain-window-requires : tie.Need-gain-window-requires
 gain-window-requires c κs =
     let m = c .before .before in
     let o = m .before .before in
-    let s = o .before .before .before .before .before in
+    let s = o .before .before .before .before .before .before .before .before in
     (s .pre .0, s .pre .1, map-fits (s .args .op) (o .gain-of .ensures) (m .region .given .1) (s .pre .2))
 
 enum-told : tie.Need-enum-told
@@ -40,7 +40,7 @@ returns-2 : tie.Need-returns-2
 returns-2 c =
     let m = c .before .before .before .before .before in
     let o = m .before .before in
-    let a = o .before .before .before .before .before .args in
+    let a = o .before .before .before .before .before .before .before .before .args in
     map-rule (a .op) (o .gain-of .ensures) (m .region .given .1) (a .w) (a .scale) (length (a .samples .now)) (a .body .now) (a .samples .now) _
     (c .before .before .gain-window .ensures)
 
