@@ -1,4 +1,4 @@
--- The walk over the steps, over any value of a position: one neighbour, a tally step by step, and the count of sound neighbours.
+-- The walk over the steps, over any value of a position: one neighbour, a tally step by step, and whether a neighbour is sound.
 -- Assumes nothing.
 use Prim.Native.Nat.{ℕ, zero, suc, _+_, _*_, _≤_, _<_}
 use mathlib.Core.Path.{_≡_, refl, sym, ap, subst, _∙_}
@@ -7,8 +7,8 @@ use mathlib.Core.List.{List, [], _∷_, map}
 use native.Mathlib.Nat.{not-suc-le-zero, le-of-suc-le-suc}
 use native.Mathlib.Numerals.{add-one}
 use native.Mathlib.Omega.{arith}
-use borrow.Author.Tests.{lt-ltb, le-ltb, ltb-true}
-use lib.Dec.{ltb}
+use borrow.Author.Tests.{lt-ltb, le-ltb, ltb-true, le-leb, lt-leb}
+use lib.Dec.{leb, ltb}
 use lib.IntN.{ℤ, pos}
 use lib.Ieee.{Float, binary32, add}
 use lib.ListN.{length, getD, drop, List·getD-map}
@@ -171,21 +171,21 @@ module _ {w : Window} {period : ℕ} {bad : ℕ → Bool} {value : ℕ → ℕ �
       let done : i ≡ 8 = omega (arith, k .within) in
       subst (λ (j : ℕ). onward w period bad value x y j t ≡ tallyAt (w .width) (w .height) period bad value x y) done (k .left)
 
--- ---- the count
+-- ---- whether one is sound
 
+-- how many are, at step i and those after it
 abbrev pub soundFrom : Window → (period : ℕ) → (ℕ → Bool) → (x y i : ℕ) → ℕ
 soundFrom w period bad x y i = soundOn (w .width) (w .height) period bad x y (drop i steps)
 
--- i steps are made: with those that are left the count is whole
-pub record Counted (w : Window) (period : ℕ) (bad : ℕ → Bool) (x y i n : ℕ) : Type 0 where
+-- the first i steps lead to no sound neighbour: those that are left have the whole count
+pub record Unsound (w : Window) (period : ℕ) (bad : ℕ → Bool) (x y i : ℕ) : Type 0 where
   pub within : i ≤ 8
-  pub few : n ≤ i
-  pub left : n + soundFrom w period bad x y i ≡ soundFrom w period bad x y 0
+  pub left : soundFrom w period bad x y i ≡ soundFrom w period bad x y 0
 
-pub count-start : (w : Window) (period : ℕ) (bad : ℕ → Bool) (x y : ℕ) → Counted w period bad x y 0 0
-count-start w period bad x y = record { within = omega arith; few = omega arith; left = omega arith }
+pub unsound-start : (w : Window) (period : ℕ) (bad : ℕ → Bool) (x y : ℕ) → Unsound w period bad x y 0
+unsound-start w period bad x y = record { within = omega arith; left = refl }
 
-module _ {w : Window} {period : ℕ} {bad : ℕ → Bool} {x y i n : ℕ} (k : Counted w period bad x y i n) where
+module _ {w : Window} {period : ℕ} {bad : ℕ → Bool} {x y i : ℕ} (k : Unsound w period bad x y i) where
   -- one step of the count
   one : (all : List Step) → map pairOf all ≡ steps → i < 8
       → soundFrom w period bad x y i
@@ -193,22 +193,22 @@ module _ {w : Window} {period : ℕ} {bad : ℕ → Bool} {x y i n : ℕ} (k : C
   unfolding soundOn
   one all e h = rw (add-one, drop-cons steps i (pairOf stay) h, sound-pick, step-at all i e) refl
 
-  pub count-at : (all : List Step) {r : Neighbour} {xx yy : ℕ} → map pairOf all ≡ steps → i < 8
-      → r ≡ nearBy w period bad x y (stepOn all i) → r ≡ N.At xx yy → Counted w period bad x y (i + 1) (n + 1)
-  count-at all e h f g =
+  pub unsound-at : (all : List Step) {r : Neighbour} {xx yy : ℕ} → map pairOf all ≡ steps → i < 8
+      → r ≡ nearBy w period bad x y (stepOn all i) → r ≡ N.At xx yy → true ≡ leb 1 (soundFrom w period bad x y 0)
+  unsound-at all e h f g =
       let s = rw (sym f ∙ g) at (one all e h) in
-      record { within = omega arith; few = omega (arith, k .few); left = omega (arith, k .left, s) }
+      sym (le-leb 1 (soundFrom w period bad x y 0) (omega (arith, k .left, s)))
 
-  pub count-missing : (all : List Step) {r : Neighbour} → map pairOf all ≡ steps → i < 8 → r ≡ nearBy w period bad x y (stepOn all i)
-      → r ≡ N.Missing → Counted w period bad x y (i + 1) n
-  count-missing all e h f g =
+  pub unsound-missing : (all : List Step) {r : Neighbour} → map pairOf all ≡ steps → i < 8 → r ≡ nearBy w period bad x y (stepOn all i)
+      → r ≡ N.Missing → Unsound w period bad x y (i + 1)
+  unsound-missing all e h f g =
       let s = rw (sym f ∙ g) at (one all e h) in
-      record { within = omega arith; few = omega (arith, k .few); left = omega (arith, k .left, s) }
+      record { within = omega arith; left = omega (arith, k .left, s) }
 
-  pub count-end : 8 ≤ i → n ≡ soundFrom w period bad x y 0
+  pub unsound-end : 8 ≤ i → false ≡ leb 1 (soundFrom w period bad x y 0)
   unfolding soundOn
-  count-end h =
+  unsound-end h =
       let done : i ≡ 8 = omega (arith, k .within) in
-      let s : n + 0 ≡ soundFrom w period bad x y 0 =
-      subst (λ (j : ℕ). n + soundFrom w period bad x y j ≡ soundFrom w period bad x y 0) done (k .left) in
-      omega arith
+      let s : 0 ≡ soundFrom w period bad x y 0 =
+      subst (λ (j : ℕ). soundFrom w period bad x y j ≡ soundFrom w period bad x y 0) done (k .left) in
+      sym (lt-leb 1 (soundFrom w period bad x y 0) (omega (arith, s)))

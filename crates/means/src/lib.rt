@@ -308,28 +308,26 @@ pub fn sum_u16(
     searched_u16(samples, marks, n, w, period, x, y, plane)
 }
 
-// How many sound neighbours a position has: whether it can be repaired at all depends on the marks only.
-fn sound_count(marks: &[u32], n: usize, w: Window, period: usize, x: usize, y: usize) -> u32
+// Whether a neighbour is sound, asked in order up to the first that is.
+fn has_sound(marks: &[u32], n: usize, w: Window, period: usize, x: usize, y: usize) -> bool
     requires { ⌜ Asks (now marks) n w period x y ⌝ }
-    ensures { λ r. ⌜ r ≡ soundOn (w .width) (w .height) period (marked (now (marks .entry)) n) x y steps ⌝ }
+    ensures { λ r. ⌜ r ≡ leb 1 (soundOn (w .width) (w .height) period (marked (now (marks .entry)) n) x y steps) ⌝ }
 {
     let all = steps();
-    let mut count: u32 = 0;
     let mut i = 0;
     while i < 8 {
         let s = all[i];
         let near = beside(marks, n, w, period, x, y, s);
         match near {
             Neighbour::At { x: _, y: _ } => {
-                count += 1;
-                i += 1;
+                return true;
             }
             Neighbour::Missing => {
                 i += 1;
             }
         }
     }
-    count
+    false
 }
 
 // Whether any neighbour lies in the window: beside one on the diagonal lie two others.
@@ -365,7 +363,7 @@ pub fn any_sound(
     if lone {
         return any_inside(w, period, x, y);
     }
-    1 <= sound_count(marks, n, w, period, x, y)
+    has_sound(marks, n, w, period, x, y)
 }
 
 // The mean: one division.

@@ -1,4 +1,4 @@
--- `means::any_sound` meets its contract: whether the count is not 0. Assumes nothing.
+-- `means::any_sound` meets its contract: of a lone position the count with no marks is the count. Assumes nothing.
 use Prim.Native.Nat.{ℕ}
 use mathlib.Core.Path.{ap, _∙_}
 use borrow.Author.Needs.{needs}
@@ -19,11 +19,11 @@ returns c =
     ∙ ap (λ (k : ℕ). leb 1 k)
     (lone-count (marked (a .marks .now) (a .n)) (a .w) (a .period) (a .x) (a .y) (s .pre .1 (c .before .if1 .taken)))
 
-sound-count-requires : tie.Need-sound-count-requires
-sound-count-requires c κs = search needs
+has-sound-requires : tie.Need-has-sound-requires
+has-sound-requires c κs = search needs
 
 returns-2 : tie.Need-returns-2
-returns-2 c = ap (λ (k : ℕ). leb 1 k) (c .sound-count .ensures)
+returns-2 c = c .has-sound .ensures
 
 pub any-sound-spec : {M : Type 1} → statement M
-any-sound-spec = tie.close (tie.spec any-inside-requires returns sound-count-requires returns-2)
+any-sound-spec = tie.close (tie.spec any-inside-requires returns has-sound-requires returns-2)

@@ -1,4 +1,4 @@
--- `means::sound_count` meets its contract: the walk over the steps that only counts. Assumes nothing.
+-- `means::has_sound` meets its contract: the walk over the steps that ends at the first sound neighbour. Assumes nothing.
 use Prim.Native.Nat.{_-_}
 use mathlib.Core.Path.{_≡_}
 use mathlib.Core.List.{List, map}
@@ -6,15 +6,15 @@ use borrow.Author.Needs.{needs}
 use Rattle.dng.specs.Repair.{steps}
 use Rattle.means.specs.declared.Step.{Step}
 use Rattle.means.specs.Looks.{marked, pairOf}
-use Rattle.means.proofs.Walking.{Counted, count-start, count-at, count-missing, count-end, step-one}
-use Rattle.means.proofs.sound_count.Statement.{statement}
-use Rattle.means.proofs.sound_count.Tie as tie
+use Rattle.means.proofs.Walking.{Unsound, unsound-start, unsound-at, unsound-missing, unsound-end, step-one}
+use Rattle.means.proofs.has_sound.Statement.{statement}
+use Rattle.means.proofs.has_sound.Tie as tie
 
 abbrev Inv-loop : tie.InvT-loop
-Inv-loop marks n w period x y all count₀ i₀ count i = Counted w period (marked marks n) x y i count
+Inv-loop marks n w period x y all i₀ i = Unsound w period (marked marks n) x y i
 
 abbrev μ-loop : tie.MeasureT-loop
-μ-loop marks n w period x y all count₀ i₀ count i = 8 - i
+μ-loop marks n w period x y all i₀ i = 8 - i
 
 -- the turn of the loop that a neighbour belongs to
 abbrev turn : tie.After-beside Inv-loop μ-loop → tie.In-loop Inv-loop μ-loop
@@ -33,7 +33,7 @@ steps-requires c κs = search needs
 loop-holds : tie.Need-loop-holds Inv-loop μ-loop
 loop-holds c =
     let a = c .before .before .args in
-    count-start (a .w) (a .period) (marked (a .marks .now) (a .n)) (a .x) (a .y)
+    unsound-start (a .w) (a .period) (marked (a .marks .now) (a .n)) (a .x) (a .y)
 
 mul-s : tie.Need-mul-s Inv-loop μ-loop
 mul-s c = search needs
@@ -49,8 +49,14 @@ beside-requires c κs =
 enum-told : tie.Need-enum-told Inv-loop μ-loop
 enum-told c = search needs
 
-add-count : tie.Need-add-count Inv-loop μ-loop
-add-count c = search needs
+returns : tie.Need-returns Inv-loop μ-loop
+returns c =
+    let b = c .before .before in
+    unsound-at (turn b .before .loop .inv) (array (turn b)) (made (turn b)) (turn b .loop-test .taken) (b .beside .ensures)
+    (c .enum-told .given .1)
+
+enum-told-2 : tie.Need-enum-told-2 Inv-loop μ-loop
+enum-told-2 c = search needs
 
 add-i : tie.Need-add-i Inv-loop μ-loop
 add-i c = search needs
@@ -61,29 +67,14 @@ loop-less c = search needs
 loop-again : tie.Need-loop-again Inv-loop μ-loop
 loop-again c =
     let b = c .before .before in
-    count-at (turn b .before .loop .inv) (array (turn b)) (made (turn b)) (turn b .loop-test .taken) (b .beside .ensures)
-    (c .enum-told .given .1)
-
-enum-told-2 : tie.Need-enum-told-2 Inv-loop μ-loop
-enum-told-2 c = search needs
-
-add-i-2 : tie.Need-add-i-2 Inv-loop μ-loop
-add-i-2 c = search needs
-
-loop-less-2 : tie.Need-loop-less-2 Inv-loop μ-loop
-loop-less-2 c = search needs
-
-loop-again-2 : tie.Need-loop-again-2 Inv-loop μ-loop
-loop-again-2 c =
-    let b = c .before .before in
-    count-missing (turn b .before .loop .inv) (array (turn b)) (made (turn b)) (turn b .loop-test .taken) (b .beside .ensures)
+    unsound-missing (turn b .before .loop .inv) (array (turn b)) (made (turn b)) (turn b .loop-test .taken) (b .beside .ensures)
     (c .enum-told2 .given .1)
 
-returns : tie.Need-returns Inv-loop μ-loop
-returns c = count-end (c .before .loop .inv) (c .loop-test .left)
+returns-2 : tie.Need-returns-2 Inv-loop μ-loop
+returns-2 c = unsound-end (c .before .loop .inv) (c .loop-test .left)
 
-pub sound-count-spec : {M : Type 1} → statement M
-sound-count-spec =
+pub has-sound-spec : {M : Type 1} → statement M
+has-sound-spec =
     tie.close
     (tie.spec
     Inv-loop
@@ -94,12 +85,9 @@ sound-count-spec =
     array-copy-out-s
     beside-requires
     enum-told
-    add-count
+    returns
+    enum-told-2
     add-i
     loop-less
     loop-again
-    enum-told-2
-    add-i-2
-    loop-less-2
-    loop-again-2
-    returns)
+    returns-2)
