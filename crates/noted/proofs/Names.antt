@@ -5,7 +5,7 @@ use mathlib.Core.Bool.{Bool, true, false, cond}
 use mathlib.Core.List.{List, [], _∷_, _++_, map, append-assoc, append-nil}
 use native.Mathlib.Omega.{arith}
 use native.Mathlib.Numerals.{add-one}
-use borrow.Author.Tests.{eqb-true, eq-eqb, ne-eqb, lt-ltb, le-ltb}
+use borrow.Author.Tests.{eqb-true, eq-eqb, ne-eqb, lt-ltb, le-ltb, ltb-true, ltb-false}
 use lib.Dec.{eqb, ltb}
 use lib.ListN.{length, length-append, getD, take, drop, drop-of-length-le, List·getD-eq-default}
 use lib.Seq.{take-suc, drop-cons}
@@ -77,14 +77,16 @@ module _ (ns : List ℕ) (x : ℕ) where
 
 -- ---- what stands for the k-th name
 
-module _ (ns : List ℕ) (k : ℕ) {m : ℕ} (e : m ≡ occurs (getD ns k 0) (take k ns)) where
-  pub piece-again : 0 < m → [] ≡ pieceAt ns k
+module _ (ns : List ℕ) (k : ℕ) {again : Bool} (e : again ≡ ltb 0 (occurs (getD ns k 0) (take k ns))) where
+  pub piece-again : again ≡ true → [] ≡ pieceAt ns k
   unfolding pieceAt
-  piece-again h = let f : eqb (occurs (getD ns k 0) (take k ns)) 0 ≡ false = ne-eqb (occurs (getD ns k 0) (take k ns)) 0 (λ z. omega (arith, e, z)) in simp f
+  piece-again h =
+      let n = occurs (getD ns k 0) (take k ns) in
+      let f : eqb n 0 ≡ false = ne-eqb n 0 (λ z. omega (arith, ltb-true 0 n (sym e ∙ h), z)) in simp f
 
-  module _ (h : m ≤ 0) where
+  module _ (h : again ≡ false) where
     first : eqb (occurs (getD ns k 0) (take k ns)) 0 ≡ true
-    first = eq-eqb (occurs (getD ns k 0) (take k ns)) 0 (omega (arith, e))
+    first = let n = occurs (getD ns k 0) (take k ns) in eq-eqb n 0 (omega (arith, ltb-false 0 n (sym e ∙ h)))
 
     pub piece-first : k ≡ 0 → item ns (getD ns k 0) ≡ pieceAt ns k
     unfolding pieceAt

@@ -47,7 +47,14 @@ pub names-none : (p : Class → Bool) {is : List Item} → is ≡ [] → namesOf
 unfolding namesOf
 names-none p h = ap (namesOf p) h
 
--- ---- how often a name occurs from an index on
+-- ---- how often a name occurs
+
+pub occurs-append : (x : ℕ) (l m : List ℕ) → occurs x (l ++ m) ≡ occurs x l + occurs x m
+unfolding occurs
+occurs-append x [] m = omega arith
+occurs-append x (n ∷ l) m = let h = occurs-append x l m in omega arith
+
+-- from an index on
 
 module _ (x : ℕ) (ns : List ℕ) (i : ℕ) where
   pub occurs-more : i < length ns → occurs x (drop i ns) ≡ cond (eqb (getD ns i 0) x) 1 0 + occurs x (drop (i + 1) ns)

@@ -18,6 +18,7 @@ use Rattle.dng.specs.List.{Item, readingOf, itemsOf}
 use Rattle.dng.specs.Run.{Class, classOf, nameOf, namesOf, skipped}
 use Rattle.list.proofs.Fold.{items-bound, refused}
 use Rattle.noted.specs.Note.{nameTexts, nameText, occurs, item, firsts, behind, joined, names, about, pixel, every, applied, notApplied, lines, linesOf, malformedAfter, noteOn, noteOf}
+use Rattle.noted.proofs.Parts.{occurs-append}
 use Rattle.noted.proofs.Names.{malformed-length}
 
 -- ---- one name
@@ -66,11 +67,6 @@ item-short ns x h =
 absent : ℕ → List ℕ → ℕ
 absent zero l = 0
 absent (suc n) l = cond (eqb (occurs n l) 0) 1 0 + absent n l
-
-occurs-append : (x : ℕ) (l m : List ℕ) → occurs x (l ++ m) ≡ occurs x l + occurs x m
-unfolding occurs
-occurs-append x [] m = omega arith
-occurs-append x (n ∷ l) m = let h = occurs-append x l m in omega arith
 
 one-fewer : (a b : ℕ) → a ≤ b → cond (eqb b 0) 1 0 ≤ cond (eqb a 0) 1 0
 one-fewer a b h = go (eqb b 0) refl

@@ -8,7 +8,8 @@ ghost use mathlib.Core.Path.{_≡_};
 ghost use mathlib.Core.Bool.{cond};
 ghost use mathlib.Core.List.{_∷_, []};
 ghost use Prim.Native.Nat.{_+_, _≤_, _<_};
-ghost use lib.ListN.{length};
+ghost use lib.Dec.{ltb};
+ghost use lib.ListN.{length, getD, take};
 ghost use Rattle.texts.specs.Appended.{Appended};
 ghost use Rattle.dng.specs.List.{itemsOf};
 ghost use Rattle.dng.specs.Run.{classOf, nameOf, namesOf};
@@ -159,14 +160,14 @@ fn put_item(out: &mut [u8], at: usize, codes: &[u8], code: u8) -> usize
 }
 
 // A name where it appears first, and nothing where it appears again.
-fn put_piece(out: &mut [u8], at: usize, codes: &[u8], k: usize) -> usize
-    requires { ⌜ (k < length (now codes)) × (at + length (pieceAt (now codes) k) ≤ length (now out)) ⌝ }
+fn put_piece(out: &mut [u8], at: usize, codes: &[u8], k: usize, again: bool) -> usize
+    requires { ⌜ (k < length (now codes)) × (again ≡ ltb 0 (occurs (getD (now codes) k 0) (take k (now codes)))) × (at + length (pieceAt (now codes) k) ≤ length (now out)) ⌝ }
     ensures { λ r. ⌜ Appended (now (out .entry)) at (pieceAt (now (codes .entry)) k) r (now (out .exit)) ⌝ }
 {
-    let code = codes[k];
-    if 0 < count(&codes[..k], code) {
+    if again {
         return at;
     }
+    let code = codes[k];
     if k == 0 {
         put_item(&mut *out, at, codes, code)
     } else {
@@ -175,14 +176,18 @@ fn put_piece(out: &mut [u8], at: usize, codes: &[u8], k: usize) -> usize
     }
 }
 
+// A name that has appeared has its flag set, so that it is passed over in one step where it appears again.
 fn put_names(out: &mut [u8], at: usize, codes: &[u8]) -> usize
     requires { ⌜ at + length (names (now codes)) ≤ length (now out) ⌝ }
     ensures { λ r. ⌜ Appended (now (out .entry)) at (names (now (codes .entry))) r (now (out .exit)) ⌝ }
 {
+    let mut seen = [false; 256];
     let mut end = at;
     let mut k: usize = 0;
     while k < codes.len() {
-        end = put_piece(&mut *out, end, codes, k);
+        let code = codes[k] as usize;
+        end = put_piece(&mut *out, end, codes, k, seen[code]);
+        seen[code] = true;
         k += 1;
     }
     end
