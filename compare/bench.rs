@@ -1,6 +1,6 @@
 // One kind of work on one side, for counting or for time: the same list, window and samples for both. See compare/bench.
 use dng_opcodes::{apply, apply_u16, parse, Opcode, PlaneImage, RowOps};
-use rolbhunga::{Frame, Reading, Room};
+use rolbhunga::{Answer, Frame, Reading, Room};
 use std::time::Instant;
 
 const KINDS: [&str; 15] = [
@@ -26,6 +26,10 @@ const FORMS: [&str; 3] = ["", "-3", "-p2"];
 
 // What a list of `many` opcodes is made of, each over the same small window; `read` is the scale list, only read.
 const MANY: [&str; 5] = ["scale-row", "gain", "vignette", "constant", "read"];
+
+// Marks side by side, listed as rectangles of a window of 2048 by 1536: a column, a row, 125 of 2 by 2, 31 of 4 by 4, one of 32 by 32 and one
+// of 100 by 100, in which only the marks near the edge can be repaired.
+const BESIDE: [&str; 6] = ["column", "row", "2-by-2", "4-by-4", "32-by-32", "100-by-100"];
 
 extern "C" {
     fn syscall(number: i64, ...) -> i64;
@@ -253,6 +257,54 @@ fn named(kind: &str, n: u32) {
     assert!(done);
 }
 
+fn rectangles(kind: &str) -> Vec<[u32; 4]> {
+    let apart = |n: u32, size: u32| (0..n).map(|i| [i * 12 + 6, i * 97 % 2000 + 6, i * 12 + 6 + size, i * 97 % 2000 + 6 + size]).collect();
+    match kind {
+        "column" => vec![[0, 1000, 1536, 1001]],
+        "row" => vec![[700, 0, 701, 2048]],
+        "2-by-2" => apart(125, 2),
+        "4-by-4" => apart(31, 4),
+        "32-by-32" => apart(1, 32),
+        _ => apart(1, 100),
+    }
+}
+
+fn list_of(rectangles: &[[u32; 4]]) -> Vec<u8> {
+    let mut b = Vec::new();
+    for x in [0, 0, rectangles.len() as u32].iter().chain(rectangles.iter().flatten()) {
+        word(&mut b, *x);
+    }
+    let mut list = Vec::new();
+    word(&mut list, 1);
+    entry(&mut list, 5, &b);
+    list
+}
+
+// A repair of these, of f32 or u16 samples and with one plane or three, with exactly the room that it needs.
+fn beside(kind: &str, whole: bool, planes: usize, ours: bool) {
+    let (w, h) = (2048, 1536);
+    let at = rectangles(kind);
+    let list = list_of(&at);
+    let frame = Frame::new(w, h, planes).period(2);
+    let mut wholes: Vec<u16> = (0..w * h * planes).map(|i| (i % 4093) as u16).collect();
+    let mut floats: Vec<f32> = wholes.iter().map(|&v| v as f32).collect();
+    let marks: usize = at.iter().map(|r| ((r[2] - r[0]) * (r[3] - r[1])) as usize).sum();
+    let (mut marks, mut values) = (vec![0; marks], vec![0.0; marks * planes]);
+    let answer = frame.run_u16(&list, &mut wholes.clone(), &mut Room { marks: &mut marks, values: &mut values, names: &mut [] });
+    let Answer::Done { repaired, .. } = answer else { panic!("not repaired") };
+    let mut room = Room { marks: &mut marks, values: &mut values[..repaired as usize * planes], names: &mut [] };
+    let ops = parse(&list).expect("the list can be read");
+    mark(1);
+    let done = match (ours, whole) {
+        (true, true) => frame.run_u16(&list, &mut wholes, &mut room).number() == 0,
+        (true, false) => frame.run_f32(&list, &mut floats, &mut room).number() == 0,
+        (false, true) => apply_u16(&ops, &mut PlaneImage::new(&mut wholes, w, h, planes), 2, false).is_some(),
+        (false, false) => apply(&ops, &mut PlaneImage::new(&mut floats, w, h, planes), 2, 1.0, false).is_empty(),
+    };
+    mark(2);
+    assert!(done);
+}
+
 // One list of rectangles, with exactly the room that it needs: three quarters of a window in order, and then n times the same other one, which
 // stands behind the marks that are in order while the room is nearly full ("rows"); or n times one column of a window of four ("columns").
 fn overlapping(kind: &str, n: u32) {
@@ -260,18 +312,8 @@ fn overlapping(kind: &str, n: u32) {
     let (w, h) = if columns { (4, 65_536) } else { (2048, 512) };
     let again = if columns { [0, 1, h, 2] } else { [0, 0, 32, w - 1] };
     let first = if columns { [0, 0, 1, 1] } else { [128, 0, h, w] };
-    let mut b = Vec::new();
-    for x in [0, 0, n + 1] {
-        word(&mut b, x);
-    }
-    for r in std::iter::once(first).chain((0..n).map(|_| again)) {
-        for x in r {
-            word(&mut b, x);
-        }
-    }
-    let mut list = Vec::new();
-    word(&mut list, 1);
-    entry(&mut list, 5, &b);
+    let all: Vec<[u32; 4]> = std::iter::once(first).chain((0..n).map(|_| again)).collect();
+    let list = list_of(&all);
     let size = |r: [u32; 4]| ((r[2] - r[0]) * (r[3] - r[1])) as usize;
     let room = size(first) + size(again);
     let mut samples = vec![1.0; (w * h) as usize];
@@ -308,6 +350,13 @@ fn main() {
             _ if ["points", "repeats", "full"].contains(&args[1].as_str()) => named(&args[1], args[2].parse().expect("how many")),
             _ if ["rows", "columns"].contains(&args[1].as_str()) => overlapping(&args[1], args[2].parse().expect("how many")),
             _ => many(&args[1], args[2].parse().expect("how many")),
+        }
+        return;
+    }
+    if args.first().is_some_and(|a| a == "beside") {
+        match args.len() {
+            1 => BESIDE.iter().for_each(|kind| println!("{kind}")),
+            _ => beside(&args[1], args[2] == "u16", args[3].parse().expect("how many planes"), args[4] == "ours"),
         }
         return;
     }

@@ -16,31 +16,54 @@ use scan::Spot;
 // ---- the marks
 
 // Whether a position has a sound neighbour, by the search.
-fn mends_at(marks: &[u32], n: usize, w: Window, step: usize, spot: Spot) -> bool
+fn mends_at(
+    marks: &[u32],
+    n: usize,
+    w: Window,
+    step: usize,
+    spot: Spot,
+    places: &mut [usize; 8],
+) -> bool
     requires { ⌜ Asks (now marks) n w step (spot .x) (spot .y) ⌝ }
     ensures { λ r. ⌜ r ≡ mendsAt w step (marked (now (marks .entry)) n) (spot .x) (spot .y) ⌝ }
 {
-    means::any_sound(marks, n, w, step, spot.x, spot.y, false)
+    means::any_sound(marks, n, w, step, spot.x, spot.y, false, places)
 }
 
 // The same of a position that may be known to be lone: then nothing is searched for. Apart from the search, this is short enough for a loop.
-fn mends_told(marks: &[u32], n: usize, w: Window, step: usize, spot: Spot, lone: bool) -> bool
+fn mends_told(
+    marks: &[u32],
+    n: usize,
+    w: Window,
+    step: usize,
+    spot: Spot,
+    lone: bool,
+    places: &mut [usize; 8],
+) -> bool
     requires { ⌜ Asks (now marks) n w step (spot .x) (spot .y) × Told lone (marked (now marks) n) w step (spot .x) (spot .y) ⌝ }
     ensures { λ r. ⌜ r ≡ mendsAt w step (marked (now (marks .entry)) n) (spot .x) (spot .y) ⌝ }
 {
     if lone {
-        return means::any_sound(marks, n, w, step, spot.x, spot.y, true);
+        return means::any_sound(marks, n, w, step, spot.x, spot.y, true, places);
     }
-    mends_at(marks, n, w, step, spot)
+    mends_at(marks, n, w, step, spot, places)
 }
 
 // Whether mark i has a sound neighbour. Its row is found by the reciprocal m of the width, here and below.
-fn mends(marks: &[u32], n: usize, w: Window, m: usize, step: usize, i: usize) -> bool
+fn mends(
+    marks: &[u32],
+    n: usize,
+    w: Window,
+    m: usize,
+    step: usize,
+    i: usize,
+    places: &mut [usize; 8],
+) -> bool
     requires { ⌜ Marking (now marks) n w step × ((i < n) × (m ≡ 2 ^ 32 / w .width)) ⌝ }
     ensures { λ r. ⌜ r ≡ mendable w step (marked (now (marks .entry)) n) (getD (now (marks .entry)) i 0) ⌝ }
 {
     let spot = scan::spot_of(marks, i, w, m);
-    mends_at(marks, n, w, step, spot)
+    mends_at(marks, n, w, step, spot, places)
 }
 
 // The same where it is known how many are repaired: where all are, nothing is looked for.
@@ -52,6 +75,7 @@ pub fn mends_of(
     step: usize,
     i: usize,
     repaired: usize,
+    places: &mut [usize; 8],
 ) -> bool
     requires { ⌜ Marking (now marks) n w step × ((i < n) × ((repaired ≡ mended (now marks) n w step) × (m ≡ 2 ^ 32 / w .width))) ⌝ }
     ensures { λ r. ⌜ r ≡ mendable w step (marked (now (marks .entry)) n) (getD (now (marks .entry)) i 0) ⌝ }
@@ -59,7 +83,7 @@ pub fn mends_of(
     if repaired == n {
         return true;
     }
-    mends(marks, n, w, m, step, i)
+    mends(marks, n, w, m, step, i, places)
 }
 
 // How many of the n marks can be repaired. It depends on the marks only, so that room for the new values is tested before any is made.
@@ -67,10 +91,11 @@ fn repairable(marks: &[u32], n: usize, w: Window, m: usize, step: usize) -> usiz
     requires { ⌜ Marking (now marks) n w step × (m ≡ 2 ^ 32 / w .width) ⌝ }
     ensures { λ r. ⌜ r ≡ mended (now (marks .entry)) n w step ⌝ }
 {
+    let mut places = [0; 8];
     let mut count = 0;
     let mut i = 0;
     while i < n {
-        if mends(marks, n, w, m, step, i) {
+        if mends(marks, n, w, m, step, i, &mut places) {
             count += 1;
             i += 1;
         } else {
@@ -112,6 +137,7 @@ fn pixel_f32(
     lone: bool,
     values: &mut [f32],
     at: usize,
+    places: &mut [usize; 8],
 )
     requires { ⌜ Asks (now marks) n w step (spot .x) (spot .y) × ((complete w (length (now samples)) ≡ true)
         × ((at + w .planes ≤ length (now values)) × Told lone (marked (now marks) n) w step (spot .x) (spot .y))) ⌝ }
@@ -125,7 +151,7 @@ fn pixel_f32(
     let y = spot.y;
     let mut k = 0;
     while k < w.planes {
-        values[at + k] = means::mean(means::sum_f32(samples, marks, n, w, step, x, y, k, lone));
+        values[at + k] = means::mean(means::sum_f32(samples, marks, n, w, step, x, y, k, lone, places));
         k += 1;
     }
 }
@@ -141,6 +167,7 @@ fn pixel_u16(
     lone: bool,
     values: &mut [f32],
     at: usize,
+    places: &mut [usize; 8],
 )
     requires { ⌜ Asks (now marks) n w step (spot .x) (spot .y) × ((complete w (length (now samples)) ≡ true)
         × ((at + w .planes ≤ length (now values)) × Told lone (marked (now marks) n) w step (spot .x) (spot .y))) ⌝ }
@@ -154,7 +181,7 @@ fn pixel_u16(
     let y = spot.y;
     let mut k = 0;
     while k < w.planes {
-        values[at + k] = means::mean(means::sum_u16(samples, marks, n, w, step, x, y, k, lone));
+        values[at + k] = means::mean(means::sum_u16(samples, marks, n, w, step, x, y, k, lone, places));
         k += 1;
     }
 }
@@ -177,6 +204,7 @@ pub fn fill_f32(
         ⌜ (r ≡ mended (now (marks .entry)) n w step) × Filled (w .planes) n (mendable w step (marked (now (marks .entry)) n))
         (meanAt nan (λ u. u) w step (marked (now (marks .entry)) n) (now (samples .entry))) (now (marks .entry)) (now (values .exit)) ⌝ }
 {
+    let mut places = [0; 8];
     let mut done = 0;
     let mut up = 0;
     let mut down = 0;
@@ -186,9 +214,9 @@ pub fn fill_f32(
         down = lone::below_from(marks, n, w, step, i, down);
         let lone = lone::alone(marks, n, w, step, i, up, down);
         let spot = scan::spot_of(marks, i, w, m);
-        if mends_told(marks, n, w, step, spot, lone) {
+        if mends_told(marks, n, w, step, spot, lone, &mut places) {
             let at = w.planes * done;
-            pixel_f32(samples, marks, n, w, step, spot, lone, values, at);
+            pixel_f32(samples, marks, n, w, step, spot, lone, values, at, &mut places);
             done += 1;
             i += 1;
         } else {
@@ -214,6 +242,7 @@ pub fn fill_u16(
         ⌜ (r ≡ mended (now (marks .entry)) n w step) × Filled (w .planes) n (mendable w step (marked (now (marks .entry)) n))
         (meanAt 0 (λ u. wholeIn binary32 u) w step (marked (now (marks .entry)) n) (now (samples .entry))) (now (marks .entry)) (now (values .exit)) ⌝ }
 {
+    let mut places = [0; 8];
     let mut done = 0;
     let mut up = 0;
     let mut down = 0;
@@ -223,9 +252,9 @@ pub fn fill_u16(
         down = lone::below_from(marks, n, w, step, i, down);
         let lone = lone::alone(marks, n, w, step, i, up, down);
         let spot = scan::spot_of(marks, i, w, m);
-        if mends_told(marks, n, w, step, spot, lone) {
+        if mends_told(marks, n, w, step, spot, lone, &mut places) {
             let at = w.planes * done;
-            pixel_u16(samples, marks, n, w, step, spot, lone, values, at);
+            pixel_u16(samples, marks, n, w, step, spot, lone, values, at, &mut places);
             done += 1;
             i += 1;
         } else {

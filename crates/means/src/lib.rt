@@ -5,11 +5,11 @@ ghost use lib.Ieee.{nan, binary32};
 ghost use mathlib.Core.List.{map};
 ghost use Prim.Native.Nat.{_+_, _*_, _≤_, _<_};
 ghost use lib.Dec.{leb};
-ghost use lib.ListN.{length, take};
+ghost use lib.ListN.{length};
 ghost use Rattle.convert.specs.Convert.{wholeIn};
 ghost use Rattle.dng.specs.Repair.{sampleAt, steps, moved, soundOn, tallyAt, meanOf};
 ghost use Rattle.marks.specs.Marks.{Fits};
-ghost use Rattle.sorts.specs.Sorts.{Rises};
+ghost use Rattle.places.specs.Beside.{Ascends};
 ghost use Rattle.means.specs.Looks.{Asks, Looks, Stands, Inside, none, Lone, tallyOf, marked, pairOf, oneStep, openAt, soundOf};
 use dng::Window;
 
@@ -62,13 +62,21 @@ fn shifted(at: usize, d: i64, period: usize, outside: usize) -> usize
 }
 
 // Whether the position lies in the window and is not marked.
-fn sound_at(marks: &[u32], n: usize, w: Window, x: usize, y: usize) -> Neighbour
-    requires { ⌜ Fits w × ((n ≤ length (now marks)) × Rises 0 (take n (now marks))) ⌝ }
+fn sound_at(
+    marks: &[u32],
+    n: usize,
+    w: Window,
+    x: usize,
+    y: usize,
+    places: &mut [usize; 8],
+    k: usize,
+) -> Neighbour
+    requires { ⌜ Fits w × (Ascends (now marks) n × (k < 8)) ⌝ }
     ensures { λ r. ⌜ r ≡ openAt (w .width) (w .height) (marked (now (marks .entry)) n) x y ⌝ }
 {
     if x < w.width {
         if y < w.height {
-            if sorts::find(marks, n, scan::position(w, x, y)) {
+            if places::seek(marks, n, scan::position(w, x, y), places, k) {
                 return Neighbour::Missing;
             }
             return Neighbour::At { x, y };
@@ -86,15 +94,17 @@ fn beside(
     x: usize,
     y: usize,
     s: Step,
+    places: &mut [usize; 8],
+    k: usize,
 ) -> Neighbour
-    requires { ⌜ Asks (now marks) n w period x y × ((oneStep (s .dx) ≡ true) × (oneStep (s .dy) ≡ true)) ⌝ }
+    requires { ⌜ Asks (now marks) n w period x y × (((oneStep (s .dx) ≡ true) × (oneStep (s .dy) ≡ true)) × (k < 8)) ⌝ }
     ensures { λ r. ⌜ r ≡ soundOf (w .width) (w .height) period (marked (now (marks .entry)) n) x y (pairOf s) ⌝ }
 {
     let dx = s.dx;
     let dy = s.dy;
     let xx = shifted(x, dx, period, w.width);
     let yy = shifted(y, dy, period, w.height);
-    sound_at(marks, n, w, xx, yy)
+    sound_at(marks, n, w, xx, yy, places, k)
 }
 
 // ---- sums
@@ -126,6 +136,7 @@ fn searched_f32(
     x: usize,
     y: usize,
     plane: usize,
+    places: &mut [usize; 8],
 ) -> Sum
     requires { ⌜ Looks (length (now samples)) (now marks) n w period x y plane ⌝ }
     ensures { λ r.
@@ -139,7 +150,7 @@ fn searched_f32(
     let mut i = 0;
     while i < 8 {
         let s = all[i];
-        let near = beside(marks, n, w, period, x, y, s);
+        let near = beside(marks, n, w, period, x, y, s, places, i);
         match near {
             Neighbour::At { x: xx, y: yy } => {
                 let at = scan::place(w, xx, yy, plane);
@@ -196,6 +207,7 @@ pub fn sum_f32(
     y: usize,
     plane: usize,
     lone: bool,
+    places: &mut [usize; 8],
 ) -> Sum
     requires { ⌜ Looks (length (now samples)) (now marks) n w period x y plane × (lone ≡ true → Lone (marked (now marks) n) w period x y) ⌝ }
     ensures { λ r.
@@ -207,9 +219,9 @@ pub fn sum_f32(
         if inside(w, period, x, y) {
             return eight_f32(samples, w, period, x, y, plane);
         }
-        return searched_f32(samples, marks, 0, w, period, x, y, plane);
+        return searched_f32(samples, marks, 0, w, period, x, y, plane, places);
     }
-    searched_f32(samples, marks, n, w, period, x, y, plane)
+    searched_f32(samples, marks, n, w, period, x, y, plane, places)
 }
 
 // The same of u16 samples, each exact in an f32.
@@ -222,6 +234,7 @@ fn searched_u16(
     x: usize,
     y: usize,
     plane: usize,
+    places: &mut [usize; 8],
 ) -> Sum
     requires { ⌜ Looks (length (now samples)) (now marks) n w period x y plane ⌝ }
     ensures { λ r.
@@ -235,7 +248,7 @@ fn searched_u16(
     let mut i = 0;
     while i < 8 {
         let s = all[i];
-        let near = beside(marks, n, w, period, x, y, s);
+        let near = beside(marks, n, w, period, x, y, s, places, i);
         match near {
             Neighbour::At { x: xx, y: yy } => {
                 let at = scan::place(w, xx, yy, plane);
@@ -292,6 +305,7 @@ pub fn sum_u16(
     y: usize,
     plane: usize,
     lone: bool,
+    places: &mut [usize; 8],
 ) -> Sum
     requires { ⌜ Looks (length (now samples)) (now marks) n w period x y plane × (lone ≡ true → Lone (marked (now marks) n) w period x y) ⌝ }
     ensures { λ r.
@@ -303,13 +317,21 @@ pub fn sum_u16(
         if inside(w, period, x, y) {
             return eight_u16(samples, w, period, x, y, plane);
         }
-        return searched_u16(samples, marks, 0, w, period, x, y, plane);
+        return searched_u16(samples, marks, 0, w, period, x, y, plane, places);
     }
-    searched_u16(samples, marks, n, w, period, x, y, plane)
+    searched_u16(samples, marks, n, w, period, x, y, plane, places)
 }
 
 // Whether a neighbour is sound, asked in order up to the first that is.
-fn has_sound(marks: &[u32], n: usize, w: Window, period: usize, x: usize, y: usize) -> bool
+fn has_sound(
+    marks: &[u32],
+    n: usize,
+    w: Window,
+    period: usize,
+    x: usize,
+    y: usize,
+    places: &mut [usize; 8],
+) -> bool
     requires { ⌜ Asks (now marks) n w period x y ⌝ }
     ensures { λ r. ⌜ r ≡ leb 1 (soundOn (w .width) (w .height) period (marked (now (marks .entry)) n) x y steps) ⌝ }
 {
@@ -317,7 +339,7 @@ fn has_sound(marks: &[u32], n: usize, w: Window, period: usize, x: usize, y: usi
     let mut i = 0;
     while i < 8 {
         let s = all[i];
-        let near = beside(marks, n, w, period, x, y, s);
+        let near = beside(marks, n, w, period, x, y, s, places, i);
         match near {
             Neighbour::At { x: _, y: _ } => {
                 return true;
@@ -356,6 +378,7 @@ pub fn any_sound(
     x: usize,
     y: usize,
     lone: bool,
+    places: &mut [usize; 8],
 ) -> bool
     requires { ⌜ Asks (now marks) n w period x y × (lone ≡ true → Lone (marked (now marks) n) w period x y) ⌝ }
     ensures { λ r. ⌜ r ≡ leb 1 (soundOn (w .width) (w .height) period (marked (now (marks .entry)) n) x y steps) ⌝ }
@@ -363,7 +386,7 @@ pub fn any_sound(
     if lone {
         return any_inside(w, period, x, y);
     }
-    has_sound(marks, n, w, period, x, y)
+    has_sound(marks, n, w, period, x, y, places)
 }
 
 // The mean: one division.

@@ -113,10 +113,11 @@ fn write_f32(
         ⌜ now (samples .exit)
         ≡ each (repairAt nan (λ u. u) (λ u. u) w step (marked (now (marks .entry)) n) (now (samples .entry))) (now (samples .entry)) ⌝ }
 {
+    let mut places = [0; 8];
     let mut at = 0;
     let mut i = 0;
     while i < n {
-        if fills::mends_of(marks, n, w, m, step, i, repaired) {
+        if fills::mends_of(marks, n, w, m, step, i, repaired, &mut places) {
             let from = first(marks, i, w, m);
             put_f32(samples, from, w.planes, values, at);
             at += w.planes;
@@ -148,10 +149,11 @@ fn write_u16(
         ≡ each (repairAt 0 (λ u. wholeIn binary32 u) (λ u. roundHeld 65535 u) w step (marked (now (marks .entry)) n) (now (samples .entry)))
         (now (samples .entry)) ⌝ }
 {
+    let mut places = [0; 8];
     let mut at = 0;
     let mut i = 0;
     while i < n {
-        if fills::mends_of(marks, n, w, m, step, i, repaired) {
+        if fills::mends_of(marks, n, w, m, step, i, repaired, &mut places) {
             let from = first(marks, i, w, m);
             put_u16(samples, from, w.planes, values, at);
             at += w.planes;

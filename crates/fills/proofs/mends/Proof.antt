@@ -13,15 +13,16 @@ spot-of-requires c κs =
 
 mends-at-requires : tie.Need-mends-at-requires
 mends-at-requires c κs =
-    let s = c .before .before in
+    let spot = c .before .spot-of in
+    let s = c .before .before .before in
     let a = s .args in
-    spot-asks (a .w) (a .step) (marked (a .marks .now) (a .n)) (getD (a .marks .now) (a .i) 0) (c .spot-of .result .x) (c .spot-of .result .y) (c .spot-of .ensures)
+    spot-asks (a .w) (a .step) (marked (a .marks .now) (a .n)) (getD (a .marks .now) (a .i) 0) (spot .result .x) (spot .result .y) (spot .ensures)
     (mark-asks (a .marks .now) (a .n) (a .w) (a .step) (s .pre .0) (a .i) (s .pre .1 .0))
 
 returns : tie.Need-returns
 returns c =
-    let a = c .before .before .before .args in
-    let spot = c .before .spot-of in
+    let a = c .before .before .before .before .args in
+    let spot = c .before .before .spot-of in
     spot-mends (a .w) (a .step) (marked (a .marks .now) (a .n)) (getD (a .marks .now) (a .i) 0) (spot .result .x) (spot .result .y) (spot .ensures)
     (c .mends-at .result) (c .mends-at .ensures)
 

@@ -4,7 +4,7 @@ use Rattle.fills.proofs.mends_at.Statement.{statement}
 use Rattle.fills.proofs.mends_at.Tie as tie
 
 any-sound-requires : tie.Need-any-sound-requires
-any-sound-requires c κs = (c .before .pre, told-nothing _ _ _ _ _)
+any-sound-requires c κs = (c .before .before .pre, told-nothing _ _ _ _ _)
 
 returns : tie.Need-returns
 returns c = c .any-sound .ensures

@@ -4,7 +4,7 @@ use Rattle.fills.proofs.mends_told.Statement.{statement}
 use Rattle.fills.proofs.mends_told.Tie as tie
 
 any-sound-requires : tie.Need-any-sound-requires
-any-sound-requires c κs = let s = c .before .before in (s .pre .0, λ e. s .pre .1 (c .if1 .taken))
+any-sound-requires c κs = let s = c .before .before .before in (s .pre .0, λ e. s .pre .1 (c .before .if1 .taken))
 
 returns : tie.Need-returns
 returns c = c .any-sound .ensures

@@ -13,17 +13,17 @@ use Rattle.fills.proofs.repairable.Lts as lts
 use Rattle.fills.proofs.mends.Reads as mends-reads
 
 abbrev Inv-loop : tie.InvT-loop
-Inv-loop marks n w m step count₀ i₀ count i = (i ≤ n) × ((count ≤ i) × (count ≡ countIn (mendable w step (marked marks n)) (take i marks)))
+Inv-loop marks n w m step places₀ count₀ i₀ places count i = (i ≤ n) × ((count ≤ i) × (count ≡ countIn (mendable w step (marked marks n)) (take i marks)))
 
 abbrev μ-loop : tie.MeasureT-loop
-μ-loop marks n w m step count₀ i₀ count i = n - i
+μ-loop marks n w m step places₀ count₀ i₀ places count i = n - i
 
 loop-holds : tie.Need-loop-holds Inv-loop μ-loop
 unfolding countIn
 loop-holds c = (omega arith, (omega arith, refl))
 
 mends-requires : tie.Need-mends-requires Inv-loop μ-loop
-mends-requires c κs = let s = c .before .before .before in (s .pre .0, (c .loop-test .taken, s .pre .1))
+mends-requires c κs = let s = c .before .before .before .before in (s .pre .0, (c .before .loop-test .taken, s .pre .1))
 
 add-count : tie.Need-add-count Inv-loop μ-loop
 add-count c = omega arith
@@ -36,14 +36,15 @@ loop-less c = omega arith
 
 loop-again : tie.Need-loop-again Inv-loop μ-loop
 loop-again c =
-    let s = c .before .before .before .before .before in
-    let at = c .before .before .before .loop in (
-      omega (arith, c .before .before .loop-test .taken),
+    let t = c .before .before .before in
+    let s = t .before .before .before in
+    let at = t .before .loop in (
+      omega (arith, t .loop-test .taken),
       (
         omega (arith, at .inv .1 .0),
         (ap (λ (k : ℕ). k + 1) (at .inv .1 .1)
             ∙ sym (count-yes (mendable (s .args .w) (s .args .step) (marked (s .args .marks .now) (s .args .n))) (s .args .marks .now) (at .i)
-            (omega (arith, c .before .before .loop-test .taken, s .pre .0 .held)) (sym (c .before .mends .ensures) ∙ c .if1 .taken))),
+            (omega (arith, t .loop-test .taken, s .pre .0 .held)) (sym (c .before .mends .ensures) ∙ c .if1 .taken))),
       ),
     )
 
@@ -55,14 +56,15 @@ loop-less-2 c = omega arith
 
 loop-again-2 : tie.Need-loop-again-2 Inv-loop μ-loop
 loop-again-2 c =
-    let s = c .before .before .before .before .before in
-    let at = c .before .before .before .loop in (
-      omega (arith, c .before .before .loop-test .taken),
+    let t = c .before .before .before in
+    let s = t .before .before .before in
+    let at = t .before .loop in (
+      omega (arith, t .loop-test .taken),
       (
         omega (arith, at .inv .1 .0),
         (at .inv .1 .1
             ∙ sym (count-no (mendable (s .args .w) (s .args .step) (marked (s .args .marks .now) (s .args .n))) (s .args .marks .now) (at .i)
-            (omega (arith, c .before .before .loop-test .taken, s .pre .0 .held)) (sym (c .before .mends .ensures) ∙ c .if1 .left))),
+            (omega (arith, t .loop-test .taken, s .pre .0 .held)) (sym (c .before .mends .ensures) ∙ c .if1 .left))),
       ),
     )
 

@@ -11,14 +11,14 @@ use Rattle.means.proofs.has_sound.Statement.{statement}
 use Rattle.means.proofs.has_sound.Tie as tie
 
 abbrev Inv-loop : tie.InvT-loop
-Inv-loop marks n w period x y all i₀ i = Unsound w period (marked marks n) x y i
+Inv-loop marks n w period x y places₀ all i₀ places i = Unsound w period (marked marks n) x y i
 
 abbrev μ-loop : tie.MeasureT-loop
-μ-loop marks n w period x y all i₀ i = 8 - i
+μ-loop marks n w period x y places₀ all i₀ places i = 8 - i
 
 -- the turn of the loop that a neighbour belongs to
 abbrev turn : tie.After-beside Inv-loop μ-loop → tie.In-loop Inv-loop μ-loop
-turn c = c .before .before
+turn c = c .before .before .before
 
 -- the steps, as they were made
 abbrev array : tie.In-loop Inv-loop μ-loop → List Step
@@ -43,8 +43,8 @@ array-copy-out-s c = search needs
 
 beside-requires : tie.Need-beside-requires Inv-loop μ-loop
 beside-requires c κs =
-    let t = c .before in
-    (t .before .before .before .before .pre, step-one (array t) (t .before .loop .i) (made t) (t .loop-test .taken))
+    let t = c .before .before in
+    (t .before .before .before .before .pre, (step-one (array t) (t .before .loop .i) (made t) (t .loop-test .taken), t .loop-test .taken))
 
 enum-told : tie.Need-enum-told Inv-loop μ-loop
 enum-told c = search needs

@@ -17,15 +17,15 @@ use Rattle.means.proofs.searched_u16.Statement.{statement}
 use Rattle.means.proofs.searched_u16.Tie as tie
 
 abbrev Inv-loop : tie.InvT-loop
-Inv-loop samples marks n w period x y plane all sum₀ count₀ i₀ sum count i =
+Inv-loop samples marks n w period x y plane places₀ all sum₀ count₀ i₀ places sum count i =
     Walked w period (marked marks n) (λ xx yy. wholeIn binary32 (sampleAt 0 w samples xx yy plane)) x y i (record { sum = sum; n = count })
 
 abbrev μ-loop : tie.MeasureT-loop
-μ-loop samples marks n w period x y plane all sum₀ count₀ i₀ sum count i = 8 - i
+μ-loop samples marks n w period x y plane places₀ all sum₀ count₀ i₀ places sum count i = 8 - i
 
 -- the turn of the loop that a neighbour belongs to, and the function's start
 abbrev turn : tie.After-beside Inv-loop μ-loop → tie.In-loop Inv-loop μ-loop
-turn c = c .before .before
+turn c = c .before .before .before
 
 abbrev start : tie.In-loop Inv-loop μ-loop → tie.Start Inv-loop μ-loop
 start c = c .before .before .before .before .before
@@ -55,8 +55,8 @@ array-copy-out-s c = search needs
 
 beside-requires : tie.Need-beside-requires Inv-loop μ-loop
 beside-requires c κs =
-    let t = c .before in
-    (start t .pre .asks, step-one (array t) (t .before .loop .i) (made t) (t .loop-test .taken))
+    let t = c .before .before in
+    (start t .pre .asks, (step-one (array t) (t .before .loop .i) (made t) (t .loop-test .taken), t .loop-test .taken))
 
 enum-known-near : tie.Need-enum-known-near Inv-loop μ-loop
 enum-known-near c = search needs

@@ -9,34 +9,34 @@ use Rattle.means.proofs.sound_at.Statement.{statement}
 use Rattle.means.proofs.sound_at.Tie as tie
 
 -- the function's start, from the search
-abbrev start : tie.After-find → tie.Start
-start c = c .before .before .before .before .before .before .before
+abbrev start : tie.After-seek → tie.Start
+start c = c .before .before .before .before .before .before .before .before
 
 abbrev bad : tie.Start → ℕ → Bool
 bad s = marked (s .args .marks .now) (s .args .n)
 
 -- what was found is whether the position is marked
-found : (c : tie.After-find) → bad (start c) (start c .args .y * start c .args .w .width + start c .args .x) ≡ c .find .result
+found : (c : tie.After-seek) → bad (start c) (start c .args .y * start c .args .w .width + start c .args .x) ≡ c .seek .result
 found c =
-    ap (bad (start c)) (sym (c .before .position .ensures)) ∙ sym (c .find .ensures (start c .pre .1 .0) (start c .pre .1 .1))
+    ap (bad (start c)) (sym (c .before .before .position .ensures)) ∙ sym (c .seek .ensures)
 
 position-requires : tie.Need-position-requires
 position-requires c κs = search needs
 
-find-requires : tie.Need-find-requires
-find-requires c κs = search needs
+seek-requires : tie.Need-seek-requires
+seek-requires c κs = search needs
 
 returns : tie.Need-returns
 returns c =
     let s = start (c .before) in
-    let inside = c .before .before .before in
+    let inside = c .before .before .before .before in
     open-marked (s .args .w .width) (s .args .w .height) (bad s) (s .args .x) (s .args .y) (inside .before .before .if1 .taken)
     (inside .if2 .taken) (found (c .before) ∙ c .if3 .taken)
 
 returns-2 : tie.Need-returns-2
 returns-2 c =
     let s = start (c .before) in
-    let inside = c .before .before .before in
+    let inside = c .before .before .before .before in
     open-sound (s .args .w .width) (s .args .w .height) (bad s) (s .args .x) (s .args .y) (inside .before .before .if1 .taken)
     (inside .if2 .taken) (found (c .before) ∙ c .if3 .left)
 
@@ -51,4 +51,4 @@ returns-4 c =
     open-right (s .args .w .width) (s .args .w .height) (bad s) (s .args .x) (s .args .y) (c .if1 .left)
 
 pub sound-at-spec : {M : Type 1} → statement M
-sound-at-spec = tie.close (tie.spec position-requires find-requires returns returns-2 returns-3 returns-4)
+sound-at-spec = tie.close (tie.spec position-requires seek-requires returns returns-2 returns-3 returns-4)

@@ -1,9 +1,9 @@
--- `lone::free` meets its contract: what lies between two marks that follow each other is free. Assumes nothing.
+-- `places::free` meets its contract: what lies between two marks that follow each other is free. Assumes nothing.
 use mathlib.Core.Bool.{false≢true}
 use borrow.Author.Needs.{needs}
-use Rattle.lone.proofs.Apart.{free-between}
-use Rattle.lone.proofs.free.Statement.{statement}
-use Rattle.lone.proofs.free.Tie as tie
+use Rattle.places.proofs.Between.{free-between}
+use Rattle.places.proofs.free.Statement.{statement}
+use Rattle.places.proofs.free.Tie as tie
 
 returns : tie.Need-returns
 returns c = λ e. absurd (false≢true e)

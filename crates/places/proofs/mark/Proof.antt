@@ -1,9 +1,9 @@
--- `lone::mark` meets its contract: an entry of the scratch has 32 bits. Assumes nothing.
+-- `places::mark` meets its contract: an entry of the scratch has 32 bits. Assumes nothing.
 use mathlib.Core.Path.{refl}
 use native.Mathlib.Omega.{arith}
 use borrow.Author.Needs.{needs}
-use Rattle.lone.proofs.mark.Statement.{statement}
-use Rattle.lone.proofs.mark.Tie as tie
+use Rattle.places.proofs.mark.Statement.{statement}
+use Rattle.places.proofs.mark.Tie as tie
 
 mul-result : tie.Need-mul-result
 mul-result c = search needs

@@ -1,11 +1,15 @@
--- What is seen of ascending marks from one place among them. Nothing here has to be believed: what it comes to is `alone`'s contract, in the words of
--- means/specs/Looks.
+-- What is seen of ascending marks from one place among them. Nothing here has to be believed: what it comes to is said in the words of
+-- `sorts` `has` and of means/specs/Looks.
 use Prim.Native.Nat.{ℕ, _≤_, _<_}
 use mathlib.Core.Bool.{false}
 use mathlib.Core.List.{List}
 use mathlib.Core.Path.{_≡_}
-use lib.ListN.{getD}
-use Rattle.means.specs.Looks.{marked}
+use lib.ListN.{length, getD, take}
+use Rattle.sorts.specs.Sorts.{has, Rises}
+
+-- the first n entries ascend
+abbrev pub Ascends : List ℕ → (n : ℕ) → Type 0
+Ascends marks n = (n ≤ length marks) × Rises 0 (take n marks)
 
 -- r is the first entry at or after `from`, of the first n, that is not below lo; where there is none, it is past them all
 pub record Reached (marks : List ℕ) (n from lo r : ℕ) : Type 0 where
@@ -24,4 +28,4 @@ Over marks n at hi = (j : ℕ) → at ≤ j → j < n → hi < getD marks j 0
 
 -- no position from lo up to hi is marked
 abbrev pub Free : List ℕ → (n lo hi : ℕ) → Type 0
-Free marks n lo hi = (t : ℕ) → lo ≤ t → t ≤ hi → marked marks n t ≡ false
+Free marks n lo hi = (t : ℕ) → lo ≤ t → t ≤ hi → has (take n marks) t ≡ false

@@ -1,10 +1,10 @@
--- `lone::onward` meets its contract: what it has passed is below lo. Assumes nothing.
+-- `places::onward` meets its contract: what it has passed is below lo. Assumes nothing.
 use Prim.Native.Nat.{_-_}
 use mathlib.Core.Path.{sym}
 use native.Mathlib.Omega.{arith}
-use Rattle.lone.proofs.Apart.{Passing, pass-start, pass-on, pass-stop, pass-end}
-use Rattle.lone.proofs.onward.Statement.{statement}
-use Rattle.lone.proofs.onward.Tie as tie
+use Rattle.places.proofs.Between.{Passing, pass-start, pass-on, pass-stop, pass-end}
+use Rattle.places.proofs.onward.Statement.{statement}
+use Rattle.places.proofs.onward.Tie as tie
 
 abbrev Inv-loop : tie.InvT-loop
 Inv-loop marks n from lo at₀ at = Passing marks n from lo at

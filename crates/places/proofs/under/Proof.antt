@@ -1,12 +1,12 @@
--- `lone::under` meets its contract: the marks ascend. Assumes nothing.
+-- `places::under` meets its contract: the marks ascend. Assumes nothing.
 use mathlib.Core.Path.{subst}
 use Prim.Native.Nat.{ℕ, _<_}
 use native.Mathlib.Omega.{arith}
 use borrow.Author.Needs.{needs}
 use borrow.Author.Tests.{ltb-true}
-use Rattle.lone.proofs.Apart.{under-from}
-use Rattle.lone.proofs.under.Statement.{statement}
-use Rattle.lone.proofs.under.Tie as tie
+use Rattle.places.proofs.Between.{under-from}
+use Rattle.places.proofs.under.Statement.{statement}
+use Rattle.places.proofs.under.Tie as tie
 
 returns : tie.Need-returns
 returns c = search needs

@@ -1,11 +1,11 @@
--- `lone::over` meets its contract: the marks ascend. Assumes nothing.
+-- `places::over` meets its contract: the marks ascend. Assumes nothing.
 use mathlib.Core.Path.{subst}
 use Prim.Native.Nat.{ℕ, _<_}
 use borrow.Author.Needs.{needs}
 use borrow.Author.Tests.{ltb-true}
-use Rattle.lone.proofs.Apart.{over-from}
-use Rattle.lone.proofs.over.Statement.{statement}
-use Rattle.lone.proofs.over.Tie as tie
+use Rattle.places.proofs.Between.{over-from}
+use Rattle.places.proofs.over.Statement.{statement}
+use Rattle.places.proofs.over.Tie as tie
 
 returns : tie.Need-returns
 returns c = search needs
