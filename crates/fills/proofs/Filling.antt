@@ -3,20 +3,15 @@ use Prim.Native.Nat.{ℕ, _+_, _-_, _*_, _≤_, _<_}
 use mathlib.Core.Path.{_≡_, refl, sym, ap, subst, _∙_}
 use mathlib.Core.Bool.{Bool, true, false}
 use mathlib.Core.List.{List}
-use native.Mathlib.Nat.{not-suc-le-zero, mul-add, mul-one, add-sub-cancel-left, add-assoc}
+use native.Mathlib.Nat.{not-suc-le-zero, mul-add, mul-one, mul-zero, add-sub-cancel-left, add-assoc}
 use native.Mathlib.Omega.{arith}
 use lib.Ieee.{Float, nan}
 use lib.ListN.{length, getD, take, set, length-set}
 use Rattle.points.specs.Points.{each, between}
 use Rattle.points.proofs.Each.{length-each, getD-each}
 use Rattle.points.proofs.Parts.{between-in, between-low, each-between-empty, store}
-use Rattle.dng.specs.declared.Window.{Window}
-use Rattle.dng.specs.Repair.{Tally, sampleAt, tallyAt, meanOf}
-use Rattle.means.specs.declared.Sum.{Sum}
-use Rattle.means.specs.Looks.{tallyOf}
-use Rattle.means.proofs.Tallies.{tally-few}
 use Rattle.sorts.proofs.Occ.{equal-or}
-use Rattle.fills.specs.Fills.{countIn, meanIn, Filled}
+use Rattle.fills.specs.Fills.{countIn, Filled, Done}
 use Rattle.fills.proofs.Counting.{count-yes, count-no, count-end, place-next}
 
 -- ---- one mark, plane by plane
@@ -46,17 +41,6 @@ module _ (p : ℕ) (mean : ℕ → Float) (values₀ : List Float) (at : ℕ) wh
       → values ≡ each (between at (at + p) (λ j v. mean (j - at))) values₀
   planes-end values k s h = s .done ∙ ap (λ (m : ℕ). each (between at (at + m) (λ j v. mean (j - at))) values₀) (omega (arith, s .within))
 
-module _ {A : Type 0} (d : A) (toFloat : A → Float) (w : Window) (step : ℕ) (bad : ℕ → Bool) (s : List A) (x y k : ℕ) (r : Sum)
-    (e : tallyOf r ≡ tallyAt (w .width) (w .height) step bad (λ xx yy. toFloat (sampleAt d w s xx yy k)) x y) where
-  -- a sum over sound neighbours counts at most 8, and its mean is the new value
-  pub tally-small : r .n ≤ 8
-  tally-small =
-      subst (λ (n : ℕ). n ≤ 8) (sym (ap (λ (t : Tally). t .n) e)) (tally-few (w .width) (w .height) step bad (λ xx yy. toFloat (sampleAt d w s xx yy k)) x y)
-
-  pub mean-is : (v : Float) → v ≡ meanOf (tallyOf r) → v ≡ meanIn d toFloat w step bad s x y k
-  unfolding meanIn
-  mean-is v f = f ∙ ap (λ (t : Tally). meanOf t) e
-
 -- ---- mark by mark
 
 -- after i of the n marks, `done` of them repaired; the next value goes to p * done
@@ -65,6 +49,7 @@ pub record Filling (p n : ℕ) (test : ℕ → Bool) (mean : ℕ → ℕ → Flo
   pub few : done ≤ i
   pub count : done ≡ countIn test (take i marks)
   pub same : length values ≡ length values₀
+  pub room : p * done ≤ length values₀
   pub filled : Filled p i test mean marks values
 
 module _ (p n : ℕ) (test : ℕ → Bool) (marks : List ℕ) (i : ℕ) (held : n ≤ length marks) where
@@ -87,14 +72,14 @@ module _ (p n : ℕ) (test : ℕ → Bool) (marks : List ℕ) (i : ℕ) (held : 
 module _ (p n : ℕ) (test : ℕ → Bool) (mean : ℕ → ℕ → Float) (marks : List ℕ) (values₀ : List Float) where
   pub fill-start : Filling p n test mean marks values₀ values₀ 0 0
   unfolding countIn
-  fill-start = record { within = omega arith; few = omega arith; count = refl; same = refl; filled = λ i h. absurd (not-suc-le-zero h) }
+  fill-start = record { within = omega arith; few = omega arith; count = refl; same = refl; room = omega (arith, mul-zero p); filled = λ i h. absurd (not-suc-le-zero h) }
 
   module _ (values : List Float) (done i : ℕ) (f : Filling p n test mean marks values₀ values done i) (held : n ≤ length marks) (h : i < n) where
-    -- the values of the next mark that is repaired have room
-    pub fill-room : test (getD marks i 0) ≡ true → p * countIn test (take n marks) ≤ length values₀ → p * done + p ≤ length values
-    fill-room t r =
-        let room = next-room p n test marks i held (p * done) (length values₀) (ap (λ (c : ℕ). p * c) (f .count)) h t r in
-        omega (arith, room, f .same)
+    -- where the values of the next mark that is repaired have no room, those of all have none
+    pub fill-short : test (getD marks i 0) ≡ true → length values - p * done < p → length values₀ < p * countIn test (take n marks)
+    fill-short t r =
+        let at = ap (λ (c : ℕ). p * c) (f .count) in
+        omega (arith, place-next test p marks i n h (omega arith) t, f .same, f .room, at)
 
     pub fill-no : test (getD marks i 0) ≡ false → Filling p n test mean marks values₀ values done (i + 1)
     fill-no t =
@@ -103,6 +88,7 @@ module _ (p n : ℕ) (test : ℕ → Bool) (mean : ℕ → ℕ → Float) (marks
           few = omega (arith, f .few);
           count = f .count ∙ sym (count-no test marks i (omega arith) t);
           same = f .same;
+          room = f .room;
           filled = λ j l u k m.
               equal-or j i (λ d. absurd (apart (sym (subst (λ (y : ℕ). test (getD marks y 0) ≡ true) d u) ∙ t)))
               (λ d. f .filled j (omega arith) u k m);
@@ -120,6 +106,7 @@ module _ (p n : ℕ) (test : ℕ → Bool) (mean : ℕ → ℕ → Float) (marks
           few = omega (arith, f .few);
           count = omega (arith, f .count, count-yes test marks i (omega arith) t);
           same = ap length e ∙ length-each G values ∙ f .same;
+          room = omega (arith, r, f .same, mul-add p done 1, mul-one p);
           filled = λ j l u k m. equal-or j i (λ d. here j d k m) (λ d. before j (omega arith) u k m);
         }
       where
@@ -154,8 +141,12 @@ module _ (p n : ℕ) (test : ℕ → Bool) (mean : ℕ → ℕ → Float) (marks
             subst (λ (y : ℕ). getD values′ (p * countIn test (take y marks) + k) nan ≡ mean (getD marks y 0) k) (sym d)
             (subst (λ (a : ℕ). getD values′ (a + k) nan ≡ mean (getD marks i 0) k) next (there k m))
 
-  -- all marks passed: how many have their values, and these
+  -- all marks passed
   pub fill-end : (values : List Float) (done i : ℕ) → Filling p n test mean marks values₀ values done i → n ≤ i
-      → (done ≡ countIn test (take n marks)) × Filled p n test mean marks values
+      → Done p n test mean marks (length values₀) values done
   fill-end values done i f h =
-      (f .count ∙ count-end test marks i n (f .within) h, λ j l u k m. f .filled j (omega (arith, f .within)) u k m)
+      record {
+        repaired = f .count ∙ count-end test marks i n (f .within) h;
+        fits = f .room;
+        filled = λ j l u k m. f .filled j (omega (arith, f .within)) u k m;
+      }

@@ -2,3 +2,4 @@ pub mod Counting
 pub mod Lying
 pub mod Filling
 pub mod Rooms
+pub mod Looking

@@ -1,22 +1,21 @@
 -- Where a mark lies: its row and column in the window, and what is said of these is said of the mark. Assumes nothing.
 use Prim.Native.Nat.{ℕ, _-_, _/_, _%_, _^_, _≤_, _<_}
-use mathlib.Core.Path.{_≡_, subst, ap₂, _∙_}
+use mathlib.Core.Path.{_≡_, subst, ap₂}
 use mathlib.Core.Bool.{Bool, true}
 use mathlib.Core.List.{List}
 use native.Mathlib.Nat.{mod-lt, div-lt-iff-lt-mul, mul-comm}
 use native.Mathlib.Omega.{arith}
-use lib.Ieee.{Float}
 use lib.ListN.{getD, take}
 use lib.Seq.{getD-take, length-take-le}
-use Rattle.points.specs.Points.{each, between}
 use Rattle.dng.specs.declared.Window.{Window}
 use Rattle.dng.specs.Repair.{positions}
 use Rattle.marks.specs.Marks.{Fits}
 use Rattle.scan.specs.Parts.{Finds}
-use Rattle.means.specs.Looks.{Asks}
+use Rattle.near.specs.declared.Near.{Near}
+use Rattle.near.specs.Looks.{Asks, Lone, nearOf, Lists}
 use Rattle.sorts.specs.Sorts.{occ, has}
 use Rattle.sorts.proofs.Occ.{occ-at, some-has}
-use Rattle.fills.specs.Fills.{Marking, mendsAt, mendable, Told, meanIn, meanAt}
+use Rattle.fills.specs.Fills.{Marking, Told, nearAt}
 
 module _ (w : Window) (f : Fits w) (q : ℕ) (h : q < positions w) where
   pub column-in : q % w .width < w .width
@@ -55,15 +54,8 @@ module _ (w : Window) (step : ℕ) (bad : ℕ → Bool) (q x y : ℕ) (s : (x �
   pub spot-asks : {marks : List ℕ} {n : ℕ} → Asks marks n w step (q % w .width) (q / w .width) → Asks marks n w step x y
   spot-asks a = rw (s .0, s .1) a
 
-  pub spot-told : (lone : Bool) → Told lone bad w step (q % w .width) (q / w .width) → Told lone bad w step x y
-  spot-told lone t = rw (s .0, s .1) t
+  pub spot-lone : (lone : Bool) → Told lone bad w step q → lone ≡ true → Lone bad w step x y
+  spot-lone lone t e = rw (s .0, s .1) (t e)
 
-  pub spot-mends : (b : Bool) → b ≡ mendsAt w step bad x y → b ≡ mendable w step bad q
-  unfolding mendable
-  spot-mends b e = e ∙ ap₂ (λ (x y : ℕ). mendsAt w step bad x y) (s .0) (s .1)
-
-  pub spot-means : {A : Type 0} (d : A) (toFloat : A → Float) (samples : List A) (from to : ℕ) (values values′ : List Float)
-      → values′ ≡ each (between from to (λ j v. meanIn d toFloat w step bad samples x y (j - from))) values
-      → values′ ≡ each (between from to (λ j v. meanAt d toFloat w step bad samples q (j - from))) values
-  spot-means d toFloat samples from to values values′ e =
-      e ∙ ap₂ (λ (x y : ℕ). each (between from to (λ j v. meanIn d toFloat w step bad samples x y (j - from))) values) (s .0) (s .1)
+  pub spot-near : (r : Near) → Lists r (nearOf w step bad x y) → Lists r (nearAt w step bad q)
+  spot-near r l = subst (λ (z : List ℕ). Lists r z) (ap₂ (λ (x y : ℕ). nearOf w step bad x y) (s .0) (s .1)) l

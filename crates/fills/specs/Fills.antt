@@ -9,7 +9,10 @@ use lib.ListN.{length, getD, take}
 use Rattle.dng.specs.declared.Window.{Window}
 use Rattle.dng.specs.Repair.{positions, sampleAt, steps, soundOn, tallyAt, meanOf}
 use Rattle.marks.specs.Marks.{Fits}
-use Rattle.means.specs.Looks.{Lone, marked}
+use Rattle.near.specs.Looks.{Lone, marked, nearOf}
+use Rattle.means.specs.Means.{Reads}
+use Rattle.fills.specs.declared.Fill.{Fill}
+use Rattle.fills.specs.declared.Fill.the-variants as F
 use Rattle.sorts.specs.Sorts.{has, Rises}
 
 -- ---- what is asked
@@ -33,9 +36,13 @@ mendsAt w step bad x y = leb 1 (soundOn (w .width) (w .height) step bad x y step
 unfoldable pub mendable : Window → (step : ℕ) → (ℕ → Bool) → ℕ → Bool
 mendable w step bad q = mendsAt w step bad (q % w .width) (q / w .width)
 
--- what a position may be told to be: where `lone` says so, no neighbour of (x, y) is marked
-abbrev pub Told : (lone : Bool) → (ℕ → Bool) → Window → (step x y : ℕ) → Type 0
-Told lone bad w step x y = lone ≡ true → Lone bad w step x y
+-- where the samples of the sound neighbours of position q begin
+abbrev pub nearAt : Window → (step : ℕ) → (ℕ → Bool) → ℕ → List ℕ
+nearAt w step bad q = nearOf w step bad (q % w .width) (q / w .width)
+
+-- what a position may be told to be: where `lone` says so, no neighbour of it is marked
+abbrev pub Told : (lone : Bool) → (ℕ → Bool) → Window → (step q : ℕ) → Type 0
+Told lone bad w step q = lone ≡ true → Lone bad w step (q % w .width) (q / w .width)
 
 -- at how many entries of a list
 unfoldable pub countIn : (ℕ → Bool) → List ℕ → ℕ
@@ -63,3 +70,19 @@ abbrev pub Filled : (p n : ℕ) → (ℕ → Bool) → (ℕ → ℕ → Float) �
 Filled p n test mean marks values =
     (i : ℕ) → i < n → test (getD marks i 0) ≡ true → (k : ℕ) → k < p
     → getD values (p * countIn test (take i marks) + k) nan ≡ mean (getD marks i 0) k
+
+-- the samples of each plane are there for the first n pixels
+abbrev pub Sees : (samples : ℕ) → (first : List ℕ) → (n planes : ℕ) → Type 0
+Sees samples first n planes = (k : ℕ) → k < planes → Reads samples first n k
+
+-- ---- the answer
+
+-- r marks are repaired, p values for each have room, and there they are
+pub record Done (p n : ℕ) (test : ℕ → Bool) (mean : ℕ → ℕ → Float) (marks : List ℕ) (room : ℕ) (values : List Float) (r : ℕ) : Type 0 where
+  pub repaired : r ≡ countIn test (take n marks)
+  pub fits : p * r ≤ room
+  pub filled : Filled p n test mean marks values
+
+abbrev pub Fills : (p n : ℕ) → (ℕ → Bool) → (ℕ → ℕ → Float) → (marks : List ℕ) → (room : ℕ) → (values : List Float) → Fill → Type 0
+Fills p n test mean marks room values (F.Done r) = Done p n test mean marks room values r
+Fills p n test mean marks room values F.Short = room < p * countIn test (take n marks)

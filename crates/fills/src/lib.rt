@@ -1,55 +1,47 @@
-// The new values of the marks that are repaired, f32 and u16, into the f32 scratch: which marks those are, how many, and room for their values.
+// The new values of the marks that are repaired, f32 and u16, into the f32 scratch as far as it has room; and which marks those are.
 ghost use mathlib.Core.Path.{_≡_};
 ghost use mathlib.Core.Bool.{true};
-ghost use Prim.Native.Nat.{_+_, _-_, _*_, _/_, _^_, _≤_, _<_};
+ghost use Prim.Native.Nat.{_+_, _-_, _*_, _/_, _%_, _^_, _≤_, _<_};
 ghost use lib.Dec.{leb};
 ghost use lib.Ieee.{nan, binary32};
-ghost use lib.ListN.{length, getD};
+ghost use lib.ListN.{length, getD, take};
 ghost use Rattle.convert.specs.Convert.{wholeIn};
 ghost use Rattle.points.specs.Points.{each, between};
 ghost use Rattle.dng.specs.Repair.{complete};
-ghost use Rattle.means.specs.Looks.{Asks, marked};
-ghost use Rattle.fills.specs.Fills.{Marking, mendsAt, mendable, mended, Told, meanIn, meanAt, Filled};
+ghost use Rattle.near.specs.Looks.{marked, Lists};
+ghost use Rattle.means.specs.Means.{meanOver};
+ghost use Rattle.fills.specs.Fills.{Marking, mendable, mended, Told, nearAt, Sees, meanAt, Fills};
 use dng::Window;
-use scan::Spot;
+use near::Near;
+
+// The values of all the marks that are repaired, and how many marks those are; or too little room for them.
+pub enum Fill {
+    Done { repaired: usize },
+    Short,
+}
 
 // ---- the marks
 
-// Whether a position has a sound neighbour, by the search.
-fn mends_at(
+// The sound neighbours of mark i, which may be known to be lone. Its row is found by the reciprocal m of the width.
+fn near_mark(
     marks: &[u32],
     n: usize,
     w: Window,
+    m: usize,
     step: usize,
-    spot: Spot,
-    places: &mut [usize; 8],
-) -> bool
-    requires { ⌜ Asks (now marks) n w step (spot .x) (spot .y) ⌝ }
-    ensures { λ r. ⌜ r ≡ mendsAt w step (marked (now (marks .entry)) n) (spot .x) (spot .y) ⌝ }
-{
-    means::any_sound(marks, n, w, step, spot.x, spot.y, false, places)
-}
-
-// The same of a position that may be known to be lone: then nothing is searched for. Apart from the search, this is short enough for a loop.
-fn mends_told(
-    marks: &[u32],
-    n: usize,
-    w: Window,
-    step: usize,
-    spot: Spot,
+    i: usize,
     lone: bool,
     places: &mut [usize; 8],
-) -> bool
-    requires { ⌜ Asks (now marks) n w step (spot .x) (spot .y) × Told lone (marked (now marks) n) w step (spot .x) (spot .y) ⌝ }
-    ensures { λ r. ⌜ r ≡ mendsAt w step (marked (now (marks .entry)) n) (spot .x) (spot .y) ⌝ }
+) -> Near
+    requires { ⌜ Marking (now marks) n w step × ((i < n) × ((m ≡ 2 ^ 32 / w .width)
+        × Told lone (marked (now marks) n) w step (getD (now marks) i 0))) ⌝ }
+    ensures { λ r. ⌜ Lists r (nearAt w step (marked (now (marks .entry)) n) (getD (now (marks .entry)) i 0)) ⌝ }
 {
-    if lone {
-        return means::any_sound(marks, n, w, step, spot.x, spot.y, true, places);
-    }
-    mends_at(marks, n, w, step, spot, places)
+    let spot = scan::spot_of(marks, i, w, m);
+    near::all_near(marks, n, w, step, spot.x, spot.y, lone, places)
 }
 
-// Whether mark i has a sound neighbour. Its row is found by the reciprocal m of the width, here and below.
+// Whether mark i has one.
 fn mends(
     marks: &[u32],
     n: usize,
@@ -62,8 +54,8 @@ fn mends(
     requires { ⌜ Marking (now marks) n w step × ((i < n) × (m ≡ 2 ^ 32 / w .width)) ⌝ }
     ensures { λ r. ⌜ r ≡ mendable w step (marked (now (marks .entry)) n) (getD (now (marks .entry)) i 0) ⌝ }
 {
-    let spot = scan::spot_of(marks, i, w, m);
-    mends_at(marks, n, w, step, spot, places)
+    let near = near_mark(marks, n, w, m, step, i, false, places);
+    1 <= near.n
 }
 
 // The same where it is known how many are repaired: where all are, nothing is looked for.
@@ -86,72 +78,34 @@ pub fn mends_of(
     mends(marks, n, w, m, step, i, places)
 }
 
-// How many of the n marks can be repaired. It depends on the marks only, so that room for the new values is tested before any is made.
-fn repairable(marks: &[u32], n: usize, w: Window, m: usize, step: usize) -> usize
-    requires { ⌜ Marking (now marks) n w step × (m ≡ 2 ^ 32 / w .width) ⌝ }
-    ensures { λ r. ⌜ r ≡ mended (now (marks .entry)) n w step ⌝ }
-{
-    let mut places = [0; 8];
-    let mut count = 0;
-    let mut i = 0;
-    while i < n {
-        if mends(marks, n, w, m, step, i, &mut places) {
-            count += 1;
-            i += 1;
-        } else {
-            i += 1;
-        }
-    }
-    count
-}
-
-// Whether so many entries hold the new values of so many marks.
-fn roomy(entries: usize, w: Window, repaired: usize) -> bool
-    requires { ⌜ w .planes * repaired < 2 ^ 64 ⌝ }
-    ensures { λ r. ⌜ r ≡ leb (w .planes * repaired) entries ⌝ }
-{
-    w.planes * repaired <= entries
-}
-
-// Whether so many entries hold the new values. Room for all the marks is enough; only with less are those that can be repaired counted.
-pub fn enough(entries: usize, marks: &[u32], n: usize, w: Window, m: usize, step: usize) -> bool
-    requires { ⌜ Marking (now marks) n w step × (m ≡ 2 ^ 32 / w .width) ⌝ }
-    ensures { λ r. ⌜ r ≡ leb (w .planes * mended (now (marks .entry)) n w step) entries ⌝ }
-{
-    if roomy(entries, w, n) {
-        return true;
-    }
-    roomy(entries, w, repairable(marks, n, w, m, step))
-}
-
 // ---- the new values, from the samples at the start
 
-// The means of a position, plane by plane, from `at` on.
+// Whether one mark's values from `at` on have room in so many entries.
+fn roomy(entries: usize, at: usize, planes: usize) -> bool
+    requires { ⌜ at ≤ entries ⌝ }
+    ensures { λ r. ⌜ r ≡ leb planes (entries - at) ⌝ }
+{
+    planes <= entries - at
+}
+
+// The means of the first n pixels, plane by plane, from `at` on.
 fn pixel_f32(
     samples: &[f32],
-    marks: &[u32],
+    first: &[usize; 8],
     n: usize,
-    w: Window,
-    step: usize,
-    spot: Spot,
-    lone: bool,
+    planes: usize,
     values: &mut [f32],
     at: usize,
-    places: &mut [usize; 8],
 )
-    requires { ⌜ Asks (now marks) n w step (spot .x) (spot .y) × ((complete w (length (now samples)) ≡ true)
-        × ((at + w .planes ≤ length (now values)) × Told lone (marked (now marks) n) w step (spot .x) (spot .y))) ⌝ }
+    requires { ⌜ Sees (length (now samples)) (now first) n planes × (at + planes ≤ length (now values)) ⌝ }
     ensures { λ r.
         ⌜ now (values .exit)
-        ≡ each (between at (at + w .planes)
-        (λ j v. meanIn nan (λ u. u) w step (marked (now (marks .entry)) n) (now (samples .entry)) (spot .x) (spot .y) (j - at)))
+        ≡ each (between at (at + planes) (λ j v. meanOver (λ a. getD (now (samples .entry)) (a + (j - at)) nan) (take n (now (first .entry)))))
         (now (values .entry)) ⌝ }
 {
-    let x = spot.x;
-    let y = spot.y;
     let mut k = 0;
-    while k < w.planes {
-        values[at + k] = means::mean(means::sum_f32(samples, marks, n, w, step, x, y, k, lone, places));
+    while k < planes {
+        values[at + k] = means::mean_f32(samples, first, n, k);
         k += 1;
     }
 }
@@ -159,36 +113,28 @@ fn pixel_f32(
 // The same of u16 samples.
 fn pixel_u16(
     samples: &[u16],
-    marks: &[u32],
+    first: &[usize; 8],
     n: usize,
-    w: Window,
-    step: usize,
-    spot: Spot,
-    lone: bool,
+    planes: usize,
     values: &mut [f32],
     at: usize,
-    places: &mut [usize; 8],
 )
-    requires { ⌜ Asks (now marks) n w step (spot .x) (spot .y) × ((complete w (length (now samples)) ≡ true)
-        × ((at + w .planes ≤ length (now values)) × Told lone (marked (now marks) n) w step (spot .x) (spot .y))) ⌝ }
+    requires { ⌜ Sees (length (now samples)) (now first) n planes × (at + planes ≤ length (now values)) ⌝ }
     ensures { λ r.
         ⌜ now (values .exit)
-        ≡ each (between at (at + w .planes)
-        (λ j v. meanIn 0 (λ u. wholeIn binary32 u) w step (marked (now (marks .entry)) n) (now (samples .entry)) (spot .x) (spot .y) (j - at)))
+        ≡ each (between at (at + planes) (λ j v. meanOver (λ a. wholeIn binary32 (getD (now (samples .entry)) (a + (j - at)) 0)) (take n (now (first .entry)))))
         (now (values .entry)) ⌝ }
 {
-    let x = spot.x;
-    let y = spot.y;
     let mut k = 0;
-    while k < w.planes {
-        values[at + k] = means::mean(means::sum_u16(samples, marks, n, w, step, x, y, k, lone, places));
+    while k < planes {
+        values[at + k] = means::mean_u16(samples, first, n, k);
         k += 1;
     }
 }
 
-// The new values of every mark that is repaired, one behind another, from the samples as they are at the start; and how many marks they are.
-// The places of the rows above and below move on with the marks, so that a lone mark is known without a search.
-// The marks repaired are counted and the places of their values follow, so that the count takes no division.
+// The new values of every mark that is repaired, one behind another, from the samples as they are at the start, up to the first that has no room.
+// The places of the rows above and below move on with the marks, so that a lone mark is known without a search, and so do those of the eight
+// neighbours of a mark that is not.
 pub fn fill_f32(
     samples: &[f32],
     marks: &[u32],
@@ -197,12 +143,12 @@ pub fn fill_f32(
     m: usize,
     step: usize,
     values: &mut [f32],
-) -> usize
-    requires { ⌜ Marking (now marks) n w step × ((complete w (length (now samples)) ≡ true)
-        × ((w .planes * mended (now marks) n w step ≤ length (now values)) × (m ≡ 2 ^ 32 / w .width))) ⌝ }
+) -> Fill
+    requires { ⌜ Marking (now marks) n w step × ((complete w (length (now samples)) ≡ true) × (m ≡ 2 ^ 32 / w .width)) ⌝ }
     ensures { λ r.
-        ⌜ (r ≡ mended (now (marks .entry)) n w step) × Filled (w .planes) n (mendable w step (marked (now (marks .entry)) n))
-        (meanAt nan (λ u. u) w step (marked (now (marks .entry)) n) (now (samples .entry))) (now (marks .entry)) (now (values .exit)) ⌝ }
+        ⌜ Fills (w .planes) n (mendable w step (marked (now (marks .entry)) n))
+        (meanAt nan (λ u. u) w step (marked (now (marks .entry)) n) (now (samples .entry))) (now (marks .entry))
+        (length (now (values .entry))) (now (values .exit)) r ⌝ }
 {
     let mut places = [0; 8];
     let mut done = 0;
@@ -213,17 +159,21 @@ pub fn fill_f32(
         up = lone::above_from(marks, n, w, step, i, up);
         down = lone::below_from(marks, n, w, step, i, down);
         let lone = lone::alone(marks, n, w, step, i, up, down);
-        let spot = scan::spot_of(marks, i, w, m);
-        if mends_told(marks, n, w, step, spot, lone, &mut places) {
+        let near = near_mark(marks, n, w, m, step, i, lone, &mut places);
+        if 1 <= near.n {
             let at = w.planes * done;
-            pixel_f32(samples, marks, n, w, step, spot, lone, values, at, &mut places);
+            if !roomy(values.len(), at, w.planes) {
+                return Fill::Short;
+            }
+            let first = near.at;
+            pixel_f32(samples, &first, near.n, w.planes, values, at);
             done += 1;
             i += 1;
         } else {
             i += 1;
         }
     }
-    done
+    Fill::Done { repaired: done }
 }
 
 // The same of u16 samples.
@@ -235,12 +185,12 @@ pub fn fill_u16(
     m: usize,
     step: usize,
     values: &mut [f32],
-) -> usize
-    requires { ⌜ Marking (now marks) n w step × ((complete w (length (now samples)) ≡ true)
-        × ((w .planes * mended (now marks) n w step ≤ length (now values)) × (m ≡ 2 ^ 32 / w .width))) ⌝ }
+) -> Fill
+    requires { ⌜ Marking (now marks) n w step × ((complete w (length (now samples)) ≡ true) × (m ≡ 2 ^ 32 / w .width)) ⌝ }
     ensures { λ r.
-        ⌜ (r ≡ mended (now (marks .entry)) n w step) × Filled (w .planes) n (mendable w step (marked (now (marks .entry)) n))
-        (meanAt 0 (λ u. wholeIn binary32 u) w step (marked (now (marks .entry)) n) (now (samples .entry))) (now (marks .entry)) (now (values .exit)) ⌝ }
+        ⌜ Fills (w .planes) n (mendable w step (marked (now (marks .entry)) n))
+        (meanAt 0 (λ u. wholeIn binary32 u) w step (marked (now (marks .entry)) n) (now (samples .entry))) (now (marks .entry))
+        (length (now (values .entry))) (now (values .exit)) r ⌝ }
 {
     let mut places = [0; 8];
     let mut done = 0;
@@ -251,15 +201,19 @@ pub fn fill_u16(
         up = lone::above_from(marks, n, w, step, i, up);
         down = lone::below_from(marks, n, w, step, i, down);
         let lone = lone::alone(marks, n, w, step, i, up, down);
-        let spot = scan::spot_of(marks, i, w, m);
-        if mends_told(marks, n, w, step, spot, lone, &mut places) {
+        let near = near_mark(marks, n, w, m, step, i, lone, &mut places);
+        if 1 <= near.n {
             let at = w.planes * done;
-            pixel_u16(samples, marks, n, w, step, spot, lone, values, at, &mut places);
+            if !roomy(values.len(), at, w.planes) {
+                return Fill::Short;
+            }
+            let first = near.at;
+            pixel_u16(samples, &first, near.n, w.planes, values, at);
             done += 1;
             i += 1;
         } else {
             i += 1;
         }
     }
-    done
+    Fill::Done { repaired: done }
 }

@@ -11,8 +11,8 @@ use Rattle.sorts.specs.Sorts.{Rises}
 use Rattle.sorts.proofs.Occ.{below-or}
 use Rattle.dng.specs.declared.Window.{Window}
 use Rattle.dng.specs.Repair.{moved}
-use Rattle.means.proofs.Moving.{moved-none, moved-on, moved-out, moved-back}
-use Rattle.means.specs.Looks.{Asks, marked, LoneOn, Lone}
+use Rattle.near.proofs.Moving.{moved-none, moved-on, moved-out, moved-back}
+use Rattle.near.specs.Looks.{Asks, marked, LoneOn, Lone}
 use Rattle.places.specs.Beside.{Under, Over, Free}
 use Rattle.places.proofs.Between.{under-from, over-from, free-between}
 

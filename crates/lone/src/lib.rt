@@ -4,7 +4,7 @@ ghost use mathlib.Core.Bool.{true};
 ghost use Prim.Native.Nat.{_+_, _-_, _*_, _/_, _%_, _≤_, _<_};
 ghost use lib.ListN.{getD};
 ghost use Rattle.marks.specs.Marks.{Fits};
-ghost use Rattle.means.specs.Looks.{Asks, Lone, marked};
+ghost use Rattle.near.specs.Looks.{Asks, Lone, marked};
 ghost use Rattle.places.specs.Beside.{Reached};
 use dng::Window;
 

@@ -1,4 +1,2 @@
-pub mod Moving
 pub mod Tallies
-pub mod Walking
-pub mod Unmarked
+pub mod Sums

@@ -14,40 +14,12 @@ use lib.ListN.{length}
 use Rattle.dng.specs.declared.Window.{Window}
 use Rattle.dng.specs.Repair.{Tally, positions, steps, moved, sound, tallyOn, tallyAt, soundOn}
 use Rattle.dng.specs.Value.{nought}
+use Rattle.near.proofs.Sound.{sound-any, sound-ap}
 use Rattle.scan.proofs.Places.{position-in}
 
 -- one neighbour more
 abbrev pub more : (ℕ → ℕ → Float) → Tally → ℕ → ℕ → Tally
 more value t xx yy = record { sum = add binary32 (t .sum) (value xx yy); n = t .n + 1 }
-
-module _ (width height period : ℕ) (bad : ℕ → Bool) (x y : ℕ) (d : ℤ × ℤ) where
-  -- what is so for `t`, and for `f` at any position of the window, is so for the neighbour
-  pub sound-any : {B : Type 0} (P : B → Type 0) (f : ℕ → ℕ → B) (t : B) → ((xx yy : ℕ) → xx < width → yy < height → P (f xx yy)) → P t
-      → P (sound width height period bad x y d f t)
-  unfolding sound
-  sound-any P f t h k =
-      let xx : ℕ = moved x (d .0) period width in
-      let yy : ℕ = moved y (d .1) period height in
-      go xx yy (ltb xx width) (ltb yy height) (not (bad (yy * width + xx))) (ltb-true xx width) (ltb-true yy height)
-    where
-      go : (xx yy : ℕ) (a b c : Bool) → (a ≡ true → xx < width) → (b ≡ true → yy < height) → P (cond (a && (b && c)) (f xx yy) t)
-      go xx yy true true true p q = h xx yy (p refl) (q refl)
-      go xx yy true true false p q = k
-      go xx yy true false c p q = k
-      go xx yy false b c p q = k
-
-  -- a function of what is made of the neighbour
-  pub sound-ap : {A B : Type 0} (g : A → B) (f : ℕ → ℕ → A) (t : A)
-      → g (sound width height period bad x y d f t) ≡ sound width height period bad x y d (λ xx yy. g (f xx yy)) (g t)
-  unfolding sound
-  sound-ap g f t =
-      let xx : ℕ = moved x (d .0) period width in
-      let yy : ℕ = moved y (d .1) period height in
-      go xx yy (ltb xx width && (ltb yy height && not (bad (yy * width + xx))))
-    where
-      go : (xx yy : ℕ) (b : Bool) → g (cond b (f xx yy) t) ≡ cond b (g (f xx yy)) (g t)
-      go xx yy true = refl
-      go xx yy false = refl
 
 -- ---- the count
 

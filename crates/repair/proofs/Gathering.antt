@@ -1,5 +1,5 @@
 -- The marks of an opcode by its kind, and what a repair asks and answers around its stages. Over any sample kind. Assumes nothing.
-use Prim.Native.Nat.{ℕ, zero, suc, _-_, _*_, _≤_}
+use Prim.Native.Nat.{ℕ, zero, suc, _-_, _*_, _≤_, _<_}
 use mathlib.Core.Path.{_≡_, refl, sym, ap, subst, fun-ext, _∙_}
 use mathlib.Core.Bool.{Bool, true, false}
 use mathlib.Core.List.{List, [], _∷_}
@@ -23,7 +23,7 @@ use Rattle.marks.specs.declared.Marked.the-variants as M
 use Rattle.marks.specs.Marks.{Fits, Gathered, Holds, chosen}
 use Rattle.listed.specs.Listed.{listedAt}
 use Rattle.marks.proofs.Chosen.{chosen-rises, chosen-in}
-use Rattle.means.specs.Looks.{marked}
+use Rattle.near.specs.Looks.{marked}
 use Rattle.scan.proofs.Places.{and-first, and-second}
 use Rattle.sorts.specs.Sorts.{occ, has}
 use Rattle.sorts.proofs.Occ.{has-true}
@@ -125,19 +125,16 @@ marking w bad m m′ n period step f far e h same =
       inside = λ q i. omega (arith, chosen-in bad 0 (positions w) q (has-true (chosen bad 0 (positions w)) q (rw (h .front) at i)) .0);
     }
 
--- the room p * m for the new values, tested
-module _ (p m room : ℕ) (r : Bool) (e : r ≡ leb (p * m) room) where
-  pub room-enough : r ≡ true → p * m ≤ room
-  room-enough t = leb-true (p * m) room (sym e ∙ t)
-
-  pub settled-done : {A : Type 0} (s s′ new : List A) (n m′ : ℕ) (o : Fixed) → r ≡ true → m′ ≡ m → o ≡ F.Done m′ (n - m′) → s′ ≡ new
+-- the new values have room, or not
+module _ (p m room : ℕ) where
+  pub settled-done : {A : Type 0} (s s′ new : List A) (n m′ : ℕ) (o : Fixed) → p * m′ ≤ room → m′ ≡ m → o ≡ F.Done m′ (n - m′) → s′ ≡ new
       → Settled s s′ new p room n m o
-  settled-done s s′ new n m′ o t c d f =
+  settled-done s s′ new n m′ o r c d f =
       subst (λ (o : Fixed). Settled s s′ new p room n m o) (sym d)
-      (record { repaired = c; left = ap (λ (k : ℕ). n - k) c; fits = room-enough t; samples = f })
+      (record { repaired = c; left = ap (λ (k : ℕ). n - k) c; fits = subst (λ (k : ℕ). p * k ≤ room) c r; samples = f })
 
-  pub settled-short : {A : Type 0} (s new : List A) (n : ℕ) → r ≡ false → Settled s s new p room n m F.Values
-  settled-short s new n t = (leb-false (p * m) room (sym e ∙ t), refl)
+  pub settled-short : {A : Type 0} (s new : List A) (n : ℕ) → room < p * m → Settled s s new p room n m F.Values
+  settled-short s new n r = (r, refl)
 
 -- no marks: the samples stay, whatever the scratch
 module _ {A : Type 0} (none : A) (toFloat : A → Float) (ofMean : Float → A) (w : Window) (step : ℕ) (marks : List ℕ) (room : ℕ) (s : List A) where

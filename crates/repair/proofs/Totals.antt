@@ -19,7 +19,7 @@ use Rattle.dng.specs.Run.{Kind, Room, going, marksFull, valuesFull, repairOn}
 use Rattle.marks.specs.declared.Marked.the-variants as M
 use Rattle.marks.specs.Marks.{chosen}
 use Rattle.marks.proofs.Chosen.{count-same, chosen-has}
-use Rattle.means.specs.Looks.{marked}
+use Rattle.near.specs.Looks.{marked}
 use Rattle.means.proofs.Tallies.{sound-on-ext, tally-ext}
 use Rattle.scan.proofs.Places.{position-in}
 use Rattle.sorts.specs.Sorts.{has}

@@ -19,7 +19,7 @@ use Rattle.dng.specs.declared.Window.{Window}
 use Rattle.dng.specs.Select.{inWindow, rowOf, columnOf, planeOf}
 use Rattle.dng.specs.Repair.{Tally, positions, sampleAt, tallyAt, meanOf, repairAt}
 use Rattle.marks.specs.Marks.{Fits}
-use Rattle.means.specs.Looks.{marked}
+use Rattle.near.specs.Looks.{marked}
 use Rattle.means.proofs.Tallies.{tally-count}
 use Rattle.scan.proofs.Places.{position-in}
 use Rattle.sorts.specs.Sorts.{occ, has}

@@ -9,7 +9,7 @@ ghost use Rattle.whole.specs.Whole.{roundHeld};
 ghost use Rattle.points.specs.Points.{each, between};
 ghost use Rattle.dng.specs.Repair.{complete, positions, stepOf, marksOn, marksOf, repairAt};
 ghost use Rattle.marks.specs.Marks.{Gathered};
-ghost use Rattle.means.specs.Looks.{marked};
+ghost use Rattle.near.specs.Looks.{marked};
 ghost use Rattle.fills.specs.Fills.{Marking, mendable, mended, meanAt, Filled};
 ghost use Rattle.repair.specs.Fixes.{Fixes};
 ghost use Rattle.repair.specs.Works.{Ranges, pixelOf, Settled};
@@ -18,6 +18,7 @@ ghost use Rattle.dng.specs.Run.{f32Kind, u16Kind};
 ghost use Rattle.dng.specs.Answer.{frameOf, inRange};
 use dng::Opcode;
 use dng::Window;
+use fills::Fill;
 use marks::Marked;
 
 // Done, with the positions repaired and left; or too little room for the marks (5) or for the new values (6), the samples unchanged.
@@ -175,7 +176,7 @@ fn done(n: usize, repaired: usize) -> Fixed
     Fixed::Done { repaired, left }
 }
 
-// Room for the new values first; with too little of it nothing is written. The width's reciprocal, a division, is worked out once for
+// All new values first; with too little room for them no sample is written. The width's reciprocal, a division, is worked out once for
 // all marks, and with none of them not at all.
 fn settle_f32(
     samples: &mut [f32],
@@ -195,12 +196,13 @@ fn settle_f32(
         return done(0, 0);
     }
     let m = scan::reciprocal(w);
-    if fills::enough(values.len(), marks, n, w, m, step) {
-        let repaired = fills::fill_f32(samples, marks, n, w, m, step, values);
-        write_f32(samples, marks, n, w, m, step, repaired, values);
-        done(n, repaired)
-    } else {
-        Fixed::Values
+    let got = fills::fill_f32(samples, marks, n, w, m, step, values);
+    match got {
+        Fill::Done { repaired } => {
+            write_f32(samples, marks, n, w, m, step, repaired, values);
+            done(n, repaired)
+        }
+        Fill::Short => Fixed::Values,
     }
 }
 
@@ -223,12 +225,13 @@ fn settle_u16(
         return done(0, 0);
     }
     let m = scan::reciprocal(w);
-    if fills::enough(values.len(), marks, n, w, m, step) {
-        let repaired = fills::fill_u16(samples, marks, n, w, m, step, values);
-        write_u16(samples, marks, n, w, m, step, repaired, values);
-        done(n, repaired)
-    } else {
-        Fixed::Values
+    let got = fills::fill_u16(samples, marks, n, w, m, step, values);
+    match got {
+        Fill::Done { repaired } => {
+            write_u16(samples, marks, n, w, m, step, repaired, values);
+            done(n, repaired)
+        }
+        Fill::Short => Fixed::Values,
     }
 }
 

@@ -1,14 +1,17 @@
 -- `fills::fill_f32` meets its contract: the values of the marks before i stand one behind another. Assumes nothing.
 use Prim.Native.Nat.{ℕ, _+_, _-_, _*_, _/_, _%_, _≤_}
-use mathlib.Core.Bool.{Bool}
+use mathlib.Core.Bool.{Bool, true}
 use mathlib.Core.Path.{_≡_, sym, _∙_}
 use native.Mathlib.Omega.{arith}
+use borrow.Author.Tests.{not-true, not-false, leb-true, leb-false, le-leb, lt-leb}
+use lib.Dec.{leb}
 use lib.ListN.{length, getD}
 use lib.Ieee.{Float, nan}
-use Rattle.means.specs.Looks.{Asks, marked}
-use Rattle.fills.specs.Fills.{mendable, Told, meanAt}
-use Rattle.fills.proofs.Lying.{mark-asks, mark-finds, spot-asks, spot-told, spot-mends, spot-means}
-use Rattle.fills.proofs.Filling.{Filling, fill-start, fill-room, fill-yes, fill-no, fill-end}
+use Rattle.near.specs.Looks.{Asks, marked}
+use Rattle.fills.specs.Fills.{mendable, meanAt}
+use Rattle.fills.proofs.Lying.{mark-asks}
+use Rattle.fills.proofs.Looking.{near-mends, near-sees, near-means}
+use Rattle.fills.proofs.Filling.{Filling, fill-start, fill-short, fill-yes, fill-no, fill-end}
 use Rattle.fills.proofs.fill_f32.Statement.{statement}
 use Rattle.fills.proofs.fill_f32.Tie as tie
 
@@ -19,15 +22,15 @@ Inv-loop samples marks n w m step values₀ places₀ done₀ up₀ down₀ i₀
 abbrev μ-loop : tie.MeasureT-loop
 μ-loop samples marks n w m step values₀ places₀ done₀ up₀ down₀ i₀ values places done up down i = n - i
 
--- the function's start, and the turn of the loop that a spot, an answer and its means belong to
+-- the function's start, the turn of the loop that a mark's neighbours belong to, and the neighbours that a branch goes by
 abbrev start : tie.In-loop Inv-loop μ-loop → tie.Start Inv-loop μ-loop
 start c = c .before .before .before .before .before
 
-abbrev turn : tie.After-spot-of Inv-loop μ-loop → tie.In-loop Inv-loop μ-loop
-turn c = c .before .before .before .before
+abbrev turn : tie.After-near-mark Inv-loop μ-loop → tie.In-loop Inv-loop μ-loop
+turn c = c .before .before .before .before .before
 
-abbrev spot : tie.Then1 Inv-loop μ-loop → tie.After-spot-of Inv-loop μ-loop
-spot c = c .before .before .before
+abbrev found : tie.Then1 Inv-loop μ-loop → tie.After-near-mark Inv-loop μ-loop
+found c = c .before .before
 
 -- its mark, the marks, which of them are repaired, and their means
 abbrev mark : tie.In-loop Inv-loop μ-loop → ℕ
@@ -61,74 +64,80 @@ below-from-requires c κs = (c .before .loop-test .taken, asks (c .before))
 alone-requires : tie.Need-alone-requires Inv-loop μ-loop
 alone-requires c κs = (c .before .before .loop-test .taken, asks (c .before .before))
 
-spot-of-requires : tie.Need-spot-of-requires Inv-loop μ-loop
-spot-of-requires c κs =
-    let t = c .before .before .before in
-    let s = start t in
-    let a = s .args in
-    mark-finds (a .marks .now) (a .n) (a .w) (a .step) (s .pre .0) (t .before .loop .i) (t .loop-test .taken) (a .m) (s .pre .1 .1 .1)
-
--- what is asked of the spot, and what is told of it
-spot-in : (c : tie.After-spot-of Inv-loop μ-loop)
-    → Asks (start (turn c) .args .marks .now) (start (turn c) .args .n) (start (turn c) .args .w) (start (turn c) .args .step)
-    (c .spot-of .result .x) (c .spot-of .result .y)
-spot-in c =
-    let s = start (turn c) in
-    let r = c .spot-of .result in
-    spot-asks (s .args .w) (s .args .step) (bad s) (mark (turn c)) (r .x) (r .y) (c .spot-of .ensures) (asks (turn c))
-
-told : (c : tie.After-spot-of Inv-loop μ-loop)
-    → Told (c .before .alone .result) (bad (start (turn c))) (start (turn c) .args .w) (start (turn c) .args .step)
-    (c .spot-of .result .x) (c .spot-of .result .y)
-told c =
-    let s = start (turn c) in
-    let r = c .spot-of .result in
-    spot-told (s .args .w) (s .args .step) (bad s) (mark (turn c)) (r .x) (r .y) (c .spot-of .ensures) (c .before .alone .result) (c .before .alone .ensures)
-
-mends-told-requires : tie.Need-mends-told-requires Inv-loop μ-loop
-mends-told-requires c κs = (spot-in (c .before), told (c .before))
+near-mark-requires : tie.Need-near-mark-requires Inv-loop μ-loop
+near-mark-requires c κs =
+    let told = c .before in
+    let t = told .before .before .before in
+    (start t .pre .0, (t .loop-test .taken, (start t .pre .1 .1, told .alone .ensures)))
 
 -- whether the mark is repaired
-repaired : (c : tie.After-mends-told Inv-loop μ-loop) (b : Bool) → c .mends-told .result ≡ b → test (start (turn (c .before .before))) (mark (turn (c .before .before))) ≡ b
-repaired c b e =
-    let t = turn (c .before .before) in
+repaired : (c : tie.After-near-mark Inv-loop μ-loop) → leb 1 (c .near-mark .result .n) ≡ test (start (turn c)) (mark (turn c))
+repaired c =
+    let t = turn c in
     let s = start t in
-    let r = c .before .before .spot-of in
-    sym (spot-mends (s .args .w) (s .args .step) (bad s) (mark t) (r .result .x) (r .result .y) (r .ensures) (c .mends-told .result) (c .mends-told .ensures)) ∙ e
+    near-mends (s .args .w) (s .args .step) (bad s) (mark t) (c .near-mark .result) (c .near-mark .ensures)
 
--- the values of the mark have room
-there : (c : tie.Then1 Inv-loop μ-loop)
-    → start (turn (spot c)) .args .w .planes * turn (spot c) .before .loop .done + start (turn (spot c)) .args .w .planes ≤ length (turn (spot c) .before .loop .values)
-there c =
-    let t = turn (spot c) in
-    let s = start t in
-    let a = s .args in
-    let l = t .before .loop in
-    fill-room (a .w .planes) (a .n) (test s) (mean s) (a .marks .now) (a .values .now) (l .values) (l .done) (l .i) (l .inv) (s .pre .0 .held) (t .loop-test .taken)
-    (repaired (c .before) _ (c .if1 .taken)) (s .pre .1 .1 .0)
+mends : (c : tie.Then1 Inv-loop μ-loop) → test (start (turn (found c))) (mark (turn (found c))) ≡ true
+mends c = sym (repaired (found c)) ∙ le-leb 1 (found c .near-mark .result .n) (c .if1 .taken)
 
 mul-at : tie.Need-mul-at Inv-loop μ-loop
 mul-at c =
-    let b = c .before in
-    let t = turn (spot b) in
-    omega (arith, there b, t .before .loop .inv .same, start t .good .1 .1 .1 .1 .1 .1 .0 .1)
+    let t = turn (found (c .before)) in
+    omega (arith, t .before .loop .inv .room, start t .good .1 .1 .1 .1 .1 .1 .0 .1)
+
+roomy-requires : tie.Need-roomy-requires Inv-loop μ-loop
+roomy-requires c κs =
+    let l = turn (found (c .before)) .before .loop in
+    omega (arith, l .inv .room, l .inv .same)
+
+same-length : tie.Need-same-length Inv-loop μ-loop
+same-length c = turn (found (c .before .before .before)) .before .loop .inv .same
+
+returns : tie.Need-returns Inv-loop μ-loop
+returns c =
+    let r = c .before in
+    let b = r .before .before in
+    let t = turn (found b) in
+    let s = start t in
+    let a = s .args in
+    let l = t .before .loop in
+    fill-short (a .w .planes) (a .n) (test s) (mean s) (a .marks .now) (a .values .now) (l .values) (l .done) (l .i) (l .inv) (s .pre .0 .held) (t .loop-test .taken)
+    (mends b) (leb-false (a .w .planes) (length (l .values) - a .w .planes * l .done) (sym (r .roomy .ensures) ∙ not-true (r .roomy .result) (c .if2 .taken)))
+
+-- the branch that the means are put in, and their room
+abbrev branch : tie.Else2 Inv-loop μ-loop → tie.Then1 Inv-loop μ-loop
+branch c = c .before .before .before
+
+there : (c : tie.Else2 Inv-loop μ-loop)
+    → start (turn (found (branch c))) .args .w .planes * turn (found (branch c)) .before .loop .done + start (turn (found (branch c))) .args .w .planes
+    ≤ length (turn (found (branch c)) .before .loop .values)
+there c =
+    let r = c .before in
+    let t = turn (found (branch c)) in
+    let a = start t .args in
+    let l = t .before .loop in
+    let room = leb-true (a .w .planes) (length (l .values) - a .w .planes * l .done) (sym (r .roomy .ensures) ∙ not-false (r .roomy .result) (c .if2 .left)) in
+    omega (arith, room, l .inv .room, l .inv .same)
 
 pixel-f32-requires : tie.Need-pixel-f32-requires Inv-loop μ-loop
-pixel-f32-requires c κs = let b = c .before .before .before in (spot-in (spot b), (start (turn (spot b)) .pre .1 .0, (there b, told (spot b))))
+pixel-f32-requires c κs =
+    let e = c .before .before .before in
+    let f = found (branch e) in
+    let s = start (turn f) in
+    (near-sees (s .args .w) (s .args .step) (bad s) (mark (turn f)) (f .near-mark .result) (f .near-mark .ensures) (length (s .args .samples .now)) (s .pre .1 .0), there e)
 
--- the branch that the means were put in
-abbrev branch : tie.After-pixel-f32 Inv-loop μ-loop → tie.Then1 Inv-loop μ-loop
-branch c = c .before .before .before .before
+abbrev put : tie.After-pixel-f32 Inv-loop μ-loop → tie.Else2 Inv-loop μ-loop
+put c = c .before .before .before .before
 
 add-done : tie.Need-add-done Inv-loop μ-loop
 add-done c =
-    let t = turn (spot (branch (c .before .before))) in
+    let t = turn (found (branch (put (c .before .before)))) in
     let s = start t in
     omega (arith, t .before .loop .inv .few, t .loop-test .taken, s .pre .0 .held, s .good .1 .0 .1)
 
 add-i : tie.Need-add-i Inv-loop μ-loop
 add-i c =
-    let t = turn (spot (branch (c .before .before))) in
+    let t = turn (found (branch (put (c .before .before)))) in
     let s = start t in
     omega (arith, t .loop-test .taken, s .pre .0 .held, s .good .1 .0 .1)
 
@@ -137,17 +146,17 @@ loop-less c = omega arith
 
 loop-again : tie.Need-loop-again Inv-loop μ-loop
 loop-again c =
-    let put = c .before .before in
-    let b = branch put in
-    let t = turn (spot b) in
+    let done = c .before .before in
+    let e = put done in
+    let f = found (branch e) in
+    let t = turn f in
     let s = start t in
     let a = s .args in
     let l = t .before .loop in
-    let r = spot b .spot-of in
     fill-yes (a .w .planes) (a .n) (test s) (mean s) (a .marks .now) (a .values .now) (l .values) (l .done) (l .i) (l .inv) (s .pre .0 .held) (t .loop-test .taken)
-    (put .pixel-f32 .last .1 .1 .1 .1 .1 .1 .1 .0) (repaired (b .before) _ (b .if1 .taken)) (there b)
-    (spot-means (a .w) (a .step) (bad s) (mark t) (r .result .x) (r .result .y) (r .ensures) nan (λ u. u) (a .samples .now) (a .w .planes * l .done) (a .w .planes * l .done + a .w .planes)
-    (l .values) _ (put .pixel-f32 .ensures))
+    (done .pixel-f32 .last .1 .1 .1 .1 .0) (mends (branch e)) (there e)
+    (near-means (a .w) (a .step) (bad s) (mark t) (f .near-mark .result) (f .near-mark .ensures) nan (λ u. u) (a .samples .now) (a .w .planes * l .done)
+    (a .w .planes * l .done + a .w .planes) (l .values) _ (done .pixel-f32 .ensures))
 
 add-i-2 : tie.Need-add-i-2 Inv-loop μ-loop
 add-i-2 c = omega arith
@@ -157,18 +166,19 @@ loop-less-2 c = omega arith
 
 loop-again-2 : tie.Need-loop-again-2 Inv-loop μ-loop
 loop-again-2 c =
-    let t = turn (c .before .before .before) in
+    let f = c .before .before in
+    let t = turn f in
     let s = start t in
     let a = s .args in
     let l = t .before .loop in
     fill-no (a .w .planes) (a .n) (test s) (mean s) (a .marks .now) (a .values .now) (l .values) (l .done) (l .i) (l .inv) (s .pre .0 .held) (t .loop-test .taken)
-    (repaired (c .before) _ (c .if1 .left))
+    (sym (repaired f) ∙ lt-leb 1 (f .near-mark .result .n) (c .if1 .left))
 
-same-length : tie.Need-same-length Inv-loop μ-loop
-same-length c = c .before .loop .inv .same
+same-length-2 : tie.Need-same-length-2 Inv-loop μ-loop
+same-length-2 c = c .before .loop .inv .same
 
-returns : tie.Need-returns Inv-loop μ-loop
-returns c =
+returns-2 : tie.Need-returns-2 Inv-loop μ-loop
+returns-2 c =
     let s = c .before .before .before .before .before in
     let a = s .args in
     let l = c .before .loop in
@@ -184,9 +194,11 @@ fill-f32-spec =
     above-from-requires
     below-from-requires
     alone-requires
-    spot-of-requires
-    mends-told-requires
+    near-mark-requires
     mul-at
+    roomy-requires
+    same-length
+    returns
     pixel-f32-requires
     add-done
     add-i
@@ -195,5 +207,5 @@ fill-f32-spec =
     add-i-2
     loop-less-2
     loop-again-2
-    same-length
-    returns)
+    same-length-2
+    returns-2)

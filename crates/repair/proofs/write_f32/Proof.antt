@@ -4,7 +4,7 @@ use mathlib.Core.Path.{refl, sym, _∙_}
 use native.Mathlib.Omega.{arith}
 use lib.ListN.{length, getD}
 use lib.Ieee.{nan}
-use Rattle.means.specs.Looks.{marked}
+use Rattle.near.specs.Looks.{marked}
 use Rattle.fills.specs.Fills.{mendable, meanIn}
 use Rattle.fills.proofs.Lying.{mark-in, mark-finds}
 use Rattle.repair.proofs.Placing.{pixel-in}

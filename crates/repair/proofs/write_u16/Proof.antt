@@ -6,7 +6,7 @@ use lib.ListN.{length, getD}
 use lib.Ieee.{binary32}
 use Rattle.convert.specs.Convert.{wholeIn}
 use Rattle.whole.specs.Whole.{roundHeld}
-use Rattle.means.specs.Looks.{marked}
+use Rattle.near.specs.Looks.{marked}
 use Rattle.fills.specs.Fills.{mendable, meanIn}
 use Rattle.fills.proofs.Lying.{mark-in, mark-finds}
 use Rattle.repair.proofs.Placing.{pixel-in}

@@ -1,0 +1,22 @@
+-- The mean of samples that are found by where their pixels begin. Nothing here has to be believed: what it comes to is `dng` `Repair.tallyAt` (proofs/Sums).
+use Prim.Native.Nat.{ℕ, _+_, _≤_, _<_}
+use mathlib.Core.List.{List, [], _∷_}
+use lib.Ieee.{Float, binary32, add}
+use lib.ListN.{length, getD}
+use Rattle.dng.specs.Repair.{meanOf}
+use Rattle.dng.specs.Value.{nought}
+
+-- the first n places hold a pixel each, whose sample of the plane is there
+pub record Reads (samples : ℕ) (at : List ℕ) (n plane : ℕ) : Type 0 where
+  pub few : n ≤ 8
+  pub held : n ≤ length at
+  pub there : (j : ℕ) → j < n → getD at j 0 + plane < samples
+
+-- f32 sum, in order
+unfoldable pub sumOver : (ℕ → Float) → List ℕ → Float → Float
+sumOver value [] s = s
+sumOver value (a ∷ l) s = sumOver value l (add binary32 s (value a))
+
+-- from 0, and one division
+abbrev pub meanOver : (ℕ → Float) → List ℕ → Float
+meanOver value l = meanOf (record { sum = sumOver value l nought; n = length l })

@@ -1,0 +1,4 @@
+pub mod Moving
+pub mod Sound
+pub mod Walking
+pub mod Unmarked

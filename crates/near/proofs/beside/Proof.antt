@@ -1,0 +1,32 @@
+-- `near::beside` meets its contract: what is open one step away. Assumes nothing.
+use mathlib.Core.Path.{ap, _∙_}
+use borrow.Author.Needs.{needs}
+use lib.IntN.{ℤ}
+use Rattle.dng.specs.Repair.{moved}
+use Rattle.near.specs.Looks.{marked, pairOf}
+use Rattle.near.proofs.Moving.{bits-step}
+use Rattle.near.proofs.Walking.{step-is}
+use Rattle.near.proofs.beside.Statement.{statement}
+use Rattle.near.proofs.beside.Tie as tie
+
+shifted-requires : tie.Need-shifted-requires
+shifted-requires c κs = search needs
+
+shifted-requires-2 : tie.Need-shifted-requires-2
+shifted-requires-2 c κs = search needs
+
+sound-at-requires : tie.Need-sound-at-requires
+sound-at-requires c κs = search needs
+
+returns : tie.Need-returns
+returns c =
+    let s = c .before .before .before .before .before .before .before in
+    let a = s .args in
+    c .sound-at .ensures
+    ∙ step-is (a .w) (a .period) (marked (a .marks .now) (a .n)) (a .x) (a .y) (c .before .before .before .shifted .result)
+    (c .before .before .shifted2 .result) (pairOf (a .s))
+    (c .before .before .before .shifted .ensures ∙ ap (λ (d : ℤ). moved (a .x) d (a .period) (a .w .width)) (bits-step (a .s .dx) (s .pre .1 .0 .0)))
+    (c .before .before .shifted2 .ensures ∙ ap (λ (d : ℤ). moved (a .y) d (a .period) (a .w .height)) (bits-step (a .s .dy) (s .pre .1 .0 .1)))
+
+pub beside-spec : {M : Type 1} → statement M
+beside-spec = tie.close (tie.spec shifted-requires shifted-requires-2 sound-at-requires returns)
