@@ -32,6 +32,13 @@ module _ (f : ℕ → Bool) where
       count-all l i (le-of-suc-le-suc h)
       (by-cases (f q) (λ t. let s = rw t at e in omega arith) (λ t. let s = rw t at e in absurd (omega (arith, count-few l))))
 
+  -- where none is counted, none passes
+  pub count-nil : (l : List ℕ) (i : ℕ) → i < length l → countIn f l ≡ 0 → f (getD l i 0) ≡ false
+  unfolding countIn
+  count-nil [] i h e = absurd (not-suc-le-zero h)
+  count-nil (q ∷ l) zero h e = by-cases (f q) (λ t. let s = rw t at e in absurd (omega arith)) (λ t. t)
+  count-nil (q ∷ l) (suc i) h e = count-nil l i (le-of-suc-le-suc h) (omega (arith, e))
+
   count-one : (q : ℕ) → countIn f (q ∷ []) ≡ cond (f q) 1 0
   unfolding countIn
   count-one q = add-zero (cond (f q) 1 0)

@@ -1,16 +1,16 @@
 -- What the sound neighbours of a mark say of it: whether it is repaired, that their samples are there, and its means. Assumes nothing.
-use Prim.Native.Nat.{ℕ, _+_, _-_, _*_, _/_, _%_, _≤_, _<_}
+use Prim.Native.Nat.{ℕ, _+_, _-_, _/_, _%_, _≤_, _<_}
 use mathlib.Core.Path.{_≡_, sym, ap, subst, fun-ext, _∙_}
 use mathlib.Core.Bool.{Bool, true}
 use mathlib.Core.List.{List}
 use native.Mathlib.Omega.{arith}
 use lib.Dec.{leb}
-use lib.Ieee.{Float, nan}
+use lib.Ieee.{Float}
 use lib.ListN.{length, getD, take}
 use lib.Seq.{take-all, getD-take}
 use Rattle.points.specs.Points.{each, between}
 use Rattle.dng.specs.declared.Window.{Window}
-use Rattle.dng.specs.Repair.{complete, steps, soundOn}
+use Rattle.dng.specs.Repair.{complete}
 use Rattle.sorts.proofs.Occ.{below-or}
 use Rattle.near.specs.declared.Near.{Near}
 use Rattle.near.specs.Looks.{Lists}

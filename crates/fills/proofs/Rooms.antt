@@ -9,7 +9,7 @@ use lib.Seq.{getD-take, length-take-le}
 use Rattle.dng.specs.declared.Window.{Window}
 use Rattle.near.specs.Looks.{marked}
 use Rattle.fills.specs.Fills.{Marking, mended, mendable, Told}
-use Rattle.fills.proofs.Counting.{count-few, count-all}
+use Rattle.fills.proofs.Counting.{count-few, count-all, count-nil}
 
 -- nothing is told: then nothing is to be shown
 pub told-nothing : (bad : ℕ → Bool) (w : Window) (step q : ℕ) → Told false bad w step q
@@ -27,3 +27,10 @@ mended-all marks n w step m i h e =
     let long : length (take n marks) ≡ n = length-take-le n marks (m .held) in
     ap (mendable w step (marked marks n)) (sym (getD-take n marks i 0 h))
     ∙ count-all (mendable w step (marked marks n)) (take n marks) i (omega arith) (e ∙ sym long)
+
+-- where none is, no mark is
+pub mended-none : (marks : List ℕ) (n : ℕ) (w : Window) (step : ℕ) → Marking marks n w step → (i : ℕ) → i < n
+    → mended marks n w step ≡ 0 → mendable w step (marked marks n) (getD marks i 0) ≡ false
+mended-none marks n w step m i h e =
+    ap (mendable w step (marked marks n)) (sym (getD-take n marks i 0 h))
+    ∙ count-nil (mendable w step (marked marks n)) (take n marks) i (omega (arith, length-take-le n marks (m .held))) e

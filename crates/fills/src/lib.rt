@@ -1,7 +1,7 @@
 // The new values of the marks that are repaired, f32 and u16, into the f32 scratch as far as it has room; and which marks those are.
 ghost use mathlib.Core.Path.{_≡_};
 ghost use mathlib.Core.Bool.{true};
-ghost use Prim.Native.Nat.{_+_, _-_, _*_, _/_, _%_, _^_, _≤_, _<_};
+ghost use Prim.Native.Nat.{_+_, _-_, _*_, _/_, _^_, _≤_, _<_};
 ghost use lib.Dec.{leb};
 ghost use lib.Ieee.{nan, binary32};
 ghost use lib.ListN.{length, getD, take};
@@ -58,7 +58,7 @@ fn mends(
     1 <= near.n
 }
 
-// The same where it is known how many are repaired: where all are, nothing is looked for.
+// The same where it is known how many are repaired: where all are, or none, nothing is looked for.
 pub fn mends_of(
     marks: &[u32],
     n: usize,
@@ -74,6 +74,9 @@ pub fn mends_of(
 {
     if repaired == n {
         return true;
+    }
+    if repaired == 0 {
+        return false;
     }
     mends(marks, n, w, m, step, i, places)
 }

@@ -1,7 +1,7 @@
 -- Sums over the sound neighbours, by where their samples begin, are the tallies of the definition; and a sum turn by turn. Over any sample kind.
 -- Assumes nothing.
-use Prim.Native.Nat.{ℕ, zero, suc, _+_, _*_, _≤_, _<_}
-use mathlib.Core.Path.{_≡_, refl, sym, ap, ap₂, subst, _∙_}
+use Prim.Native.Nat.{ℕ, zero, suc, _+_, _≤_, _<_}
+use mathlib.Core.Path.{_≡_, refl, sym, ap, ap₂, _∙_}
 use mathlib.Core.Bool.{Bool, true}
 use mathlib.Core.List.{List, [], _∷_}
 use native.Mathlib.Nat.{not-suc-le-zero, le-of-suc-le-suc}
@@ -12,13 +12,13 @@ use lib.Ieee.{Float, binary32, add}
 use lib.ListN.{length, getD, take, drop}
 use lib.Seq.{drop-cons, getD-take, length-take-le, drop-length}
 use Rattle.dng.specs.declared.Window.{Window}
-use Rattle.dng.specs.Repair.{Tally, complete, steps, sound, sampleAt, tallyOn, tallyAt, soundOn, meanOf}
+use Rattle.dng.specs.Repair.{Tally, complete, steps, sampleAt, tallyOn, tallyAt, soundOn, meanOf}
 use Rattle.dng.specs.Value.{nought}
 use Rattle.near.specs.Looks.{firstOf, nearOn, nearOf}
 use Rattle.near.proofs.Sound.{sound-any, sound-two}
 use Rattle.scan.proofs.Places.{place-in}
-use Rattle.means.specs.Means.{Reads, sumOver, meanOver}
-use Rattle.means.proofs.Tallies.{more, tally-count, tally-few}
+use Rattle.means.specs.Means.{sumOver, meanOver}
+use Rattle.means.proofs.Tallies.{more, sound-few}
 
 -- ---- turn by turn
 
@@ -75,9 +75,7 @@ module _ (w : Window) (period : ℕ) (bad : ℕ → Bool) (x y : ℕ) where
 
   -- at most eight
   pub near-few : length (nearOf w period bad x y) ≤ 8
-  near-few =
-      omega
-      (arith, near-count, tally-count (w .width) (w .height) period bad (λ xx yy. nought) x y, tally-few (w .width) (w .height) period bad (λ xx yy. nought) x y)
+  near-few = omega (arith, near-count, sound-few (w .width) (w .height) period bad x y steps)
 
   near-all-on : (P : ℕ → Type 0) → ((xx yy : ℕ) → xx < w .width → yy < w .height → P (firstOf w xx yy)) → (ds : List (ℤ × ℤ))
       → (j : ℕ) → j < length (nearOn w period bad x y ds) → P (getD (nearOn w period bad x y ds) j 0)

@@ -54,12 +54,6 @@ sound-few width height period bad x y [] = omega arith
 sound-few width height period bad x y (d ∷ ds) =
     omega (arith, sound-few width height period bad x y ds, sound-le width height period bad x y d)
 
--- at most 8: what `mean` asks
-pub tally-few : (width height period : ℕ) (bad : ℕ → Bool) (value : ℕ → ℕ → Float) (x y : ℕ)
-    → tallyAt width height period bad value x y .n ≤ 8
-tally-few width height period bad value x y =
-    omega (arith, tally-count width height period bad value x y, sound-few width height period bad x y steps)
-
 -- ---- marks that agree below the number of positions, and values that agree at unmarked positions of the window
 
 module _ (w : Window) (period : ℕ) (bad bad′ : ℕ → Bool) (same : (q : ℕ) → q < positions w → bad q ≡ bad′ q) (x y : ℕ) where

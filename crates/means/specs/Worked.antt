@@ -1,4 +1,4 @@
--- Worked values of the tallies that the contracts of `means` cite, which the checker computes.
+-- Worked values of the tallies that the means come to (proofs/Sums), which the checker computes.
 -- Position q of the window has the value q + 1.
 use Prim.Native.Nat.{ℕ, _+_, _*_}
 use mathlib.Core.Bool.{Bool}

@@ -1,5 +1,5 @@
 -- With no neighbour marked, the sound neighbours are those with no marks at all; and all eight where they lie in the window. Assumes nothing.
-use Prim.Native.Nat.{ℕ, _+_, _-_, _*_, _≤_, _<_}
+use Prim.Native.Nat.{ℕ, _+_, _-_, _*_, _<_}
 use mathlib.Core.Path.{_≡_, refl, sym, ap, _∙_}
 use mathlib.Core.Bool.{Bool, true, false, not, _&&_, cond}
 use mathlib.Core.List.{List, [], _∷_}
@@ -10,7 +10,8 @@ use lib.Dec.{ltb}
 use lib.IntN.{ℤ, pos, negsuc}
 use Rattle.dng.specs.declared.Window.{Window}
 use Rattle.dng.specs.Repair.{steps, moved, sound}
-use Rattle.near.specs.Looks.{Inside, LoneOn, Lone, none, firstOf, nearOn, nearOf}
+use Rattle.sorts.specs.Sorts.{occ, has, Rises}
+use Rattle.near.specs.Looks.{Asks, Inside, LoneOn, Lone, none, marked, firstOf, nearOn, nearOf}
 use Rattle.near.proofs.Moving.{moved-none, moved-on, moved-back}
 
 module _ (bad : ℕ → Bool) (w : Window) (period x y : ℕ) where
@@ -40,6 +41,20 @@ module _ (bad : ℕ → Bool) (w : Window) (period x y : ℕ) where
   pub lone-near : Lone bad w period x y → nearOf w period none x y ≡ nearOf w period bad x y
   unfolding Lone
   lone-near l = lone-near-on steps l
+
+-- a position that may be known to be lone asks for k marks: none where it is, all n of them where it is not
+module _ (marks : List ℕ) (n : ℕ) (w : Window) (period x y : ℕ) where
+  pub asked-asks : (lone : Bool) {k : ℕ} → k ≡ cond lone 0 n → Asks marks n w period x y → Asks marks k w period x y
+  unfolding Rises
+  asked-asks true e a =
+      rw e (record { fits = a .fits; column = a .column; row = a .row; step = a .step; far = a .far; held = omega arith; rises = tt })
+  asked-asks false e a = rw e a
+
+  pub asked-near : (lone : Bool) {k : ℕ} → k ≡ cond lone 0 n → (lone ≡ true → Lone (marked marks n) w period x y)
+      → nearOf w period (marked marks k) x y ≡ nearOf w period (marked marks n) x y
+  unfolding has occ
+  asked-near true e l = rw e (lone-near (marked marks n) w period x y (l refl))
+  asked-near false e l = ap (λ (j : ℕ). nearOf w period (marked marks j) x y) e
 
 -- ---- all eight in the window
 

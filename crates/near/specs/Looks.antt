@@ -1,7 +1,7 @@
 -- What is asked of a position whose neighbours are looked for, which of them are sound, and the steps and neighbours as the code has them.
 -- Document 01, 'What each does to a value', Repair.
 use Prim.Native.Nat.{ℕ, _+_, _*_, _≤_, _<_}
-use mathlib.Core.Bool.{Bool, true, false, not, _&&_, cond}
+use mathlib.Core.Bool.{Bool, false, not, _&&_, cond}
 use mathlib.Core.List.{List, [], _∷_}
 use mathlib.Core.Path.{_≡_}
 use lib.Dec.{leb, ltb, eqb}

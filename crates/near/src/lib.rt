@@ -1,6 +1,6 @@
 // The sound neighbours of a position: which they are, and where their samples begin.
 ghost use mathlib.Core.Path.{_≡_};
-ghost use mathlib.Core.Bool.{true};
+ghost use mathlib.Core.Bool.{true, cond};
 ghost use mathlib.Core.List.{map};
 ghost use Prim.Native.Nat.{_≤_, _<_};
 ghost use Rattle.dng.specs.Repair.{steps, moved};
@@ -155,7 +155,7 @@ fn inside(w: Window, period: usize, x: usize, y: usize) -> bool
 }
 
 // Whether a position is known to be lone and all its eight neighbours lie in the window.
-fn open(w: Window, period: usize, x: usize, y: usize, lone: bool) -> bool
+fn lone_inside(w: Window, period: usize, x: usize, y: usize, lone: bool) -> bool
     requires { ⌜ (x ≤ 65536) × ((y ≤ 65536) × (period ≤ 65536)) ⌝ }
     ensures { λ r. ⌜ (r ≡ true → (lone ≡ true) × Inside w period x y) ⌝ }
 {
@@ -188,7 +188,14 @@ fn eight(w: Window, period: usize, x: usize, y: usize) -> Near
     }
 }
 
-// The sound neighbours of a position that may be known to be lone: then no mark is looked at where all eight lie in the window.
+// How many marks are to be looked at: around a lone position, none.
+fn asked(n: usize, lone: bool) -> usize
+    ensures { λ r. ⌜ r ≡ cond lone 0 n ⌝ }
+{
+    if lone { 0 } else { n }
+}
+
+// The sound neighbours of a position that may be known to be lone: then no mark is looked at.
 pub fn all_near(
     marks: &[u32],
     n: usize,
@@ -202,8 +209,8 @@ pub fn all_near(
     requires { ⌜ Asks (now marks) n w period x y × (lone ≡ true → Lone (marked (now marks) n) w period x y) ⌝ }
     ensures { λ r. ⌜ Lists r (nearOf w period (marked (now (marks .entry)) n) x y) ⌝ }
 {
-    if open(w, period, x, y, lone) {
+    if lone_inside(w, period, x, y, lone) {
         return eight(w, period, x, y);
     }
-    around(marks, n, w, period, x, y, places)
+    around(marks, asked(n, lone), w, period, x, y, places)
 }

@@ -1,5 +1,5 @@
 -- What is seen of ascending marks from one place among them. Nothing here has to be believed: what it comes to is said in the words of
--- `sorts` `has` and of means/specs/Looks.
+-- `sorts` `has` and of near/specs/Looks.
 use Prim.Native.Nat.{ℕ, _≤_, _<_}
 use mathlib.Core.Bool.{false}
 use mathlib.Core.List.{List}

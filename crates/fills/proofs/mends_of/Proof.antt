@@ -1,13 +1,10 @@
--- `fills::mends_of` meets its contract: where all are repaired, mark i is. Assumes nothing.
+-- `fills::mends_of` meets its contract: where all are repaired, mark i is, and where none is, it is not. Assumes nothing.
 use mathlib.Core.Path.{sym}
 use native.Mathlib.Omega.{arith}
 use borrow.Author.Needs.{needs}
-use Rattle.fills.proofs.Rooms.{mended-all}
+use Rattle.fills.proofs.Rooms.{mended-all, mended-none}
 use Rattle.fills.proofs.mends_of.Statement.{statement}
 use Rattle.fills.proofs.mends_of.Tie as tie
-use Rattle.fills.proofs.mends_of.Reads as reads
-use Rattle.fills.proofs.mends_of.Lts as lts
-use Rattle.fills.proofs.mends.Reads as mends-reads
 
 returns : tie.Need-returns
 returns c =
@@ -15,11 +12,17 @@ returns c =
     let a = s .args in
     sym (mended-all (a .marks .now) (a .n) (a .w) (a .step) (s .pre .0) (a .i) (s .pre .1 .0) (omega (arith, s .pre .1 .1 .0, c .if1 .taken)))
 
+returns-2 : tie.Need-returns-2
+returns-2 c =
+    let s = c .before .before .before in
+    let a = s .args in
+    sym (mended-none (a .marks .now) (a .n) (a .w) (a .step) (s .pre .0) (a .i) (s .pre .1 .0) (omega (arith, s .pre .1 .1 .0, c .if2 .taken)))
+
 mends-requires : tie.Need-mends-requires
 mends-requires c κs = search needs
 
-returns-2 : tie.Need-returns-2
-returns-2 c = search needs
+returns-3 : tie.Need-returns-3
+returns-3 c = search needs
 
 pub mends-of-spec : {M : Type 1} → statement M
-mends-of-spec = tie.close (tie.spec returns mends-requires returns-2)
+mends-of-spec = tie.close (tie.spec returns returns-2 mends-requires returns-3)

@@ -4,15 +4,15 @@ use mathlib.Core.List.{List}
 use mathlib.Core.Path.{subst}
 use borrow.Author.Needs.{needs}
 use Rattle.near.specs.Looks.{marked, Lists}
-use Rattle.near.proofs.Unmarked.{lone-near}
+use Rattle.near.proofs.Unmarked.{lone-near, asked-asks, asked-near}
 use Rattle.near.proofs.all_near.Statement.{statement}
 use Rattle.near.proofs.all_near.Tie as tie
 
-open-requires : tie.Need-open-requires
-open-requires c κs = search needs
+lone-inside-requires : tie.Need-lone-inside-requires
+lone-inside-requires c κs = search needs
 
 eight-requires : tie.Need-eight-requires
-eight-requires c κs = let s = c .before .before .before in (s .pre .0 .fits, c .before .open .ensures (c .if1 .taken) .1)
+eight-requires c κs = let s = c .before .before .before in (s .pre .0 .fits, c .before .lone-inside .ensures (c .if1 .taken) .1)
 
 returns : tie.Need-returns
 returns c =
@@ -20,14 +20,26 @@ returns c =
     let s = b .before .before .before in
     let a = s .args in
     subst (λ (l : List ℕ). Lists (c .eight .result) l)
-    (lone-near (marked (a .marks .now) (a .n)) (a .w) (a .period) (a .x) (a .y) (s .pre .1 (b .before .open .ensures (b .if1 .taken) .0)))
+    (lone-near (marked (a .marks .now) (a .n)) (a .w) (a .period) (a .x) (a .y) (s .pre .1 (b .before .lone-inside .ensures (b .if1 .taken) .0)))
     (c .eight .ensures)
 
+asked-requires : tie.Need-asked-requires
+asked-requires c κs = search needs
+
 around-requires : tie.Need-around-requires
-around-requires c κs = search needs
+around-requires c κs =
+    let k = c .before in
+    let s = k .before .before .before .before in
+    let a = s .args in
+    asked-asks (a .marks .now) (a .n) (a .w) (a .period) (a .x) (a .y) (a .lone) (k .asked .ensures) (s .pre .0)
 
 returns-2 : tie.Need-returns-2
-returns-2 c = search needs
+returns-2 c =
+    let k = c .before .before in
+    let s = k .before .before .before .before in
+    let a = s .args in
+    subst (λ (l : List ℕ). Lists (c .around .result) l)
+    (asked-near (a .marks .now) (a .n) (a .w) (a .period) (a .x) (a .y) (a .lone) (k .asked .ensures) (s .pre .1)) (c .around .ensures)
 
 pub all-near-spec : {M : Type 1} → statement M
-all-near-spec = tie.close (tie.spec open-requires eight-requires returns around-requires returns-2)
+all-near-spec = tie.close (tie.spec lone-inside-requires eight-requires returns asked-requires around-requires returns-2)

@@ -1,5 +1,5 @@
 -- `near::around` meets its contract: the walk over the steps. Assumes nothing.
-use Prim.Native.Nat.{ℕ, _-_, _<_}
+use Prim.Native.Nat.{_-_, _<_}
 use mathlib.Core.Path.{_≡_, refl}
 use mathlib.Core.List.{List, map}
 use native.Mathlib.Omega.{arith}

@@ -1,5 +1,5 @@
 -- `near::eight` meets its contract: the eight places, in the order of the steps. Assumes nothing.
-use mathlib.Core.Path.{refl, sym, ap, _∙_}
+use mathlib.Core.Path.{ap}
 use lib.ListN.{length}
 use borrow.Author.Needs.{needs}
 use Rattle.near.proofs.Unmarked.{eight-near}

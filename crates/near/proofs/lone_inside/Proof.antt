@@ -1,8 +1,8 @@
--- `near::open` meets its contract. Assumes nothing.
+-- `near::lone_inside` meets its contract. Assumes nothing.
 use mathlib.Core.Bool.{false≢true}
 use borrow.Author.Needs.{needs}
-use Rattle.near.proofs.open.Statement.{statement}
-use Rattle.near.proofs.open.Tie as tie
+use Rattle.near.proofs.lone_inside.Statement.{statement}
+use Rattle.near.proofs.lone_inside.Tie as tie
 
 inside-requires : tie.Need-inside-requires
 inside-requires c κs = search needs
@@ -13,5 +13,5 @@ returns c = λ e. (c .before .if1 .taken, c .inside .ensures e)
 returns-2 : tie.Need-returns-2
 returns-2 c = λ e. absurd (false≢true e)
 
-pub open-spec : {M : Type 1} → statement M
-open-spec = tie.close (tie.spec inside-requires returns returns-2)
+pub lone-inside-spec : {M : Type 1} → statement M
+lone-inside-spec = tie.close (tie.spec inside-requires returns returns-2)
