@@ -1,7 +1,6 @@
 -- `lone::below_from` meets its contract: the first of the three below is where the search goes on to. Assumes nothing.
 use Prim.Native.Nat.{ℕ, _+_, _-_, _*_}
 use mathlib.Core.Path.{_≡_, refl, ap₂, subst}
-use native.Mathlib.Omega.{arith}
 use borrow.Author.Needs.{needs}
 use lib.ListN.{getD}
 use Rattle.places.specs.Beside.{Reached}

@@ -12,12 +12,6 @@ use Rattle.repair.proofs.Placing.{fits-of}
 use Rattle.repair.proofs.Gathering.{ranges-of, fix-none, fix-marks, fix-asks, fix-settled}
 use Rattle.repair.proofs.fix_f32.Statement.{statement}
 use Rattle.repair.proofs.fix_f32.Tie as tie
-use Rattle.repair.proofs.fix_f32.Reads as reads
-use Rattle.repair.proofs.fix_f32.Lts as lts
-use Rattle.repair.proofs.full.Reads as full-reads
-use Rattle.repair.proofs.gather_f32.Reads as gather-f32-reads
-use Rattle.repair.proofs.settle_f32.Reads as settle-f32-reads
-use Rattle.repair.proofs.step_of.Reads as step-of-reads
 
 full-requires : tie.Need-full-requires
 full-requires c κs = let s = c .before .before .before .before in ranges-of (s .args .w) (s .args .period) (s .pre) .0

@@ -11,12 +11,6 @@ use Rattle.repair.proofs.Placing.{fits-of}
 use Rattle.repair.proofs.Gathering.{ranges-of, fix-none, fix-marks, fix-asks, fix-settled}
 use Rattle.repair.proofs.fix_u16.Statement.{statement}
 use Rattle.repair.proofs.fix_u16.Tie as tie
-use Rattle.repair.proofs.fix_u16.Reads as reads
-use Rattle.repair.proofs.fix_u16.Lts as lts
-use Rattle.repair.proofs.full.Reads as full-reads
-use Rattle.repair.proofs.gather_u16.Reads as gather-u16-reads
-use Rattle.repair.proofs.settle_u16.Reads as settle-u16-reads
-use Rattle.repair.proofs.step_of.Reads as step-of-reads
 
 full-requires : tie.Need-full-requires
 full-requires c κs = let s = c .before .before .before .before in ranges-of (s .args .w) (s .args .period) (s .pre) .0

@@ -4,8 +4,6 @@ use borrow.Author.Needs.{needs}
 use Rattle.repair.proofs.Placing.{window-fits, complete-none, complete-narrow, complete-flat, complete-is}
 use Rattle.repair.proofs.full.Statement.{statement}
 use Rattle.repair.proofs.full.Tie as tie
-use Rattle.repair.proofs.full.Reads as reads
-use Rattle.repair.proofs.full.Lts as lts
 
 returns : tie.Need-returns
 returns c =

@@ -8,11 +8,6 @@ use Rattle.repair.proofs.Gathering.{marks-constant, marks-list, marks-n
 use borrow.Author.Needs.{needs}
 use Rattle.repair.proofs.gather_f32.Statement.{statement}
 use Rattle.repair.proofs.gather_f32.Tie as tie
-use Rattle.repair.proofs.gather_f32.Reads as reads
-use Rattle.repair.proofs.gather_f32.Lts as lts
-use Rattle.convert.proofs.f32_of_u32.Reads as f32-of-u32-reads
-use Rattle.columns.proofs.list_marks.Reads as list-marks-reads
-use Rattle.scan.proofs.constant_marks_f32.Reads as constant-marks-f32-reads
 
 enum-known-op : tie.Need-enum-known-op
 enum-known-op c = search needs

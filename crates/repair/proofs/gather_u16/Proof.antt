@@ -7,10 +7,6 @@ use Rattle.dng.specs.Run.{u16Kind}
 use Rattle.repair.proofs.Gathering.{marks-constant, marks-list, marks-none}
 use Rattle.repair.proofs.gather_u16.Statement.{statement}
 use Rattle.repair.proofs.gather_u16.Tie as tie
-use Rattle.repair.proofs.gather_u16.Reads as reads
-use Rattle.repair.proofs.gather_u16.Lts as lts
-use Rattle.columns.proofs.list_marks.Reads as list-marks-reads
-use Rattle.scan.proofs.constant_marks_u16.Reads as constant-marks-u16-reads
 
 enum-known-op : tie.Need-enum-known-op
 enum-known-op c = search needs

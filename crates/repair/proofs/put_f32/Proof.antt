@@ -7,8 +7,6 @@ use lib.ListN.{getD}
 use Rattle.repair.proofs.Writing.{Putting, put-start, put-next, put-end}
 use Rattle.repair.proofs.put_f32.Statement.{statement}
 use Rattle.repair.proofs.put_f32.Tie as tie
-use Rattle.repair.proofs.put_f32.Reads as reads
-use Rattle.repair.proofs.put_f32.Lts as lts
 
 abbrev Inv-loop : tie.InvT-loop
 Inv-loop samples₀ from planes values at k₀ samples k =

@@ -6,9 +6,6 @@ use Rattle.whole.specs.Whole.{roundHeld}
 use Rattle.repair.proofs.Writing.{Putting, put-start, put-next, put-end}
 use Rattle.repair.proofs.put_u16.Statement.{statement}
 use Rattle.repair.proofs.put_u16.Tie as tie
-use Rattle.repair.proofs.put_u16.Reads as reads
-use Rattle.repair.proofs.put_u16.Lts as lts
-use Rattle.whole.proofs.round_u16.Reads as round-u16-reads
 
 abbrev Inv-loop : tie.InvT-loop
 Inv-loop samples₀ from planes values at k₀ samples k =
