@@ -4,18 +4,6 @@ use borrow.Author.Needs.{needs}
 use Rattle.bodies.proofs.bad_list.Statement.{statement}
 use Rattle.bodies.proofs.bad_list.Tie as tie
 
-bad-list-fits-requires : tie.Need-bad-list-fits-requires
-bad-list-fits-requires c κs = search needs
-
-word-requires : tie.Need-word-requires
-word-requires c κs = search needs
-
-word-requires-2 : tie.Need-word-requires-2
-word-requires-2 c κs = search needs
-
-word-requires-3 : tie.Need-word-requires-3
-word-requires-3 c κs = search needs
-
 returns : tie.Need-returns
 returns c =
     let b4 = c .before .before .before .before in
@@ -29,9 +17,4 @@ pub bad-list-spec : {M : Type 1} → statement M
 bad-list-spec =
     tie.close
     (tie.spec
-    bad-list-fits-requires
-    word-requires
-    word-requires-2
-    word-requires-3
-    returns
-    returns-2)
+    (λ c κs. search needs) (λ c κs. search needs) (λ c κs. search needs) (λ c κs. search needs) returns returns-2)

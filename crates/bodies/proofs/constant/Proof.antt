@@ -7,14 +7,9 @@ use Rattle.bodies.proofs.constant.Tie as tie
 returns : tie.Need-returns
 returns c = constant-short _ _ _ (c .if1 .taken)
 
-word-requires : tie.Need-word-requires
-word-requires c κs = search needs
-
-word-requires-2 : tie.Need-word-requires-2
-word-requires-2 c κs = search needs
-
 returns-2 : tie.Need-returns-2
 returns-2 c = constant-read _ _ _ (c .before .before .if1 .left) (c .before .word .ensures) (c .word2 .ensures)
 
 pub constant-spec : {M : Type 1} → statement M
-constant-spec = tie.close (tie.spec returns word-requires word-requires-2 returns-2)
+constant-spec = tie.close (tie.spec
+    returns (λ c κs. search needs) (λ c κs. search needs) returns-2)

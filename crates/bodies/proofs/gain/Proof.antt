@@ -4,24 +4,6 @@ use borrow.Author.Needs.{needs}
 use Rattle.bodies.proofs.gain.Statement.{statement}
 use Rattle.bodies.proofs.gain.Tie as tie
 
-gains-fit-requires : tie.Need-gains-fit-requires
-gains-fit-requires c κs = search needs
-
-region-requires : tie.Need-region-requires
-region-requires c κs = search needs
-
-word-requires : tie.Need-word-requires
-word-requires c κs = search needs
-
-word-requires-2 : tie.Need-word-requires-2
-word-requires-2 c κs = search needs
-
-grid-requires : tie.Need-grid-requires
-grid-requires c κs = search needs
-
-word-requires-3 : tie.Need-word-requires-3
-word-requires-3 c κs = search needs
-
 returns : tie.Need-returns
 returns c =
     let b4 = c .before .before .before .before in
@@ -35,11 +17,5 @@ pub gain-spec : {M : Type 1} → statement M
 gain-spec =
     tie.close
     (tie.spec
-    gains-fit-requires
-    region-requires
-    word-requires
-    word-requires-2
-    grid-requires
-    word-requires-3
-    returns
-    returns-2)
+    (λ c κs. search needs) (λ c κs. search needs) (λ c κs. search needs) (λ c κs. search needs) (λ c κs. search needs)
+    (λ c κs. search needs) returns returns-2)

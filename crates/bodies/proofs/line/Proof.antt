@@ -7,18 +7,6 @@ use borrow.Author.Needs.{needs}
 use Rattle.bodies.proofs.line.Statement.{statement}
 use Rattle.bodies.proofs.line.Tie as tie
 
-values-fit-requires : tie.Need-values-fit-requires
-values-fit-requires c κs = search needs
-
-region-requires : tie.Need-region-requires
-region-requires c κs = search needs
-
-word-requires : tie.Need-word-requires
-word-requires c κs = search needs
-
-line-of-requires : tie.Need-line-of-requires
-line-of-requires c κs = search needs
-
 returns : tie.Need-returns
 returns c =
     let b4 = c .before .before .before .before in
@@ -31,4 +19,5 @@ returns-2 c = values-not _ _ _ 4 (lineOf (c .before .before .before .args .id)) 
 pub line-spec : {M : Type 1} → statement M
 line-spec =
     tie.close
-    (tie.spec values-fit-requires region-requires word-requires line-of-requires returns returns-2)
+    (tie.spec
+    (λ c κs. search needs) (λ c κs. search needs) (λ c κs. search needs) (λ c κs. search needs) returns returns-2)

@@ -6,30 +6,6 @@ use borrow.Author.Needs.{needs}
 use Rattle.bodies.proofs.low.Statement.{statement}
 use Rattle.bodies.proofs.low.Tie as tie
 
-warp-requires : tie.Need-warp-requires
-warp-requires c κs = search needs
-
-vignette-requires : tie.Need-vignette-requires
-vignette-requires c κs = search needs
-
-constant-requires : tie.Need-constant-requires
-constant-requires c κs = search needs
-
-bad-list-requires : tie.Need-bad-list-requires
-bad-list-requires c κs = search needs
-
-trim-requires : tie.Need-trim-requires
-trim-requires c κs = search needs
-
-table-requires : tie.Need-table-requires
-table-requires c κs = search needs
-
-polynomial-requires : tie.Need-polynomial-requires
-polynomial-requires c κs = search needs
-
-gain-requires : tie.Need-gain-requires
-gain-requires c κs = search needs
-
 returns : tie.Need-returns
 unfolding parsedAt
 returns c = rw (c .before .match .keys1) (c .warp .ensures)
@@ -76,21 +52,6 @@ pub low-spec : {M : Type 1} → statement M
 low-spec =
     tie.close
     (tie.spec
-    warp-requires
-    vignette-requires
-    constant-requires
-    bad-list-requires
-    trim-requires
-    table-requires
-    polynomial-requires
-    gain-requires
-    returns
-    returns-2
-    returns-3
-    returns-4
-    returns-5
-    returns-6
-    returns-7
-    returns-8
-    returns-9
-    returns-10)
+    (λ c κs. search needs) (λ c κs. search needs) (λ c κs. search needs) (λ c κs. search needs) (λ c κs. search needs)
+    (λ c κs. search needs) (λ c κs. search needs) (λ c κs. search needs) returns returns-2 returns-3 returns-4
+    returns-5 returns-6 returns-7 returns-8 returns-9 returns-10)

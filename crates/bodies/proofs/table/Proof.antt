@@ -5,15 +5,6 @@ use borrow.Author.Needs.{needs}
 use Rattle.bodies.proofs.table.Statement.{statement}
 use Rattle.bodies.proofs.table.Tie as tie
 
-values-fit-requires : tie.Need-values-fit-requires
-values-fit-requires c κs = search needs
-
-region-requires : tie.Need-region-requires
-region-requires c κs = search needs
-
-word-requires : tie.Need-word-requires
-word-requires c κs = search needs
-
 returns : tie.Need-returns
 returns c =
     values-read _ _ _ 2 MapTable (c .before .before .before .values-fit .ensures) (c .before .before .if1 .taken)
@@ -24,4 +15,5 @@ returns-2 c = values-not _ _ _ 2 MapTable (c .before .values-fit .ensures) (c .i
 
 pub table-spec : {M : Type 1} → statement M
 table-spec =
-    tie.close (tie.spec values-fit-requires region-requires word-requires returns returns-2)
+    tie.close (tie.spec
+    (λ c κs. search needs) (λ c κs. search needs) (λ c κs. search needs) returns returns-2)

@@ -7,18 +7,6 @@ use Rattle.bodies.proofs.trim.Tie as tie
 returns : tie.Need-returns
 returns c = trim-short _ _ _ (c .if1 .taken)
 
-word-requires : tie.Need-word-requires
-word-requires c κs = search needs
-
-word-requires-2 : tie.Need-word-requires-2
-word-requires-2 c κs = search needs
-
-word-requires-3 : tie.Need-word-requires-3
-word-requires-3 c κs = search needs
-
-word-requires-4 : tie.Need-word-requires-4
-word-requires-4 c κs = search needs
-
 returns-2 : tie.Need-returns-2
 returns-2 c =
     let b4 = c .before .before .before .before in
@@ -28,4 +16,5 @@ returns-2 c =
 pub trim-spec : {M : Type 1} → statement M
 trim-spec =
     tie.close
-    (tie.spec returns word-requires word-requires-2 word-requires-3 word-requires-4 returns-2)
+    (tie.spec
+    returns (λ c κs. search needs) (λ c κs. search needs) (λ c κs. search needs) (λ c κs. search needs) returns-2)

@@ -7,11 +7,9 @@ use Rattle.bodies.proofs.vignette.Tie as tie
 returns : tie.Need-returns
 returns c = vignette-short _ _ _ (c .if1 .taken)
 
-radial-requires : tie.Need-radial-requires
-radial-requires c κs = search needs
-
 returns-2 : tie.Need-returns-2
 returns-2 c = vignette-read _ _ _ (c .before .if1 .left) (c .radial .ensures)
 
 pub vignette-spec : {M : Type 1} → statement M
-vignette-spec = tie.close (tie.spec returns radial-requires returns-2)
+vignette-spec = tie.close (tie.spec
+    returns (λ c κs. search needs) returns-2)

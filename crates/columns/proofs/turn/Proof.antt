@@ -20,12 +20,6 @@ abbrev μ-loop : tie.MeasureT-loop
 loop-holds : tie.Need-loop-holds Inv-loop μ-loop
 loop-holds c = (sym (each-between-empty 0 0 _ _ (omega arith)), refl, omega arith)
 
-mul-q : tie.Need-mul-q Inv-loop μ-loop
-mul-q c = omega arith
-
-slice-read-q : tie.Need-slice-read-q Inv-loop μ-loop
-slice-read-q c = omega arith
-
 entry : (c : tie.After-slice-known2 Inv-loop μ-loop) → let a = c .before .before .before .before .args in
     getD (c .before .before .loop .s) (c .before .before .loop .i) 0 < a .width * a .height
 entry c =
@@ -68,27 +62,12 @@ add-s c = omega (arith, known c .below, small (c .before))
 cast-s : tie.Need-cast-s Inv-loop μ-loop
 cast-s c = omega (arith, known c .below, small (c .before))
 
-mul-s-3 : tie.Need-mul-s-3 Inv-loop μ-loop
-mul-s-3 c = omega arith
-
-slice-write-s : tie.Need-slice-write-s Inv-loop μ-loop
-slice-write-s c = omega arith
-
-add-i : tie.Need-add-i Inv-loop μ-loop
-add-i c = omega arith
-
-loop-less : tie.Need-loop-less Inv-loop μ-loop
-loop-less c = omega arith
-
 loop-again : tie.Need-loop-again Inv-loop μ-loop
 loop-again c =
     let s = c .before .before .before .before .before .args in
     let a = c .before .before .before .loop in
     let grown = store 0 (λ j q. turned (s .width) (s .height) q) 0 (a .i) (s .s .now) (a .s) _ (a .inv .0) (known c .is) (omega arith) (omega arith) in
     (grown, ap length grown ∙ length-each _ _, omega (arith, known c .below, small (c .before)))
-
-same-length : tie.Need-same-length Inv-loop μ-loop
-same-length c = omega arith
 
 returns : tie.Need-returns Inv-loop μ-loop
 returns c =
@@ -101,22 +80,6 @@ pub turn-spec : {M : Type 1} → statement M
 turn-spec =
     tie.close
     (tie.spec
-    Inv-loop
-    μ-loop
-    loop-holds
-    mul-q
-    slice-read-q
-    cast-q
-    column-of-requires
-    mul-s
-    sub-s
-    mul-s-2
-    add-s
-    cast-s
-    mul-s-3
-    slice-write-s
-    add-i
-    loop-less
-    loop-again
-    same-length
-    returns)
+    Inv-loop μ-loop loop-holds (λ c. omega arith) (λ c. omega arith) cast-q column-of-requires mul-s sub-s mul-s-2
+    add-s cast-s (λ c. omega arith) (λ c. omega arith) (λ c. omega arith) (λ c. omega arith) loop-again
+    (λ c. omega arith) returns)

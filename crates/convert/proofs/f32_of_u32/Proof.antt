@@ -6,14 +6,9 @@ use Rattle.convert.proofs.Laws.{narrow-whole}
 use Rattle.convert.proofs.f32_of_u32.Statement.{statement}
 use Rattle.convert.proofs.f32_of_u32.Tie as tie
 
-int-to-float-to-f32 : tie.Need-int-to-float-to-f32
-int-to-float-to-f32 c = search needs
-
-to-f32-requires : tie.Need-to-f32-requires
-to-f32-requires c κs = search needs
-
 returns : tie.Need-returns
 returns c = c .to-f32 .ensures ∙ narrow-whole (c .before .before .args .n) (omega arith)
 
 pub f32-of-u32-spec : {M : Type 1} → statement M
-f32-of-u32-spec = tie.close (tie.spec int-to-float-to-f32 to-f32-requires returns)
+f32-of-u32-spec = tie.close (tie.spec
+    (λ c. search needs) (λ c κs. search needs) returns)

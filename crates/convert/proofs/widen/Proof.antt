@@ -22,8 +22,6 @@ float-to-float-result c =
     let x = c .before .before .args .x in
     and-i (fits binary64 x) (not (isNan x)) (fits-widens x (c .row-known .given)) (not-nan x (c .before .if1 .left))
 
-returns-2 : tie.Need-returns-2
-returns-2 c = search needs
-
 pub widen-spec : {M : Type 1} → statement M
-widen-spec = tie.close (tie.spec returns float-to-float-result returns-2)
+widen-spec = tie.close (tie.spec
+    returns float-to-float-result (λ c. search needs))

@@ -5,29 +5,8 @@ use borrow.Author.Needs.{needs}
 use Rattle.counts.proofs.bad_list_fits.Statement.{statement}
 use Rattle.counts.proofs.bad_list_fits.Tie as tie
 
-word-requires : tie.Need-word-requires
-word-requires c κs = search needs
-
-cast-np : tie.Need-cast-np
-cast-np c = search needs
-
-word-requires-2 : tie.Need-word-requires-2
-word-requires-2 c κs = search needs
-
-cast-nr : tie.Need-cast-nr
-cast-nr c = search needs
-
 returns : tie.Need-returns
 returns c = bad-list-no (c .before .before .word .ensures) (c .before .word2 .ensures) (λ h i. omega arith)
-
-mul-if2 : tie.Need-mul-if2
-mul-if2 c = search needs
-
-mul-if2-2 : tie.Need-mul-if2-2
-mul-if2-2 c = search needs
-
-add-if2 : tie.Need-add-if2
-add-if2 c = search needs
 
 returns-2 : tie.Need-returns-2
 returns-2 c = bad-list-no (c .before .before .before .word .ensures) (c .before .before .word2 .ensures) (λ h i. omega arith)
@@ -39,13 +18,5 @@ pub bad-list-fits-spec : {M : Type 1} → statement M
 bad-list-fits-spec =
     tie.close
     (tie.spec
-    word-requires
-    cast-np
-    word-requires-2
-    cast-nr
-    returns
-    mul-if2
-    mul-if2-2
-    add-if2
-    returns-2
-    returns-3)
+    (λ c κs. search needs) (λ c. search needs) (λ c κs. search needs) (λ c. search needs) returns (λ c. search needs)
+    (λ c. search needs) (λ c. search needs) returns-2 returns-3)

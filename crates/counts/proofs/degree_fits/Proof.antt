@@ -5,26 +5,11 @@ use borrow.Author.Needs.{needs}
 use Rattle.counts.proofs.degree_fits.Statement.{statement}
 use Rattle.counts.proofs.degree_fits.Tie as tie
 
-word-requires : tie.Need-word-requires
-word-requires c κs = search needs
-
-cast-d : tie.Need-cast-d
-cast-d c = search needs
-
 returns : tie.Need-returns
 returns c = degree-no (c .before .word .ensures) (λ h i j. omega arith)
 
-cast-if2 : tie.Need-cast-if2
-cast-if2 c = search needs
-
 returns-2 : tie.Need-returns-2
 returns-2 c = degree-no (c .before .before .word .ensures) (λ h i j. omega arith)
-
-add-if3 : tie.Need-add-if3
-add-if3 c = search needs
-
-mul-if3 : tie.Need-mul-if3
-mul-if3 c = search needs
 
 returns-3 : tie.Need-returns-3
 returns-3 c = degree-no (c .before .before .before .word .ensures) (λ h i j. omega arith)
@@ -35,4 +20,6 @@ returns-4 c = degree-yes (c .before .before .before .word .ensures) (omega arith
 pub degree-fits-spec : {M : Type 1} → statement M
 degree-fits-spec =
     tie.close
-    (tie.spec word-requires cast-d returns cast-if2 returns-2 add-if3 mul-if3 returns-3 returns-4)
+    (tie.spec
+    (λ c κs. search needs) (λ c. search needs) returns (λ c. search needs) returns-2 (λ c. search needs)
+    (λ c. search needs) returns-3 returns-4)

@@ -18,32 +18,11 @@ total-is :
 total-is c =
     product (c .before .before .before .word .ensures) (c .before .before .word2 .ensures) (c .before .word3 .ensures) (c .planes-of .ensures)
 
-word-requires : tie.Need-word-requires
-word-requires c κs = search needs
-
-cast-v : tie.Need-cast-v
-cast-v c = search needs
-
-word-requires-2 : tie.Need-word-requires-2
-word-requires-2 c κs = search needs
-
-cast-h : tie.Need-cast-h
-cast-h c = search needs
-
-word-requires-3 : tie.Need-word-requires-3
-word-requires-3 c κs = search needs
-
-planes-of-requires : tie.Need-planes-of-requires
-planes-of-requires c κs = search needs
-
 returns : tie.Need-returns
 returns c = gains-no (total-is (c .before)) (λ h i j k. omega arith)
 
 mul-points : tie.Need-mul-points
 mul-points c = record { fits = below 32 32 (search needs) (search needs) }
-
-cast-if2 : tie.Need-cast-if2
-cast-if2 c = search needs
 
 returns-2 : tie.Need-returns-2
 returns-2 c =
@@ -60,14 +39,8 @@ mul-total c =
 returns-3 : tie.Need-returns-3
 returns-3 c = gains-no (total-is (c .before .before .before)) (λ h i j k. omega arith)
 
-cast-if4 : tie.Need-cast-if4
-cast-if4 c = search needs
-
 returns-4 : tie.Need-returns-4
 returns-4 c = gains-no (total-is (c .before .before .before .before)) (λ h i j k. omega arith)
-
-mul-if5 : tie.Need-mul-if5
-mul-if5 c = search needs
 
 returns-5 : tie.Need-returns-5
 returns-5 c = gains-no (total-is (c .before .before .before .before .before)) (λ h i j k. omega arith)
@@ -79,20 +52,6 @@ pub gains-fit-spec : {M : Type 1} → statement M
 gains-fit-spec =
     tie.close
     (tie.spec
-    word-requires
-    cast-v
-    word-requires-2
-    cast-h
-    word-requires-3
-    planes-of-requires
-    returns
-    mul-points
-    cast-if2
-    returns-2
-    mul-total
-    returns-3
-    cast-if4
-    returns-4
-    mul-if5
-    returns-5
-    returns-6)
+    (λ c κs. search needs) (λ c. search needs) (λ c κs. search needs) (λ c. search needs) (λ c κs. search needs)
+    (λ c κs. search needs) returns mul-points (λ c. search needs) returns-2 mul-total returns-3 (λ c. search needs)
+    returns-4 (λ c. search needs) returns-5 returns-6)

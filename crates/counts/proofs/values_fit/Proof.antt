@@ -5,17 +5,8 @@ use borrow.Author.Needs.{needs}
 use Rattle.counts.proofs.values_fit.Statement.{statement}
 use Rattle.counts.proofs.values_fit.Tie as tie
 
-word-requires : tie.Need-word-requires
-word-requires c κs = search needs
-
-cast-n : tie.Need-cast-n
-cast-n c = search needs
-
 returns : tie.Need-returns
 returns c = values-no _ (c .before .word .ensures) (λ h i j. omega arith)
-
-cast-if2 : tie.Need-cast-if2
-cast-if2 c = search needs
 
 returns-2 : tie.Need-returns-2
 returns-2 c = values-no _ (c .before .before .word .ensures) (λ h i j. omega arith)
@@ -32,4 +23,5 @@ returns-4 c = values-yes _ (c .before .before .before .word .ensures) (omega ari
 pub values-fit-spec : {M : Type 1} → statement M
 values-fit-spec =
     tie.close
-    (tie.spec word-requires cast-n returns cast-if2 returns-2 mul-if3 returns-3 returns-4)
+    (tie.spec
+    (λ c κs. search needs) (λ c. search needs) returns (λ c. search needs) returns-2 mul-if3 returns-3 returns-4)

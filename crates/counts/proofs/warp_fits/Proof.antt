@@ -6,12 +6,6 @@ use borrow.Author.Needs.{needs}
 use Rattle.counts.proofs.warp_fits.Statement.{statement}
 use Rattle.counts.proofs.warp_fits.Tie as tie
 
-word-requires : tie.Need-word-requires
-word-requires c κs = search needs
-
-cast-n : tie.Need-cast-n
-cast-n c = search needs
-
 returns : tie.Need-returns
 returns c = warp-no (simp add-zero at (c .before .word .ensures)) (λ h i j k. omega arith)
 
@@ -20,15 +14,6 @@ returns-2 c = warp-no (simp add-zero at (c .before .before .word .ensures)) (λ 
 
 returns-3 : tie.Need-returns-3
 returns-3 c = warp-no (simp add-zero at (c .before .before .before .word .ensures)) (λ h i j k. omega arith)
-
-mul-if4 : tie.Need-mul-if4
-mul-if4 c = search needs
-
-add-if4 : tie.Need-add-if4
-add-if4 c = search needs
-
-mul-if4-2 : tie.Need-mul-if4-2
-mul-if4-2 c = search needs
 
 returns-4 : tie.Need-returns-4
 returns-4 c = warp-no (simp add-zero at (c .before .before .before .before .word .ensures)) (λ h i j k. omega arith)
@@ -42,13 +27,5 @@ pub warp-fits-spec : {M : Type 1} → statement M
 warp-fits-spec =
     tie.close
     (tie.spec
-    word-requires
-    cast-n
-    returns
-    returns-2
-    returns-3
-    mul-if4
-    add-if4
-    mul-if4-2
-    returns-4
-    returns-5)
+    (λ c κs. search needs) (λ c. search needs) returns returns-2 returns-3 (λ c. search needs) (λ c. search needs)
+    (λ c. search needs) returns-4 returns-5)

@@ -11,20 +11,8 @@ returns c = cut _ _ (omega arith)
 returns-2 : tie.Need-returns-2
 returns-2 c = cut _ _ (omega arith)
 
-header-requires : tie.Need-header-requires
-header-requires c κs = search needs
-
-sub-if3 : tie.Need-sub-if3
-sub-if3 c = search needs
-
 returns-3 : tie.Need-returns-3
 returns-3 c = long _ _ (c .before .header .ensures) (omega arith) (omega arith)
-
-add-t8 : tie.Need-add-t8
-add-t8 c = search needs
-
-add-t9 : tie.Need-add-t9
-add-t9 c = search needs
 
 returns-4 : tie.Need-returns-4
 returns-4 c = found _ _ (c .before .header .ensures) (omega arith) (omega arith)
@@ -32,4 +20,6 @@ returns-4 c = found _ _ (c .before .header .ensures) (omega arith) (omega arith)
 pub next-spec : {M : Type 1} → statement M
 next-spec =
     tie.close
-    (tie.spec returns returns-2 header-requires sub-if3 returns-3 add-t8 add-t9 returns-4)
+    (tie.spec
+    returns returns-2 (λ c κs. search needs) (λ c. search needs) returns-3 (λ c. search needs) (λ c. search needs)
+    returns-4)

@@ -12,54 +12,15 @@ use Rattle.exports.proofs.Windows.{enough, too-little}
 use Rattle.exports.proofs.rolbhunga_bytes_f32.Statement.{statement}
 use Rattle.exports.proofs.rolbhunga_bytes_f32.Tie as tie
 
-clear-f32-requires : tie.Need-clear-f32-requires
-clear-f32-requires c κs = search needs
-
-refuse-requires : tie.Need-refuse-requires
-refuse-requires c κs = search needs
-
-slice-relend-prefix-f32-in : tie.Need-slice-relend-prefix-f32-in
-slice-relend-prefix-f32-in c = search needs
-
 slice-aggregate-f32-in : tie.Need-slice-aggregate-f32-in
 slice-aggregate-f32-in c = part-length _ _ (c .before .before .if1 .left)
 
 f32-in-requires : tie.Need-f32-in-requires
 f32-in-requires c κs = part-fits 4 _ _ (c .before .before .before .before .before .if1 .left)
 
-clear-f32-requires-2 : tie.Need-clear-f32-requires-2
-clear-f32-requires-2 c κs = search needs
-
-numbers-requires : tie.Need-numbers-requires
-numbers-requires c κs = search needs
-
-same-length : tie.Need-same-length
-same-length c = search needs
-
-same-length-2 : tie.Need-same-length-2
-same-length-2 c = search needs
-
-same-length-3 : tie.Need-same-length-3
-same-length-3 c = search needs
-
 returns : tie.Need-returns
 returns c =
     too-little 4 (toBits binary32) nan nought _ _ _ _ _ _ _ _ _ (c .before .before .before .before .before .before .before .before .before .before .before .if1 .taken) (c .before .before .before .before .refuse .ensures) (c .before .before .before .before .before .before .before .before .before .clear-f32 .ensures)
-
-same-length-4 : tie.Need-same-length-4
-same-length-4 c = search needs
-
-same-length-5 : tie.Need-same-length-5
-same-length-5 c = search needs
-
-same-length-6 : tie.Need-same-length-6
-same-length-6 c = search needs
-
-same-length-7 : tie.Need-same-length-7
-same-length-7 c = search needs
-
-same-length-8 : tie.Need-same-length-8
-same-length-8 c = search needs
 
 returns-2 : tie.Need-returns-2
 returns-2 c =
@@ -73,20 +34,6 @@ pub rolbhunga-bytes-f32-spec : {M : Type 1} → statement M
 rolbhunga-bytes-f32-spec =
     tie.close
     (tie.spec
-    clear-f32-requires
-    refuse-requires
-    slice-relend-prefix-f32-in
-    slice-aggregate-f32-in
-    f32-in-requires
-    clear-f32-requires-2
-    numbers-requires
-    same-length
-    same-length-2
-    same-length-3
-    returns
-    same-length-4
-    same-length-5
-    same-length-6
-    same-length-7
-    same-length-8
-    returns-2)
+    (λ c κs. search needs) (λ c κs. search needs) (λ c. search needs) slice-aggregate-f32-in f32-in-requires
+    (λ c κs. search needs) (λ c κs. search needs) (λ c. search needs) (λ c. search needs) (λ c. search needs) returns
+    (λ c. search needs) (λ c. search needs) (λ c. search needs) (λ c. search needs) (λ c. search needs) returns-2)

@@ -5,35 +5,14 @@ use Rattle.exports.proofs.Rows.{part-length, part-fits, enough, short}
 use Rattle.exports.proofs.rolbhunga_bytes_row.Statement.{statement}
 use Rattle.exports.proofs.rolbhunga_bytes_row.Tie as tie
 
-clear-f32-requires : tie.Need-clear-f32-requires
-clear-f32-requires c κs = search needs
-
-slice-relend-prefix-row-in : tie.Need-slice-relend-prefix-row-in
-slice-relend-prefix-row-in c = search needs
-
 slice-aggregate-row-in : tie.Need-slice-aggregate-row-in
 slice-aggregate-row-in c = part-length _ _ (c .before .before .if1 .left)
 
 row-in-requires : tie.Need-row-in-requires
 row-in-requires c κs = part-fits 4 _ _ (c .before .before .if1 .left)
 
-clear-f32-requires-2 : tie.Need-clear-f32-requires-2
-clear-f32-requires-2 c κs = search needs
-
-row-numbers-requires : tie.Need-row-numbers-requires
-row-numbers-requires c κs = search needs
-
-same-length : tie.Need-same-length
-same-length c = search needs
-
 returns : tie.Need-returns
 returns c = short _ _ _ _ (c .before .before .before .before .if1 .taken) (c .before .before .clear-f32 .ensures)
-
-same-length-2 : tie.Need-same-length-2
-same-length-2 c = search needs
-
-same-length-3 : tie.Need-same-length-3
-same-length-3 c = search needs
 
 returns-2 : tie.Need-returns-2
 returns-2 c =
@@ -47,14 +26,5 @@ pub rolbhunga-bytes-row-spec : {M : Type 1} → statement M
 rolbhunga-bytes-row-spec =
     tie.close
     (tie.spec
-    clear-f32-requires
-    slice-relend-prefix-row-in
-    slice-aggregate-row-in
-    row-in-requires
-    clear-f32-requires-2
-    row-numbers-requires
-    same-length
-    returns
-    same-length-2
-    same-length-3
-    returns-2)
+    (λ c κs. search needs) (λ c. search needs) slice-aggregate-row-in row-in-requires (λ c κs. search needs)
+    (λ c κs. search needs) (λ c. search needs) returns (λ c. search needs) (λ c. search needs) returns-2)

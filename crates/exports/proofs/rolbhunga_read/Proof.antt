@@ -3,14 +3,9 @@ use borrow.Author.Needs.{needs}
 use Rattle.exports.proofs.rolbhunga_read.Statement.{statement}
 use Rattle.exports.proofs.rolbhunga_read.Tie as tie
 
-read-requires : tie.Need-read-requires
-read-requires c κs = search needs
-
-reading-numbers-requires : tie.Need-reading-numbers-requires
-reading-numbers-requires c κs = search needs
-
 returns : tie.Need-returns
 returns c = cc
 
 pub rolbhunga-read-spec : {M : Type 1} → statement M
-rolbhunga-read-spec = tie.close (tie.spec read-requires reading-numbers-requires returns)
+rolbhunga-read-spec = tie.close (tie.spec
+    (λ c κs. search needs) (λ c κs. search needs) returns)

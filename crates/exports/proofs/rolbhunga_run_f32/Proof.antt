@@ -4,24 +4,6 @@ use Rattle.exports.proofs.Windows.{told}
 use Rattle.exports.proofs.rolbhunga_run_f32.Statement.{statement}
 use Rattle.exports.proofs.rolbhunga_run_f32.Tie as tie
 
-run-f32-requires : tie.Need-run-f32-requires
-run-f32-requires c κs = search needs
-
-numbers-requires : tie.Need-numbers-requires
-numbers-requires c κs = search needs
-
-same-length : tie.Need-same-length
-same-length c = search needs
-
-same-length-2 : tie.Need-same-length-2
-same-length-2 c = search needs
-
-same-length-3 : tie.Need-same-length-3
-same-length-3 c = search needs
-
-same-length-4 : tie.Need-same-length-4
-same-length-4 c = search needs
-
 returns : tie.Need-returns
 returns c =
     let b9 = c .before .before .before .before .before .before .before .before .before in
@@ -31,10 +13,5 @@ pub rolbhunga-run-f32-spec : {M : Type 1} → statement M
 rolbhunga-run-f32-spec =
     tie.close
     (tie.spec
-    run-f32-requires
-    numbers-requires
-    same-length
-    same-length-2
-    same-length-3
-    same-length-4
-    returns)
+    (λ c κs. search needs) (λ c κs. search needs) (λ c. search needs) (λ c. search needs) (λ c. search needs)
+    (λ c. search needs) returns)

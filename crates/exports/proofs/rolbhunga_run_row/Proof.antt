@@ -4,15 +4,6 @@ use Rattle.exports.proofs.Rows.{told}
 use Rattle.exports.proofs.rolbhunga_run_row.Statement.{statement}
 use Rattle.exports.proofs.rolbhunga_run_row.Tie as tie
 
-run-row-requires : tie.Need-run-row-requires
-run-row-requires c κs = search needs
-
-row-numbers-requires : tie.Need-row-numbers-requires
-row-numbers-requires c κs = search needs
-
-same-length : tie.Need-same-length
-same-length c = search needs
-
 returns : tie.Need-returns
 returns c =
     let b3 = c .before .before .before in
@@ -20,4 +11,5 @@ returns c =
 
 pub rolbhunga-run-row-spec : {M : Type 1} → statement M
 rolbhunga-run-row-spec =
-    tie.close (tie.spec run-row-requires row-numbers-requires same-length returns)
+    tie.close (tie.spec
+    (λ c κs. search needs) (λ c κs. search needs) (λ c. search needs) returns)

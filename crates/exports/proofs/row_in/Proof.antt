@@ -5,24 +5,6 @@ use Rattle.exports.proofs.Rows.{left}
 use Rattle.exports.proofs.row_in.Statement.{statement}
 use Rattle.exports.proofs.row_in.Tie as tie
 
-decode-f32-requires : tie.Need-decode-f32-requires
-decode-f32-requires c κs = search needs
-
-run-row-requires : tie.Need-run-row-requires
-run-row-requires c κs = search needs
-
-is-row-done-requires : tie.Need-is-row-done-requires
-is-row-done-requires c κs = search needs
-
-put-f32-requires : tie.Need-put-f32-requires
-put-f32-requires c κs = search needs
-
-same-length : tie.Need-same-length
-same-length c = search needs
-
-same-length-2 : tie.Need-same-length-2
-same-length-2 c = search needs
-
 returns : tie.Need-returns
 returns c =
     let b8 = c .before .before .before .before .before .before .before .before in
@@ -35,10 +17,5 @@ pub row-in-spec : {M : Type 1} → statement M
 row-in-spec =
     tie.close
     (tie.spec
-    decode-f32-requires
-    run-row-requires
-    is-row-done-requires
-    put-f32-requires
-    same-length
-    same-length-2
-    returns)
+    (λ c κs. search needs) (λ c κs. search needs) (λ c κs. search needs) (λ c κs. search needs) (λ c. search needs)
+    (λ c. search needs) returns)

@@ -5,14 +5,9 @@ use borrow.Author.Needs.{needs}
 use Rattle.fields.proofs.word.Statement.{statement}
 use Rattle.fields.proofs.word.Tie as tie
 
-place-requires : tie.Need-place-requires
-place-requires c κs = search needs
-
-u32-at-requires : tie.Need-u32-at-requires
-u32-at-requires c κs = search needs
-
 returns : tie.Need-returns
 returns c = c .u32-at .ensures ∙ clamped 4 _ _ (c .before .place .ensures)
 
 pub word-spec : {M : Type 1} → statement M
-word-spec = tie.close (tie.spec place-requires u32-at-requires returns)
+word-spec = tie.close (tie.spec
+    (λ c κs. search needs) (λ c κs. search needs) returns)

@@ -18,11 +18,6 @@ returns-2 c =
     let a = s .args in
     sym (mended-none (a .marks .now) (a .n) (a .w) (a .step) (s .pre .0) (a .i) (s .pre .1 .0) (omega (arith, s .pre .1 .1 .0, c .if2 .taken)))
 
-mends-requires : tie.Need-mends-requires
-mends-requires c κs = search needs
-
-returns-3 : tie.Need-returns-3
-returns-3 c = search needs
-
 pub mends-of-spec : {M : Type 1} → statement M
-mends-of-spec = tie.close (tie.spec returns returns-2 mends-requires returns-3)
+mends-of-spec = tie.close (tie.spec
+    returns returns-2 (λ c κs. search needs) (λ c. search needs))

@@ -36,12 +36,6 @@ slice-write-values c =
     let t = c .before in
     omega (arith, start t .pre .1, t .loop-test .taken, t .before .loop .inv .same)
 
-add-k : tie.Need-add-k Inv-loop μ-loop
-add-k c = omega arith
-
-loop-less : tie.Need-loop-less Inv-loop μ-loop
-loop-less c = omega arith
-
 loop-again : tie.Need-loop-again Inv-loop μ-loop
 loop-again c =
     let t = c .before in
@@ -64,15 +58,5 @@ pub pixel-u16-spec : {M : Type 1} → statement M
 pixel-u16-spec =
     tie.close
     (tie.spec
-    Inv-loop
-    μ-loop
-    loop-holds
-    mean-u16-requires
-    add-values
-    mul-values
-    slice-write-values
-    add-k
-    loop-less
-    loop-again
-    same-length
-    returns)
+    Inv-loop μ-loop loop-holds mean-u16-requires add-values mul-values slice-write-values (λ c. omega arith)
+    (λ c. omega arith) loop-again same-length returns)

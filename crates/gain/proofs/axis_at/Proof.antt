@@ -4,24 +4,6 @@ use Rattle.gain.proofs.Laws.{floor-on}
 use Rattle.gain.proofs.axis_at.Statement.{statement}
 use Rattle.gain.proofs.axis_at.Tie as tie
 
-ruler-of-requires : tie.Need-ruler-of-requires
-ruler-of-requires c κs = search needs
-
-place-requires : tie.Need-place-requires
-place-requires c κs = search needs
-
-floor-requires : tie.Need-floor-requires
-floor-requires c κs = search needs
-
-last-of-requires : tie.Need-last-of-requires
-last-of-requires c κs = search needs
-
-next-requires : tie.Need-next-requires
-next-requires c κs = search needs
-
-to-f32-requires : tie.Need-to-f32-requires
-to-f32-requires c κs = search needs
-
 returns : tie.Need-returns
 returns c =
     let f =
@@ -31,4 +13,6 @@ returns c =
 
 pub axis-at-spec : {M : Type 1} → statement M
 axis-at-spec =
-    tie.close (tie.spec ruler-of-requires place-requires floor-requires last-of-requires next-requires to-f32-requires returns)
+    tie.close (tie.spec
+    (λ c κs. search needs) (λ c κs. search needs) (λ c κs. search needs) (λ c κs. search needs) (λ c κs. search needs)
+    (λ c κs. search needs) returns)

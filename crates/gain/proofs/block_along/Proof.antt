@@ -103,9 +103,6 @@ mul-smaller-2 c =
       mul-le-mul-left (a .args .from + a .args .w * a .args .k .pitch) (a .pre .0 .few),
     )
 
-smaller-requires : tie.Need-smaller-requires Inv-loop μ-loop
-smaller-requires c κs = search needs
-
 mul-step : tie.Need-mul-step Inv-loop μ-loop
 mul-step c =
     let a = c .before .before .before .before .before .before in
@@ -160,9 +157,6 @@ mul-raised-2 c = let t = c .before .before .before in omega (arith, below t, ent
 
 slice-read-raised : tie.Need-slice-read-raised Inv-loop μ-loop
 slice-read-raised c = inside (c .before .before .before .before)
-
-raised-requires : tie.Need-raised-requires Inv-loop μ-loop
-raised-requires c κs = search needs
 
 mul-row : tie.Need-mul-row Inv-loop μ-loop
 mul-row c = omega (arith, below (turn c), entry (turn c) .pre .0 .short)
@@ -223,32 +217,7 @@ pub block-along-spec : {M : Type 1} → statement M
 block-along-spec =
     tie.close
     (tie.spec
-    Inv-loop
-    μ-loop
-    end-of-requires
-    mul-smaller
-    add-smaller
-    mul-smaller-2
-    smaller-requires
-    mul-step
-    mul-i
-    add-i
-    pair-at-requires
-    loop-holds
-    mul-pair-for
-    shared-slice-read-pair-for
-    pair-for-requires
-    mul-raised
-    shared-slice-read-raised
-    mul-raised-2
-    slice-read-raised
-    raised-requires
-    mul-row
-    slice-write-row
-    add-i-2
-    add-c
-    add-j
-    loop-less
-    loop-again
-    same-length
-    returns)
+    Inv-loop μ-loop end-of-requires mul-smaller add-smaller mul-smaller-2 (λ c κs. search needs) mul-step mul-i add-i
+    pair-at-requires loop-holds mul-pair-for shared-slice-read-pair-for pair-for-requires mul-raised
+    shared-slice-read-raised mul-raised-2 slice-read-raised (λ c κs. search needs) mul-row slice-write-row add-i-2
+    add-c add-j loop-less loop-again same-length returns)

@@ -5,19 +5,14 @@ use borrow.Author.Needs.{needs}
 use Rattle.gain.proofs.end_of.Statement.{statement}
 use Rattle.gain.proofs.end_of.Tie as tie
 
-less-requires : tie.Need-less-requires
-less-requires c κs = search needs
-
 mul-smaller : tie.Need-mul-smaller
 mul-smaller c =
     let a = c .before in
     omega (arith, a .pre .0, c .less .ensures, mul-le-mul-left (c .less .result) (a .pre .1))
 
-smaller-requires : tie.Need-smaller-requires
-smaller-requires c κs = search needs
-
 returns : tie.Need-returns
 returns c = cc
 
 pub end-of-spec : {M : Type 1} → statement M
-end-of-spec = tie.close (tie.spec less-requires mul-smaller smaller-requires returns)
+end-of-spec = tie.close (tie.spec
+    (λ c κs. search needs) mul-smaller (λ c κs. search needs) returns)

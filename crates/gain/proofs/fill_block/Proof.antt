@@ -29,9 +29,6 @@ inside c =
     in-room (a .x) (a .pitch) (length (a .hs .now)) (c .before .loop .at) (c .before .loop .j) (c .before .loop .inv .0 .place)
     (omega (arith, c .loop-test .taken, c .before .before .smaller .ensures))
 
-ruler-of-requires : tie.Need-ruler-of-requires Inv-loop μ-loop
-ruler-of-requires c κs = search needs
-
 mul-smaller : tie.Need-mul-smaller Inv-loop μ-loop
 mul-smaller c = let a = c .before .before .before in omega (arith, a .pre .pitch32, mul-le-mul-right (a .args .pitch) (a .pre .few))
 
@@ -40,29 +37,17 @@ add-smaller c =
     let a = c .before .before .before in
     omega (arith, a .pre .start, a .pre .pitch32, mul-le-mul-right (a .args .pitch) (a .pre .few))
 
-smaller-requires : tie.Need-smaller-requires Inv-loop μ-loop
-smaller-requires c κs = search needs
-
 loop-holds : tie.Need-loop-holds Inv-loop μ-loop
 loop-holds c = (filling-begin, omega (arith, c .before .before .before .before .pre .spaced))
 
 cast-place : tie.Need-cast-place Inv-loop μ-loop
 cast-place c = omega (arith, c .loop-test .taken, c .before .before .smaller .ensures, entry c .pre .end32)
 
-place-requires : tie.Need-place-requires Inv-loop μ-loop
-place-requires c κs = search needs
-
-floor-requires : tie.Need-floor-requires Inv-loop μ-loop
-floor-requires c κs = search needs
-
 mul-hs : tie.Need-mul-hs Inv-loop μ-loop
 mul-hs c = omega (arith, inside (c .before .before), entry (c .before .before) .pre .few)
 
 slice-write-hs : tie.Need-slice-write-hs Inv-loop μ-loop
 slice-write-hs c = omega (arith, inside (c .before .before), c .before .before .before .loop .inv .0 .same-h)
-
-to-f32-requires : tie.Need-to-f32-requires Inv-loop μ-loop
-to-f32-requires c κs = search needs
 
 mul-ts : tie.Need-mul-ts Inv-loop μ-loop
 mul-ts c = let t = c .before .before .before in omega (arith, inside t, entry t .pre .few)
@@ -113,25 +98,6 @@ pub fill-block-spec : {M : Type 1} → statement M
 fill-block-spec =
     tie.close
     (tie.spec
-    Inv-loop
-    μ-loop
-    ruler-of-requires
-    mul-smaller
-    add-smaller
-    smaller-requires
-    loop-holds
-    cast-place
-    place-requires
-    floor-requires
-    mul-hs
-    slice-write-hs
-    to-f32-requires
-    mul-ts
-    slice-write-ts
-    add-at
-    add-j
-    loop-less
-    loop-again
-    same-length
-    same-length-2
-    returns)
+    Inv-loop μ-loop (λ c κs. search needs) mul-smaller add-smaller (λ c κs. search needs) loop-holds cast-place
+    (λ c κs. search needs) (λ c κs. search needs) mul-hs slice-write-hs (λ c κs. search needs) mul-ts slice-write-ts
+    add-at add-j loop-less loop-again same-length same-length-2 returns)

@@ -6,15 +6,6 @@ use Rattle.gain.proofs.Rows.{walked-agree, along-is}
 use Rattle.gain.proofs.gain_block.Statement.{statement}
 use Rattle.gain.proofs.gain_block.Tie as tie
 
-strip-at-requires : tie.Need-strip-at-requires
-strip-at-requires c κs = search needs
-
-block-along-requires : tie.Need-block-along-requires
-block-along-requires c κs = search needs
-
-same-length : tie.Need-same-length
-same-length c = search needs
-
 returns : tie.Need-returns
 returns c =
     let a = c .before .before .before .before .before .before .before .before .before .args in
@@ -24,4 +15,5 @@ returns c =
     (λ x v. within-agree _ _ _ _ x (a .k .plane) v (along-is _ (a .g) _ _ _ _ (a .full-width) _ _ is x (a .k .plane) v))
 
 pub gain-block-spec : {M : Type 1} → statement M
-gain-block-spec = tie.close (tie.spec strip-at-requires block-along-requires same-length returns)
+gain-block-spec = tie.close (tie.spec
+    (λ c κs. search needs) (λ c κs. search needs) (λ c. search needs) returns)

@@ -5,15 +5,6 @@ use Rattle.gain.proofs.Rows.{walked-agree, along-is}
 use Rattle.gain.proofs.gain_row.Statement.{statement}
 use Rattle.gain.proofs.gain_row.Tie as tie
 
-strip-at-requires : tie.Need-strip-at-requires
-strip-at-requires c κs = search needs
-
-row-along-requires : tie.Need-row-along-requires
-row-along-requires c κs = search needs
-
-same-length : tie.Need-same-length
-same-length c = search needs
-
 returns : tie.Need-returns
 returns c =
     let a = c .before .before .before .before .before .before .before .args in
@@ -22,4 +13,5 @@ returns c =
     ∙ walked-agree (a .k) _ _ _ (λ x v. along-is _ (a .g) _ _ _ _ (a .full-width) _ _ is x (a .k .plane) v)
 
 pub gain-row-spec : {M : Type 1} → statement M
-gain-row-spec = tie.close (tie.spec strip-at-requires row-along-requires same-length returns)
+gain-row-spec = tie.close (tie.spec
+    (λ c κs. search needs) (λ c κs. search needs) (λ c. search needs) returns)

@@ -15,20 +15,15 @@ add-f32-at c =
     let a = c .before .before .before in
     omega (arith, a .pre .0, mul-le-mul-right (a .args .s .step) (a .pre .1))
 
-f32-at-requires : tie.Need-f32-at-requires
-f32-at-requires c κs = search needs
-
 add-f32-at-2 : tie.Need-add-f32-at-2
 add-f32-at-2 c =
     let a = c .before .before .before .before .before in
     omega (arith, a .pre .0, mul-le-mul-right (a .args .s .step) (a .pre .1))
-
-f32-at-requires-2 : tie.Need-f32-at-requires-2
-f32-at-requires-2 c κs = search needs
 
 returns : tie.Need-returns
 unfolding lineOf mix
 returns c = cc
 
 pub line-at-spec : {M : Type 1} → statement M
-line-at-spec = tie.close (tie.spec mul-ahead add-f32-at f32-at-requires add-f32-at-2 f32-at-requires-2 returns)
+line-at-spec = tie.close (tie.spec
+    mul-ahead add-f32-at (λ c κs. search needs) add-f32-at-2 (λ c κs. search needs) returns)

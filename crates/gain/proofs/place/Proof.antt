@@ -6,12 +6,6 @@ use Rattle.gain.specs.Strip.{placeOn}
 use Rattle.gain.proofs.place.Statement.{statement}
 use Rattle.gain.proofs.place.Tie as tie
 
-f64-of-u32-requires : tie.Need-f64-of-u32-requires
-f64-of-u32-requires c κs = search needs
-
-held-requires : tie.Need-held-requires
-held-requires c κs = search needs
-
 returns : tie.Need-returns
 unfolding placeOn heldTo ofBits
 returns c = rw (c .before .before .before .before .before .if1 .taken) (cc)
@@ -21,4 +15,5 @@ unfolding placeOn ofBits
 returns-2 c = rw (c .if1 .left)
 
 pub place-spec : {M : Type 1} → statement M
-place-spec = tie.close (tie.spec f64-of-u32-requires held-requires returns returns-2)
+place-spec = tie.close (tie.spec
+    (λ c κs. search needs) (λ c κs. search needs) returns returns-2)

@@ -58,9 +58,6 @@ found c =
     let r = c .before .before .before .before .before .before .ruler-of .ensures in
     floor-on _ _ _ _ _ r _ _ (c .before .place .ensures) _ _ (c .floor .ensures)
 
-ruler-of-requires : tie.Need-ruler-of-requires Inv-loop μ-loop
-ruler-of-requires c κs = search needs
-
 end-of-requires : tie.Need-end-of-requires Inv-loop μ-loop
 end-of-requires c κs = let w = c .before .before .before .pre .0 in (w .right32, w .few)
 
@@ -93,29 +90,14 @@ add-place c = omega (arith, column c)
 cast-place : tie.Need-cast-place Inv-loop μ-loop
 cast-place c = omega (arith, column c)
 
-place-requires : tie.Need-place-requires Inv-loop μ-loop
-place-requires c κs = search needs
-
-floor-requires : tie.Need-floor-requires Inv-loop μ-loop
-floor-requires c κs = search needs
-
 pair-for-requires : tie.Need-pair-for-requires Inv-loop μ-loop
 pair-for-requires c κs =
     let a = entry (c .before .before) in
     let h = index-le _ _ _ _ _ _ _ (found c) (omega (arith, a .fits .n)) in
     (a .pre .1, omega (arith, a .pre .2, h), c .before .before .before .loop .inv .1)
 
-to-f32-requires : tie.Need-to-f32-requires Inv-loop μ-loop
-to-f32-requires c κs = search needs
-
-mul-raised : tie.Need-mul-raised Inv-loop μ-loop
-mul-raised c = search needs
-
 slice-read-raised : tie.Need-slice-read-raised Inv-loop μ-loop
 slice-read-raised c = inside (c .before .before .before .before .before)
-
-raised-requires : tie.Need-raised-requires Inv-loop μ-loop
-raised-requires c κs = search needs
 
 mul-row : tie.Need-mul-row Inv-loop μ-loop
 mul-row c = omega (arith, below (turn c), entry (turn c) .pre .0 .short)
@@ -163,29 +145,7 @@ pub row-along-spec : {M : Type 1} → statement M
 row-along-spec =
     tie.close
     (tie.spec
-    Inv-loop
-    μ-loop
-    ruler-of-requires
-    end-of-requires
-    mul-step
-    mul-i
-    add-i
-    pair-at-requires
-    loop-holds
-    add-place
-    cast-place
-    place-requires
-    floor-requires
-    pair-for-requires
-    to-f32-requires
-    mul-raised
-    slice-read-raised
-    raised-requires
-    mul-row
-    slice-write-row
-    add-i-2
-    add-c
-    loop-less
-    loop-again
-    same-length
-    returns)
+    Inv-loop μ-loop (λ c κs. search needs) end-of-requires mul-step mul-i add-i pair-at-requires loop-holds add-place
+    cast-place (λ c κs. search needs) (λ c κs. search needs) pair-for-requires (λ c κs. search needs)
+    (λ c. search needs) slice-read-raised (λ c κs. search needs) mul-row slice-write-row add-i-2 add-c loop-less
+    loop-again same-length returns)

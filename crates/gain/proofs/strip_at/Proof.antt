@@ -6,9 +6,6 @@ use Rattle.gain.proofs.Rows.{beside, strip-at}
 use Rattle.gain.proofs.strip_at.Statement.{statement}
 use Rattle.gain.proofs.strip_at.Tie as tie
 
-at-least-one-requires : tie.Need-at-least-one-requires
-at-least-one-requires c κs = search needs
-
 strip-of-requires : tie.Need-strip-of-requires
 strip-of-requires c κs =
     let a = c .before in
@@ -22,4 +19,5 @@ returns c =
     (lower-le _ _ _ _ _ (omega (arith, a .fits .points-v))) (c .strip-of .ensures)
 
 pub strip-at-spec : {M : Type 1} → statement M
-strip-at-spec = tie.close (tie.spec at-least-one-requires strip-of-requires returns)
+strip-at-spec = tie.close (tie.spec
+    (λ c κs. search needs) strip-of-requires returns)

@@ -33,9 +33,6 @@ abbrev μ-loop : tie.MeasureT-loop
 abbrev begun : tie.After-columns-end Inv-loop μ-loop → tie.Start Inv-loop μ-loop
 begun e = e .before .before .before .before .before
 
-columns-end-requires : tie.Need-columns-end-requires Inv-loop μ-loop
-columns-end-requires c κs = search needs
-
 loop-holds : tie.Need-loop-holds Inv-loop μ-loop
 loop-holds c =
     let s = begun c in
@@ -118,15 +115,5 @@ pub all-blocks-spec : {M : Type 1} → statement M
 all-blocks-spec =
     tie.close
     (tie.spec
-    Inv-loop
-    μ-loop
-    columns-end-requires
-    loop-holds
-    add-if1
-    one-block-requires
-    loop-less
-    loop-again
-    same-length
-    same-length-2
-    same-length-3
-    returns)
+    Inv-loop μ-loop (λ c κs. search needs) loop-holds add-if1 one-block-requires loop-less loop-again same-length
+    same-length-2 same-length-3 returns)

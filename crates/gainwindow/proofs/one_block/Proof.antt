@@ -18,21 +18,6 @@ pitched f = f .before .before .before .before .before
 abbrev begun : tie.After-fill-block → tie.Start
 begun f = pitched f .before .before .before .before .before .before
 
-cast-larger : tie.Need-cast-larger
-cast-larger c = search needs
-
-larger-requires : tie.Need-larger-requires
-larger-requires c κs = search needs
-
-add-fill-block : tie.Need-add-fill-block
-add-fill-block c = search needs
-
-cast-fill-block : tie.Need-cast-fill-block
-cast-fill-block c = search needs
-
-fill-block-requires : tie.Need-fill-block-requires
-fill-block-requires c κs = search needs
-
 block-rows-requires : tie.Need-block-rows-requires
 block-rows-requires c κs =
     let f = c .before .before .before .before .before .before .before in
@@ -53,15 +38,6 @@ near f =
 
 next-block-requires : tie.Need-next-block-requires
 next-block-requires c κs = near (c .before .before .before .before .before .before .before .before .before .before)
-
-same-length : tie.Need-same-length
-same-length c = search needs
-
-same-length-2 : tie.Need-same-length-2
-same-length-2 c = search needs
-
-same-length-3 : tie.Need-same-length-3
-same-length-3 c = search needs
 
 returns : tie.Need-returns
 returns c =
@@ -84,14 +60,5 @@ pub one-block-spec : {M : Type 1} → statement M
 one-block-spec =
     tie.close
     (tie.spec
-    cast-larger
-    larger-requires
-    add-fill-block
-    cast-fill-block
-    fill-block-requires
-    block-rows-requires
-    next-block-requires
-    same-length
-    same-length-2
-    same-length-3
-    returns)
+    (λ c. search needs) (λ c κs. search needs) (λ c. search needs) (λ c. search needs) (λ c κs. search needs)
+    block-rows-requires next-block-requires (λ c. search needs) (λ c. search needs) (λ c. search needs) returns)

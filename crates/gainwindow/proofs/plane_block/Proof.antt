@@ -7,9 +7,6 @@ use Rattle.gainwindow.specs.Columns.{sizes}
 use Rattle.gainwindow.proofs.plane_block.Statement.{statement}
 use Rattle.gainwindow.proofs.plane_block.Tie as tie
 
-map-plane-requires : tie.Need-map-plane-requires
-map-plane-requires c κs = search needs
-
 gain-block-requires : tie.Need-gain-block-requires
 gain-block-requires c κs =
     let m = c .before in
@@ -22,9 +19,6 @@ gain-block-requires c κs =
       s .pre .4,
     )
 
-same-length : tie.Need-same-length
-same-length c = search needs
-
 returns : tie.Need-returns
 returns c =
     let m = c .before .before .before .before in
@@ -34,4 +28,5 @@ returns c =
     (a .map-planes) (a .g .y) (m .map-plane .result) (a .k) _ _ (a .row .now) (m .map-plane .ensures)
 
 pub plane-block-spec : {M : Type 1} → statement M
-plane-block-spec = tie.close (tie.spec map-plane-requires gain-block-requires same-length returns)
+plane-block-spec = tie.close (tie.spec
+    (λ c κs. search needs) gain-block-requires (λ c. search needs) returns)

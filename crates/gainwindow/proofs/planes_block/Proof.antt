@@ -35,22 +35,10 @@ abbrev μ-loop : tie.MeasureT-loop
 abbrev begun : tie.After-planes-end Inv-loop μ-loop → tie.Start Inv-loop μ-loop
 begun e = e .before .before .before .before .before
 
-planes-end-requires : tie.Need-planes-end-requires Inv-loop μ-loop
-planes-end-requires c κs = search needs
-
-row-axis-requires : tie.Need-row-axis-requires Inv-loop μ-loop
-row-axis-requires c κs = search needs
-
-cast-p : tie.Need-cast-p Inv-loop μ-loop
-cast-p c = search needs
-
 loop-holds : tie.Need-loop-holds Inv-loop μ-loop
 loop-holds c =
     let a = begun (c .before .before) .args in
     (planes-begin (a .g) (a .r) _ (a .row .now), omega arith, omega arith, refl)
-
-walk-at-requires : tie.Need-walk-at-requires Inv-loop μ-loop
-walk-at-requires c κs = search needs
 
 plane-block-requires : tie.Need-plane-block-requires Inv-loop μ-loop
 plane-block-requires c κs =
@@ -105,16 +93,5 @@ pub planes-block-spec : {M : Type 1} → statement M
 planes-block-spec =
     tie.close
     (tie.spec
-    Inv-loop
-    μ-loop
-    planes-end-requires
-    row-axis-requires
-    cast-p
-    loop-holds
-    walk-at-requires
-    plane-block-requires
-    add-p
-    loop-less
-    loop-again
-    same-length
-    returns)
+    Inv-loop μ-loop (λ c κs. search needs) (λ c κs. search needs) (λ c. search needs) loop-holds (λ c κs. search needs)
+    plane-block-requires add-p loop-less loop-again same-length returns)

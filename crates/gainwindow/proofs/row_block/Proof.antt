@@ -18,15 +18,6 @@ abbrev rule : Place → Region → (from w : ℕ) → List ℕ → (pv ph : ℕ)
 rule g r from w body pv ph grid mp y =
     within (g .x0 + from) (g .x0 + from + w * pitchOf r) (gainRule (g .«full_width») (g .«full_height») body r pv ph grid mp y)
 
-touched-requires : tie.Need-touched-requires
-touched-requires c κs = search needs
-
-planes-block-requires : tie.Need-planes-block-requires
-planes-block-requires c κs = search needs
-
-same-length : tie.Need-same-length
-same-length c = search needs
-
 returns : tie.Need-returns
 returns c =
     let i = c .before .before .before .before in
@@ -42,4 +33,5 @@ returns-2 c =
     (c .before .touched .ensures .1 (c .if1 .left))
 
 pub row-block-spec : {M : Type 1} → statement M
-row-block-spec = tie.close (tie.spec touched-requires planes-block-requires same-length returns returns-2)
+row-block-spec = tie.close (tie.spec
+    (λ c κs. search needs) (λ c κs. search needs) (λ c. search needs) returns returns-2)

@@ -8,12 +8,6 @@ use Rattle.lines.proofs.row_delta.Statement.{statement}
 use Rattle.lines.proofs.row_delta.Tie as tie
 use Rattle.lines.proofs.Literals.{zero-is}
 
-value-at-requires : tie.Need-value-at-requires
-value-at-requires c κs = search needs
-
-over-scale-requires : tie.Need-over-scale-requires
-over-scale-requires c κs = search needs
-
 returns : tie.Need-returns
 returns c =
     let s = c .before .before .before in
@@ -22,4 +16,5 @@ returns c =
     (c .before .value-at .ensures ∙ ap (λ (x : Float). nth (s .args .n) (s .args .body .now) x (s .args .i)) zero-is)
 
 pub row-delta-spec : {M : Type 1} → statement M
-row-delta-spec = tie.close (tie.spec value-at-requires over-scale-requires returns)
+row-delta-spec = tie.close (tie.spec
+    (λ c κs. search needs) (λ c κs. search needs) returns)

@@ -7,13 +7,11 @@ use Rattle.lines.proofs.row_scale.Statement.{statement}
 use Rattle.lines.proofs.row_scale.Tie as tie
 use Rattle.lines.proofs.Literals.{one-is}
 
-value-at-requires : tie.Need-value-at-requires
-value-at-requires c κs = search needs
-
 returns : tie.Need-returns
 returns c =
     let s = c .before .before in
     c .value-at .ensures ∙ ap (λ (x : Float). nth (s .args .n) (s .args .body .now) x (s .args .i)) one-is
 
 pub row-scale-spec : {M : Type 1} → statement M
-row-scale-spec = tie.close (tie.spec value-at-requires returns)
+row-scale-spec = tie.close (tie.spec
+    (λ c κs. search needs) returns)

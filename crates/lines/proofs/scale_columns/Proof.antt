@@ -10,16 +10,10 @@ use Rattle.lines.proofs.Sizes.{nth-small}
 use Rattle.lines.proofs.Spanned.{spanned}
 use Rattle.lines.proofs.Values.{number-of}
 
-span-of-requires : tie.Need-span-of-requires
-span-of-requires c κs = search needs
-
 scale-values-requires : tie.Need-scale-values-requires
 scale-values-requires c κs =
     let s = c .before .before .before .before in
     (search needs, nth-small (s .args .k) (length (s .args .row .now)) (s .pre))
-
-same-length : tie.Need-same-length
-same-length c = search needs
 
 returns : tie.Need-returns
 returns c =
@@ -34,4 +28,5 @@ returns c =
 
 pub scale-columns-spec : {M : Type 1} → statement M
 scale-columns-spec =
-    tie.close (tie.spec span-of-requires scale-values-requires same-length returns)
+    tie.close (tie.spec
+    (λ c κs. search needs) scale-values-requires (λ c. search needs) returns)

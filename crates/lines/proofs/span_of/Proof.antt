@@ -20,16 +20,10 @@ mul-t3 c = omega (arith, first-of (c .before))
 add-t4 : tie.Need-add-t4
 add-t4 c = omega (arith, first-of (c .before .before), c .before .before .pre .inside, c .before .before .pre .few)
 
-less-requires : tie.Need-less-requires
-less-requires c κs = search needs
-
 mul-smaller : tie.Need-mul-smaller
 mul-smaller c =
     let s = c .before .before .before .before in
     omega (arith, by-planes (s .args .k) (s .args .n) (s .pre) (c .before .less .result), c .before .less .ensures, s .pre .right32)
-
-smaller-requires : tie.Need-smaller-requires
-smaller-requires c κs = search needs
 
 mul-t8 : tie.Need-mul-t8
 mul-t8 c = omega (arith, step-of (c .before .before .before .before .before .before))
@@ -47,4 +41,5 @@ returns c =
 
 pub span-of-spec : {M : Type 1} → statement M
 span-of-spec =
-    tie.close (tie.spec mul-t3 add-t4 less-requires mul-smaller smaller-requires mul-t8 returns)
+    tie.close (tie.spec
+    mul-t3 add-t4 (λ c κs. search needs) mul-smaller (λ c κs. search needs) mul-t8 returns)

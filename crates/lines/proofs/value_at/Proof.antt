@@ -5,15 +5,6 @@ use Rattle.dng.specs.Value.{nth}
 use Rattle.lines.proofs.value_at.Statement.{statement}
 use Rattle.lines.proofs.value_at.Tie as tie
 
-mul-f32-at : tie.Need-mul-f32-at
-mul-f32-at c = search needs
-
-add-f32-at : tie.Need-add-f32-at
-add-f32-at c = search needs
-
-f32-at-requires : tie.Need-f32-at-requires
-f32-at-requires c κs = search needs
-
 returns : tie.Need-returns
 unfolding nth
 returns c = rw (lt-ltb _ _ (c .before .if1 .taken)) (c .f32-at .ensures)
@@ -23,4 +14,5 @@ unfolding nth
 returns-2 c = rw (le-ltb _ _ (c .if1 .left))
 
 pub value-at-spec : {M : Type 1} → statement M
-value-at-spec = tie.close (tie.spec mul-f32-at add-f32-at f32-at-requires returns returns-2)
+value-at-spec = tie.close (tie.spec
+    (λ c. search needs) (λ c. search needs) (λ c κs. search needs) returns returns-2)

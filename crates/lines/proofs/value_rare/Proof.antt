@@ -5,9 +5,6 @@ use Rattle.lines.proofs.value_rare.Statement.{statement}
 use Rattle.lines.proofs.value_rare.Tie as tie
 use Rattle.lines.specs.Bytes.{valueFrom}
 
-f32-at-requires : tie.Need-f32-at-requires
-f32-at-requires c κs = search needs
-
 returns : tie.Need-returns
 unfolding valueFrom
 returns c = rw (lt-ltb _ _ (c .before .if1 .taken)) (c .f32-at .ensures)
@@ -17,4 +14,5 @@ unfolding valueFrom
 returns-2 c = rw (le-ltb _ _ (c .if1 .left))
 
 pub value-rare-spec : {M : Type 1} → statement M
-value-rare-spec = tie.close (tie.spec f32-at-requires returns returns-2)
+value-rare-spec = tie.close (tie.spec
+    (λ c κs. search needs) returns returns-2)

@@ -8,9 +8,6 @@ use Rattle.list.proofs.is_counted.Tie as tie
 returns : tie.Need-returns
 returns c = count-short _ (c .if1 .taken)
 
-u32-at-requires : tie.Need-u32-at-requires
-u32-at-requires c κs = search needs
-
 returns-2 : tie.Need-returns-2
 returns-2 c = count-over _ (c .before .u32-at .ensures) (omega arith) (omega arith)
 
@@ -18,4 +15,5 @@ returns-3 : tie.Need-returns-3
 returns-3 c = count-kept _ (c .before .u32-at .ensures) (omega arith) (omega arith)
 
 pub is-counted-spec : {M : Type 1} → statement M
-is-counted-spec = tie.close (tie.spec returns u32-at-requires returns-2 returns-3)
+is-counted-spec = tie.close (tie.spec
+    returns (λ c κs. search needs) returns-2 returns-3)

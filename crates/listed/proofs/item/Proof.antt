@@ -8,24 +8,6 @@ use Rattle.marks.proofs.Joining.{joined-as}
 use Rattle.listed.proofs.item.Statement.{statement}
 use Rattle.listed.proofs.item.Tie as tie
 
-less-requires : tie.Need-less-requires
-less-requires c κs = search needs
-
-less-requires-2 : tie.Need-less-requires-2
-less-requires-2 c κs = search needs
-
-lesser-requires : tie.Need-lesser-requires
-lesser-requires c κs = search needs
-
-less-requires-3 : tie.Need-less-requires-3
-less-requires-3 c κs = search needs
-
-less-requires-4 : tie.Need-less-requires-4
-less-requires-4 c κs = search needs
-
-lesser-requires-2 : tie.Need-lesser-requires-2
-lesser-requires-2 c κs = search needs
-
 -- the numbers of the cut
 abbrev start : tie.After-lesser2 → tie.Start
 start c = c .before .before .before .before .before .before .before
@@ -72,9 +54,6 @@ patch-requires-2 c κs =
       ),
     )
 
-same-length : tie.Need-same-length
-same-length c = search needs
-
 returns-3 : tie.Need-returns-3
 returns-3 c =
     let before = c .before .before .before .before .before .before .before .before in
@@ -83,9 +62,6 @@ returns-3 c =
     let patch = c .before .before .patch in
     lies-so (a .across) _ (a .w) (a .r0) (a .c0) (a .r1) (a .c1) _ _ _ (patch .result) (c .before .before .before .before .if3 .taken)
     (joined-as _ _ _ _ _ _ (patch .result) (column-marks _ _ _ _ _ _ _ _ _ (at .pre .1) (cut before)) (patch .ensures))
-
-same-length-2 : tie.Need-same-length-2
-same-length-2 c = search needs
 
 returns-4 : tie.Need-returns-4
 returns-4 c =
@@ -100,18 +76,6 @@ pub item-spec : {M : Type 1} → statement M
 item-spec =
     tie.close
     (tie.spec
-    less-requires
-    less-requires-2
-    lesser-requires
-    less-requires-3
-    less-requires-4
-    lesser-requires-2
-    returns
-    returns-2
-    mul-top
-    patch-requires
-    patch-requires-2
-    same-length
-    returns-3
-    same-length-2
-    returns-4)
+    (λ c κs. search needs) (λ c κs. search needs) (λ c κs. search needs) (λ c κs. search needs) (λ c κs. search needs)
+    (λ c κs. search needs) returns returns-2 mul-top patch-requires patch-requires-2 (λ c. search needs) returns-3
+    (λ c. search needs) returns-4)

@@ -7,26 +7,11 @@ use Rattle.marks.proofs.Joining.{joined-as}
 use Rattle.listed.proofs.patch.Statement.{statement}
 use Rattle.listed.proofs.patch.Tie as tie
 
-sub-if1 : tie.Need-sub-if1
-sub-if1 c = search needs
-
 mul-run : tie.Need-mul-run
 mul-run c =
     let at = c .before .before .before in
     let a = at .args in
     omega (arith, patch-start (a .width) (a .r0) (a .c0) (a .r1) (a .c1) (a .top) (at .pre .1 .0) (at .pre .1 .1), at .pre .1 .0 .small)
-
-mul-run-2 : tie.Need-mul-run-2
-mul-run-2 c = search needs
-
-run-requires : tie.Need-run-requires
-run-requires c κs = search needs
-
-rows-requires : tie.Need-rows-requires
-rows-requires c κs = search needs
-
-same-length : tie.Need-same-length
-same-length c = search needs
 
 returns : tie.Need-returns
 returns c =
@@ -36,22 +21,9 @@ returns c =
     (λ q l. patch-rows (a .width) (a .r0) (a .c0) (a .r1) (a .c1) (a .top) q (at .pre .1 .0)
     (c .before .before .before .before .if1 .taken)) (c .before .before .run .ensures)
 
-same-length-2 : tie.Need-same-length-2
-same-length-2 c = search needs
-
-returns-2 : tie.Need-returns-2
-returns-2 c = search needs
-
 pub patch-spec : {M : Type 1} → statement M
 patch-spec =
     tie.close
     (tie.spec
-    sub-if1
-    mul-run
-    mul-run-2
-    run-requires
-    rows-requires
-    same-length
-    returns
-    same-length-2
-    returns-2)
+    (λ c. search needs) mul-run (λ c. search needs) (λ c κs. search needs) (λ c κs. search needs) (λ c. search needs)
+    returns (λ c. search needs) (λ c. search needs))

@@ -9,33 +9,6 @@ use Rattle.marks.proofs.Joining.{joined-as}
 use Rattle.listed.proofs.point.Statement.{statement}
 use Rattle.listed.proofs.point.Tie as tie
 
-mul-u32-at : tie.Need-mul-u32-at
-mul-u32-at c = search needs
-
-add-u32-at : tie.Need-add-u32-at
-add-u32-at c = search needs
-
-u32-at-requires : tie.Need-u32-at-requires
-u32-at-requires c κs = search needs
-
-cast-row : tie.Need-cast-row
-cast-row c = search needs
-
-mul-u32-at-2 : tie.Need-mul-u32-at-2
-mul-u32-at-2 c = search needs
-
-add-u32-at-2 : tie.Need-add-u32-at-2
-add-u32-at-2 c = search needs
-
-u32-at-requires-2 : tie.Need-u32-at-requires-2
-u32-at-requires-2 c κs = search needs
-
-cast-column : tie.Need-cast-column
-cast-column c = search needs
-
-inside-requires : tie.Need-inside-requires
-inside-requires c κs = search needs
-
 within : (c : tie.Then1) → Within (c .before .before .before .before .before .before .args .w) (c .before .before .before .u32-at .result) (c .before .before .u32-at2 .result)
 within c = c .before .inside .ensures .0 (c .if1 .taken)
 
@@ -57,9 +30,6 @@ mul-one c =
 
 one-requires : tie.Need-one-requires
 one-requires c κs = (c .before .before .before .before .before .before .before .before .before .before .before .pre .0, c .before .before .position .ensures .0)
-
-same-length : tie.Need-same-length
-same-length c = search needs
 
 returns : tie.Need-returns
 returns c =
@@ -86,20 +56,6 @@ pub point-spec : {M : Type 1} → statement M
 point-spec =
     tie.close
     (tie.spec
-    mul-u32-at
-    add-u32-at
-    u32-at-requires
-    cast-row
-    mul-u32-at-2
-    add-u32-at-2
-    u32-at-requires-2
-    cast-column
-    inside-requires
-    sub-position
-    sub-position-2
-    position-requires
-    mul-one
-    one-requires
-    same-length
-    returns
-    returns-2)
+    (λ c. search needs) (λ c. search needs) (λ c κs. search needs) (λ c. search needs) (λ c. search needs)
+    (λ c. search needs) (λ c κs. search needs) (λ c. search needs) (λ c κs. search needs) sub-position sub-position-2
+    position-requires mul-one one-requires (λ c. search needs) returns returns-2)

@@ -7,21 +7,6 @@ use Rattle.places.specs.Beside.{Reached}
 use Rattle.lone.proofs.above_from.Statement.{statement}
 use Rattle.lone.proofs.above_from.Tie as tie
 
-mark-requires : tie.Need-mark-requires
-mark-requires c κs = search needs
-
-reach-requires : tie.Need-reach-requires
-reach-requires c κs = search needs
-
-add-less : tie.Need-add-less
-add-less c = search needs
-
-less-requires : tie.Need-less-requires
-less-requires c κs = search needs
-
-onward-requires : tie.Need-onward-requires
-onward-requires c κs = search needs
-
 returns : tie.Need-returns
 returns c =
     let l = c .before in
@@ -31,4 +16,6 @@ returns c =
     subst (λ (z : ℕ). Reached (a .marks .now) (a .n) (a .from) z (c .onward .result)) first (c .onward .ensures)
 
 pub above-from-spec : {M : Type 1} → statement M
-above-from-spec = tie.close (tie.spec mark-requires reach-requires add-less less-requires onward-requires returns)
+above-from-spec = tie.close (tie.spec
+    (λ c κs. search needs) (λ c κs. search needs) (λ c. search needs) (λ c κs. search needs) (λ c κs. search needs)
+    returns)

@@ -30,12 +30,6 @@ walk c = begun c .pre .0
 abbrev ended : tie.At-loop Inv-loop μ-loop → tie.After-stop-of Inv-loop μ-loop
 ended a = a .before .before .before .before
 
-last-of-requires : tie.Need-last-of-requires Inv-loop μ-loop
-last-of-requires c κs = search needs
-
-f32-of-u32-requires : tie.Need-f32-of-u32-requires Inv-loop μ-loop
-f32-of-u32-requires c κs = search needs
-
 -- the last entry's number as a float
 top-is : (c : tie.After-f32-of-u32 Inv-loop μ-loop) → c .f32-of-u32 .result ≡ wholeIn binary32 (c .before .before .before .before .args .n - 1)
 top-is c = c .f32-of-u32 .ensures ∙ ap (λ (i : ℕ). wholeIn binary32 i) (c .before .last-of .ensures)
@@ -55,23 +49,11 @@ add-i c = omega (arith, begin-small (walk (c .before .before .before)))
 loop-holds : tie.Need-loop-holds Inv-loop μ-loop
 loop-holds c = begin (walk (c .before .before .before))
 
-mul-full-value : tie.Need-mul-full-value Inv-loop μ-loop
-mul-full-value c = omega arith
-
-slice-read-full-value : tie.Need-slice-read-full-value Inv-loop μ-loop
-slice-read-full-value c = omega arith
-
 full-value-requires : tie.Need-full-value-requires Inv-loop μ-loop
 full-value-requires c κs =
     let e = ended (c .before .before) in
     let p = begun e .pre in
     (p .1, p .2, p .3, top-is (e .before))
-
-mul-row : tie.Need-mul-row Inv-loop μ-loop
-mul-row c = omega arith
-
-slice-write-row : tie.Need-slice-write-row Inv-loop μ-loop
-slice-write-row c = omega arith
 
 add-i-2 : tie.Need-add-i-2 Inv-loop μ-loop
 add-i-2 c = omega (arith, step-small (walk (ended (c .before .before .before))))
@@ -99,23 +81,6 @@ pub full-row-spec : {M : Type 1} → statement M
 full-row-spec =
     tie.close
     (tie.spec
-    Inv-loop
-    μ-loop
-    last-of-requires
-    f32-of-u32-requires
-    stop-of-requires
-    mul-step
-    mul-i
-    add-i
-    loop-holds
-    mul-full-value
-    slice-read-full-value
-    full-value-requires
-    mul-row
-    slice-write-row
-    add-i-2
-    add-c
-    loop-less
-    loop-again
-    same-length
-    returns)
+    Inv-loop μ-loop (λ c κs. search needs) (λ c κs. search needs) stop-of-requires mul-step mul-i add-i loop-holds
+    (λ c. omega arith) (λ c. omega arith) full-value-requires (λ c. omega arith) (λ c. omega arith) add-i-2 add-c
+    loop-less loop-again same-length returns)

@@ -9,20 +9,15 @@ use Rattle.dng.specs.Value.{mapTable}
 use Rattle.maps.proofs.full_value.Statement.{statement}
 use Rattle.maps.proofs.full_value.Tie as tie
 
-index-below-requires : tie.Need-index-below-requires
-index-below-requires c κs = search needs
-
 full-entry-requires : tie.Need-full-entry-requires
 full-entry-requires c κs =
     let a = c .before .before .args in
     omega (arith, c .index-below .ensures, round-le (a .n - 1) (mul binary32 (a .v) (a .scale)))
-
-f32-of-u16-requires : tie.Need-f32-of-u16-requires
-f32-of-u16-requires c κs = search needs
 
 returns : tie.Need-returns
 unfolding mapTable
 returns c = cc
 
 pub full-value-spec : {M : Type 1} → statement M
-full-value-spec = tie.close (tie.spec index-below-requires full-entry-requires f32-of-u16-requires returns)
+full-value-spec = tie.close (tie.spec
+    (λ c κs. search needs) full-entry-requires (λ c κs. search needs) returns)

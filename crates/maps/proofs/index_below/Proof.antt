@@ -8,9 +8,6 @@ use Rattle.convert.specs.Convert.{wholeIn}
 use Rattle.maps.proofs.index_below.Statement.{statement}
 use Rattle.maps.proofs.index_below.Tie as tie
 
-last-of-requires : tie.Need-last-of-requires
-last-of-requires c κs = search needs
-
 round-below-requires : tie.Need-round-below-requires
 round-below-requires c κs =
     let s = c .before in (omega (arith, c .last-of .ensures), s .pre .2 ∙ ap (λ (i : ℕ). wholeIn binary32 i) (sym (c .last-of .ensures)))
@@ -19,4 +16,5 @@ returns : tie.Need-returns
 returns c = cc
 
 pub index-below-spec : {M : Type 1} → statement M
-index-below-spec = tie.close (tie.spec last-of-requires round-below-requires returns)
+index-below-spec = tie.close (tie.spec
+    (λ c κs. search needs) round-below-requires returns)

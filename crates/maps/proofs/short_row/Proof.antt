@@ -43,21 +43,6 @@ add-i c = omega (arith, begin-small (walk (c .before .before .before)))
 loop-holds : tie.Need-loop-holds Inv-loop μ-loop
 loop-holds c = begin (walk (c .before .before .before))
 
-mul-table-value : tie.Need-mul-table-value Inv-loop μ-loop
-mul-table-value c = omega arith
-
-slice-read-table-value : tie.Need-slice-read-table-value Inv-loop μ-loop
-slice-read-table-value c = omega arith
-
-table-value-requires : tie.Need-table-value-requires Inv-loop μ-loop
-table-value-requires c κs = search needs
-
-mul-row : tie.Need-mul-row Inv-loop μ-loop
-mul-row c = omega arith
-
-slice-write-row : tie.Need-slice-write-row Inv-loop μ-loop
-slice-write-row c = omega arith
-
 add-i-2 : tie.Need-add-i-2 Inv-loop μ-loop
 add-i-2 c = omega (arith, step-small (walk (ended (c .before .before .before))))
 
@@ -84,21 +69,5 @@ pub short-row-spec : {M : Type 1} → statement M
 short-row-spec =
     tie.close
     (tie.spec
-    Inv-loop
-    μ-loop
-    stop-of-requires
-    mul-step
-    mul-i
-    add-i
-    loop-holds
-    mul-table-value
-    slice-read-table-value
-    table-value-requires
-    mul-row
-    slice-write-row
-    add-i-2
-    add-c
-    loop-less
-    loop-again
-    same-length
-    returns)
+    Inv-loop μ-loop stop-of-requires mul-step mul-i add-i loop-holds (λ c. omega arith) (λ c. omega arith)
+    (λ c κs. search needs) (λ c. omega arith) (λ c. omega arith) add-i-2 add-c loop-less loop-again same-length returns)

@@ -7,9 +7,6 @@ use Rattle.dng.specs.Value.{mapTable16, tableAt}
 use Rattle.maps.proofs.whole_value16.Statement.{statement}
 use Rattle.maps.proofs.whole_value16.Tie as tie
 
-full-entry-requires : tie.Need-full-entry-requires
-full-entry-requires c κs = search needs
-
 returns : tie.Need-returns
 unfolding mapTable16
 returns c =
@@ -18,4 +15,5 @@ returns c =
     c .full-entry .ensures ∙ ap (tableAt (a .body .now)) unheld
 
 pub whole-value16-spec : {M : Type 1} → statement M
-whole-value16-spec = tie.close (tie.spec full-entry-requires returns)
+whole-value16-spec = tie.close (tie.spec
+    (λ c κs. search needs) returns)

@@ -14,9 +14,6 @@ returns c = packed-all _ _ _ _ (c .before .before .pre) (c .if1 .taken)
 joins-requires : tie.Need-joins-requires
 joins-requires c κs = let f = c .before .before .pre in (f .order, f .fits)
 
-tidy-requires : tie.Need-tidy-requires
-tidy-requires c κs = search needs
-
 join-requires : tie.Need-join-requires
 join-requires c κs =
     let tidy = c .before .before .before .tidy in
@@ -25,27 +22,15 @@ join-requires c κs =
     let room = into .before .joins .ensures (into .if2 .taken) in
     tidied-runs _ _ _ _ _ _ (tidy .ensures) (omega (arith, tidy .ensures .within, tidy .kept .0, room, start .pre .order, start .pre .fits))
 
-same-length : tie.Need-same-length
-same-length c = search needs
-
 returns-2 : tie.Need-returns-2
 returns-2 c =
     let join = c .before .before .join in
     tidied-packed _ _ _ _ _ _ (c .before .before .before .before .before .before .tidy .ensures) _ _ (join .ensures) (join .kept .0)
 
-slice-relend-prefix-pack : tie.Need-slice-relend-prefix-pack
-slice-relend-prefix-pack c = search needs
-
 slice-aggregate-pack : tie.Need-slice-aggregate-pack
 slice-aggregate-pack c =
     let f = c .before .before .before .before .before .pre in
     sym (length-take-le _ _ (omega (arith, f .order, f .fits)))
-
-pack-requires : tie.Need-pack-requires
-pack-requires c κs = search needs
-
-same-length-2 : tie.Need-same-length-2
-same-length-2 c = search needs
 
 returns-3 : tie.Need-returns-3
 returns-3 c =
@@ -56,14 +41,5 @@ pub compact-spec : {M : Type 1} → statement M
 compact-spec =
     tie.close
     (tie.spec
-    returns
-    joins-requires
-    tidy-requires
-    join-requires
-    same-length
-    returns-2
-    slice-relend-prefix-pack
-    slice-aggregate-pack
-    pack-requires
-    same-length-2
-    returns-3)
+    returns joins-requires (λ c κs. search needs) join-requires (λ c. search needs) returns-2 (λ c. search needs)
+    slice-aggregate-pack (λ c κs. search needs) (λ c. search needs) returns-3)

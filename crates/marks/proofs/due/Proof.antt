@@ -10,11 +10,6 @@ use Rattle.marks.proofs.due.Tie as tie
 returns : tie.Need-returns
 returns c = λ e h. both {b = true} refl e
 
-returns-2 : tie.Need-returns-2
-returns-2 c = search needs
-
-returns-3 : tie.Need-returns-3
-returns-3 c = search needs
-
 pub due-spec : {M : Type 1} → statement M
-due-spec = tie.close (tie.spec returns returns-2 returns-3)
+due-spec = tie.close (tie.spec
+    returns (λ c. search needs) (λ c. search needs))

@@ -10,14 +10,6 @@ slice-aggregate-lower : tie.Need-slice-aggregate-lower
 slice-aggregate-lower c = sym (length-take-le (c .before .before .before .args .n) (c .before .before .before .args .s .now)
     (c .before .before .before .pre))
 
-lower-requires : tie.Need-lower-requires
-lower-requires c κs = search needs
-
-returns : tie.Need-returns
-returns c = search needs
-
-returns-2 : tie.Need-returns-2
-returns-2 c = search needs
-
 pub follow-spec : {M : Type 1} → statement M
-follow-spec = tie.close (tie.spec slice-aggregate-lower lower-requires returns returns-2)
+follow-spec = tie.close (tie.spec
+    slice-aggregate-lower (λ c κs. search needs) (λ c. search needs) (λ c. search needs))

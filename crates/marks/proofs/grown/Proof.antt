@@ -14,12 +14,6 @@ returns c = rw (lt-leb (c .before .before .args .t) (c .before .before .args .n)
 slice-aggregate-past : tie.Need-slice-aggregate-past
 slice-aggregate-past c = sym (length-take-le (c .before .before .before .args .n) (c .before .before .before .args .s .now) (omega arith))
 
-past-requires : tie.Need-past-requires
-past-requires c κs = search needs
-
-add-result : tie.Need-add-result
-add-result c = search needs
-
 returns-2 : tie.Need-returns-2
 returns-2 c = rw (
   le-leb (c .before .before .before .before .before .args .t) (c .before .before .before .before .before .args .n)
@@ -36,4 +30,5 @@ returns-3 c = rw (
 
 pub grown-spec : {M : Type 1} → statement M
 grown-spec =
-    tie.close (tie.spec returns slice-aggregate-past past-requires add-result returns-2 returns-3)
+    tie.close (tie.spec
+    returns slice-aggregate-past (λ c κs. search needs) (λ c. search needs) returns-2 returns-3)

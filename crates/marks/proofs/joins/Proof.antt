@@ -1,7 +1,6 @@
 -- `marks::joins` meets its contract: what is answered is the test itself.
 -- Assumes nothing.
 use mathlib.Core.Path.{refl}
-use native.Mathlib.Omega.{arith}
 use borrow.Author.Needs.{needs}
 use borrow.Author.Tests.{leb-true}
 use mathlib.Core.Bool.{false}
@@ -12,14 +11,9 @@ use Rattle.marks.proofs.joins.Tie as tie
 returns : tie.Need-returns
 returns c = λ e. absurd (both e refl)
 
-sub-result : tie.Need-sub-result
-sub-result c = search needs
-
-sub-result-2 : tie.Need-sub-result-2
-sub-result-2 c = search needs
-
 returns-2 : tie.Need-returns-2
 returns-2 c = λ e. leb-true _ _ e
 
 pub joins-spec : {M : Type 1} → statement M
-joins-spec = tie.close (tie.spec sub-result sub-result-2 returns returns-2)
+joins-spec = tie.close (tie.spec
+    (λ c. search needs) (λ c. search needs) returns returns-2)

@@ -7,31 +7,10 @@ use Rattle.marks.proofs.Filling.{place-there, place-full}
 use Rattle.marks.proofs.place.Statement.{statement}
 use Rattle.marks.proofs.place.Tie as tie
 
-find-requires : tie.Need-find-requires
-find-requires c κs = search needs
-
-same-length : tie.Need-same-length
-same-length c = search needs
-
 returns : tie.Need-returns
 returns c =
     let at = c .before .before .before .before in
     place-there _ _ _ _ (at .args .p) (at .pre .0) (sym (c .before .find .ensures (at .pre .0 .fits) (at .pre .0 .rises)) ∙ c .if1 .taken)
-
-append-requires : tie.Need-append-requires
-append-requires c κs = search needs
-
-same-length-2 : tie.Need-same-length-2
-same-length-2 c = search needs
-
-returns-2 : tie.Need-returns-2
-returns-2 c = search needs
-
-same-length-3 : tie.Need-same-length-3
-same-length-3 c = search needs
-
-sub-if2 : tie.Need-sub-if2
-sub-if2 c = search needs
 
 returns-3 : tie.Need-returns-3
 returns-3 c =
@@ -43,12 +22,5 @@ pub place-spec : {M : Type 1} → statement M
 place-spec =
     tie.close
     (tie.spec
-    find-requires
-    same-length
-    returns
-    sub-if2
-    append-requires
-    same-length-2
-    returns-2
-    same-length-3
-    returns-3)
+    (λ c κs. search needs) (λ c. search needs) returns (λ c. search needs) (λ c κs. search needs) (λ c. search needs)
+    (λ c. search needs) (λ c. search needs) returns-3)

@@ -8,18 +8,6 @@ use lib.Seq.{take-set-le}
 use Rattle.marks.proofs.restart.Statement.{statement}
 use Rattle.marks.proofs.restart.Tie as tie
 
-sub-s : tie.Need-sub-s
-sub-s c = search needs
-
-mul-s : tie.Need-mul-s
-mul-s c = search needs
-
-slice-write-s : tie.Need-slice-write-s
-slice-write-s c = search needs
-
-same-length : tie.Need-same-length
-same-length c = search needs
-
 returns : tie.Need-returns
 returns c =
     let at = c .before in
@@ -30,4 +18,5 @@ returns-2 : tie.Need-returns-2
 returns-2 c = refl
 
 pub restart-spec : {M : Type 1} → statement M
-restart-spec = tie.close (tie.spec sub-s mul-s slice-write-s same-length returns returns-2)
+restart-spec = tie.close (tie.spec
+    (λ c. search needs) (λ c. search needs) (λ c. search needs) (λ c. search needs) returns returns-2)

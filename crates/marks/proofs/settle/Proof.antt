@@ -10,9 +10,6 @@ use Rattle.marks.proofs.Joining.{joined-next, gains-from, gains-kept, g
 use Rattle.marks.proofs.settle.Statement.{statement}
 use Rattle.marks.proofs.settle.Tie as tie
 
-sub-overdue : tie.Need-sub-overdue
-sub-overdue c = search needs
-
 overdue-requires : tie.Need-overdue-requires
 overdue-requires c κs =
     let pre = c .before .before .pre in
@@ -24,15 +21,6 @@ tidy-requires c κs =
     let pre = c .before .before .before .before .before .before .pre in
     front-kept _ _ _ _ _ (pre .0) (overdue .ensures) (overdue .kept .0)
 
-sub-stays : tie.Need-sub-stays
-sub-stays c = search needs
-
-stays-requires : tie.Need-stays-requires
-stays-requires c κs = search needs
-
-add-append : tie.Need-add-append
-add-append c = search needs
-
 append-requires : tie.Need-append-requires
 append-requires c κs =
     let stays = c .before .before .stays in
@@ -40,9 +28,6 @@ append-requires c κs =
     let overdue = c .before .before .before .before .before .before .before .before .before .overdue in
     let pre = c .before .before .before .before .before .before .before .before .before .before .before .before .pre in
     (tidy .ensures .front, (omega (arith, c .before .if1 .taken, stays .ensures, tidy .ensures .within, tidy .kept .0, overdue .kept .0, pre .1 .0), pre .1 .2))
-
-same-length : tie.Need-same-length
-same-length c = search needs
 
 returns : tie.Need-returns
 returns c =
@@ -60,9 +45,6 @@ join-requires c κs =
     let pre = c .before .before .before .before .before .before .before .before .before .before .before .before .pre in
     tidied-runs _ _ _ _ _ _ (tidy .ensures) (omega (arith, tidy .ensures .within, tidy .kept .0, overdue .kept .0, pre .0 .fits, pre .1 .1))
 
-restart-requires : tie.Need-restart-requires
-restart-requires c κs = search needs
-
 place-requires : tie.Need-place-requires
 place-requires c κs =
     let restart = c .before .before .before .restart in
@@ -70,9 +52,6 @@ place-requires c κs =
     let tidy = c .before .before .before .before .before .before .before .before .before .before .before .before .before .tidy in
     let at = c .before .before .before .before .before .before .before .before .before .before .before .before .before .before .before .before .before .before .before .before in
     (front-kept _ _ _ _ _ (tidied-packed _ _ _ _ _ _ (tidy .ensures) _ _ (join .ensures) (join .kept .0) .front) (restart .ensures) (restart .kept .0), at .pre .1 .2)
-
-same-length-2 : tie.Need-same-length-2
-same-length-2 c = search needs
 
 returns-2 : tie.Need-returns-2
 returns-2 c =
@@ -93,17 +72,6 @@ pub settle-spec : {M : Type 1} → statement M
 settle-spec =
     tie.close
     (tie.spec
-    sub-overdue
-    overdue-requires
-    tidy-requires
-    sub-stays
-    stays-requires
-    add-append
-    append-requires
-    same-length
-    returns
-    join-requires
-    restart-requires
-    place-requires
-    same-length-2
+    (λ c. search needs) overdue-requires tidy-requires (λ c. search needs) (λ c κs. search needs) (λ c. search needs)
+    append-requires (λ c. search needs) returns join-requires (λ c κs. search needs) place-requires (λ c. search needs)
     returns-2)

@@ -32,9 +32,6 @@ sub-lesser c = omega (arith, c .before .before .if1 .left)
 sub-lesser-2 : tie.Need-sub-lesser-2 Inv-loop μ-loop
 sub-lesser-2 c = omega (arith, c .before .before .before .before .pre .1)
 
-lesser-requires : tie.Need-lesser-requires Inv-loop μ-loop
-lesser-requires c κs = search needs
-
 sub-hi : tie.Need-sub-hi Inv-loop μ-loop
 sub-hi c = omega (arith, c .lesser .ensures, c .before .before .before .before .before .pre .1, c .before .before .before .if1 .left)
 
@@ -59,12 +56,6 @@ middle : (c : tie.In-loop Inv-loop μ-loop)
     → (c .before .loop .lo < c .before .loop .hi - (c .before .loop .hi - c .before .loop .lo) / 2)
     × (c .before .loop .hi - (c .before .loop .hi - c .before .loop .lo) / 2 ≤ c .before .loop .hi)
 middle c = mid-in (c .before .loop .lo) (c .before .loop .hi) (c .loop-test .taken)
-
-sub-mid : tie.Need-sub-mid Inv-loop μ-loop
-sub-mid c = omega arith
-
-sub-mid-2 : tie.Need-sub-mid-2 Inv-loop μ-loop
-sub-mid-2 c = omega arith
 
 add-entry : tie.Need-add-entry Inv-loop μ-loop
 add-entry c = omega (arith, c .before .loop .inv .1, middle c .1)
@@ -113,25 +104,6 @@ pub stretch-spec : {M : Type 1} → statement M
 stretch-spec =
     tie.close
     (tie.spec
-    Inv-loop
-    μ-loop
-    returns
-    entry-requires
-    returns-2
-    sub-lesser
-    sub-lesser-2
-    lesser-requires
-    sub-hi
-    loop-holds
-    sub-mid
-    sub-mid-2
-    add-entry
-    entry-requires-2
-    add-if3
-    loop-less
-    loop-again
-    sub-hi-2
-    loop-less-2
-    loop-again-2
-    add-result
-    returns-3)
+    Inv-loop μ-loop returns entry-requires returns-2 sub-lesser sub-lesser-2 (λ c κs. search needs) sub-hi loop-holds
+    (λ c. omega arith) (λ c. omega arith) add-entry entry-requires-2 add-if3 loop-less loop-again sub-hi-2 loop-less-2
+    loop-again-2 add-result returns-3)

@@ -5,24 +5,6 @@ use Rattle.marks.proofs.Filling.{tidied}
 use Rattle.marks.proofs.tidy.Statement.{statement}
 use Rattle.marks.proofs.tidy.Tie as tie
 
-mul-pack : tie.Need-mul-pack
-mul-pack c = search needs
-
-sub-pack : tie.Need-sub-pack
-sub-pack c = search needs
-
-part-pack-start : tie.Need-part-pack-start
-part-pack-start c = search needs
-
-part-pack-end : tie.Need-part-pack-end
-part-pack-end c = search needs
-
-pack-requires : tie.Need-pack-requires
-pack-requires c κs = search needs
-
-same-length : tie.Need-same-length
-same-length c = search needs
-
 returns : tie.Need-returns
 returns c =
     let at = c .before .before .before .before .before in
@@ -32,4 +14,6 @@ returns c =
 pub tidy-spec : {M : Type 1} → statement M
 tidy-spec =
     tie.close
-    (tie.spec mul-pack sub-pack part-pack-start part-pack-end pack-requires same-length returns)
+    (tie.spec
+    (λ c. search needs) (λ c. search needs) (λ c. search needs) (λ c. search needs) (λ c κs. search needs)
+    (λ c. search needs) returns)

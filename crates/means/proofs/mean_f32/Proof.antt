@@ -67,16 +67,5 @@ pub mean-f32-spec : {M : Type 1} → statement M
 mean-f32-spec =
     tie.close
     (tie.spec
-    Inv-loop
-    μ-loop
-    loop-holds
-    mul-j
-    element-copy-out-j
-    add-j
-    mul-sum
-    shared-slice-read-sum
-    add-i
-    loop-less
-    loop-again
-    divided-requires
-    returns)
+    Inv-loop μ-loop loop-holds mul-j element-copy-out-j add-j mul-sum shared-slice-read-sum add-i loop-less loop-again
+    divided-requires returns)

@@ -44,9 +44,6 @@ mul-f32-of-u16 c = omega (arith, there (c .before), start (c .before) .good .0 .
 shared-slice-read-f32-of-u16 : tie.Need-shared-slice-read-f32-of-u16 Inv-loop μ-loop
 shared-slice-read-f32-of-u16 c = there (c .before .before)
 
-f32-of-u16-requires : tie.Need-f32-of-u16-requires Inv-loop μ-loop
-f32-of-u16-requires c κs = search needs
-
 add-i : tie.Need-add-i Inv-loop μ-loop
 add-i c = let t = c .before .before .before in omega (arith, start t .pre .few, t .loop-test .taken)
 
@@ -71,17 +68,5 @@ pub mean-u16-spec : {M : Type 1} → statement M
 mean-u16-spec =
     tie.close
     (tie.spec
-    Inv-loop
-    μ-loop
-    loop-holds
-    mul-j
-    element-copy-out-j
-    add-j
-    mul-f32-of-u16
-    shared-slice-read-f32-of-u16
-    f32-of-u16-requires
-    add-i
-    loop-less
-    loop-again
-    divided-requires
-    returns)
+    Inv-loop μ-loop loop-holds mul-j element-copy-out-j add-j mul-f32-of-u16 shared-slice-read-f32-of-u16
+    (λ c κs. search needs) add-i loop-less loop-again divided-requires returns)

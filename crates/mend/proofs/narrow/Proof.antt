@@ -22,27 +22,6 @@ abbrev μ-loop : tie.MeasureT-loop
 loop-holds : tie.Need-loop-holds Inv-loop μ-loop
 loop-holds c = (sym (each-between-empty 0 0 _ _ (omega arith)), refl, omega arith)
 
-mul-round-u16 : tie.Need-mul-round-u16 Inv-loop μ-loop
-mul-round-u16 c = search needs
-
-shared-slice-read-round-u16 : tie.Need-shared-slice-read-round-u16 Inv-loop μ-loop
-shared-slice-read-round-u16 c = search needs
-
-round-u16-requires : tie.Need-round-u16-requires Inv-loop μ-loop
-round-u16-requires c κs = search needs
-
-mul-samples : tie.Need-mul-samples Inv-loop μ-loop
-mul-samples c = search needs
-
-slice-write-samples : tie.Need-slice-write-samples Inv-loop μ-loop
-slice-write-samples c = search needs
-
-add-i : tie.Need-add-i Inv-loop μ-loop
-add-i c = search needs
-
-loop-less : tie.Need-loop-less Inv-loop μ-loop
-loop-less c = search needs
-
 loop-again : tie.Need-loop-again Inv-loop μ-loop
 loop-again c =
     let at = c .before .before .before .loop in (
@@ -64,16 +43,5 @@ pub narrow-spec : {M : Type 1} → statement M
 narrow-spec =
     tie.close
     (tie.spec
-    Inv-loop
-    μ-loop
-    loop-holds
-    mul-round-u16
-    shared-slice-read-round-u16
-    round-u16-requires
-    mul-samples
-    slice-write-samples
-    add-i
-    loop-less
-    loop-again
-    same-length
-    returns)
+    Inv-loop μ-loop loop-holds (λ c. search needs) (λ c. search needs) (λ c κs. search needs) (λ c. search needs)
+    (λ c. search needs) (λ c. search needs) (λ c. search needs) loop-again same-length returns)

@@ -22,27 +22,6 @@ abbrev μ-loop : tie.MeasureT-loop
 loop-holds : tie.Need-loop-holds Inv-loop μ-loop
 loop-holds c = (sym (each-between-empty 0 0 _ _ (omega arith)), refl, omega arith)
 
-mul-f32-of-u16 : tie.Need-mul-f32-of-u16 Inv-loop μ-loop
-mul-f32-of-u16 c = search needs
-
-shared-slice-read-f32-of-u16 : tie.Need-shared-slice-read-f32-of-u16 Inv-loop μ-loop
-shared-slice-read-f32-of-u16 c = search needs
-
-f32-of-u16-requires : tie.Need-f32-of-u16-requires Inv-loop μ-loop
-f32-of-u16-requires c κs = search needs
-
-mul-wide : tie.Need-mul-wide Inv-loop μ-loop
-mul-wide c = search needs
-
-slice-write-wide : tie.Need-slice-write-wide Inv-loop μ-loop
-slice-write-wide c = search needs
-
-add-i : tie.Need-add-i Inv-loop μ-loop
-add-i c = search needs
-
-loop-less : tie.Need-loop-less Inv-loop μ-loop
-loop-less c = search needs
-
 loop-again : tie.Need-loop-again Inv-loop μ-loop
 loop-again c =
     let at = c .before .before .before .loop in (
@@ -64,16 +43,5 @@ pub widen-spec : {M : Type 1} → statement M
 widen-spec =
     tie.close
     (tie.spec
-    Inv-loop
-    μ-loop
-    loop-holds
-    mul-f32-of-u16
-    shared-slice-read-f32-of-u16
-    f32-of-u16-requires
-    mul-wide
-    slice-write-wide
-    add-i
-    loop-less
-    loop-again
-    same-length
-    returns)
+    Inv-loop μ-loop loop-holds (λ c. search needs) (λ c. search needs) (λ c κs. search needs) (λ c. search needs)
+    (λ c. search needs) (λ c. search needs) (λ c. search needs) loop-again same-length returns)

@@ -7,18 +7,6 @@ use borrow.Author.Needs.{needs}
 use Rattle.names.proofs.put.Statement.{statement}
 use Rattle.names.proofs.put.Tie as tie
 
-skips-requires : tie.Need-skips-requires
-skips-requires c κs = search needs
-
-name-of-requires : tie.Need-name-of-requires
-name-of-requires c κs = search needs
-
-slice-write-names : tie.Need-slice-write-names
-slice-write-names c = search needs
-
-same-length : tie.Need-same-length
-same-length c = search needs
-
 returns : tie.Need-returns
 returns c =
     let a =
@@ -41,10 +29,4 @@ pub put-spec : {M : Type 1} → statement M
 put-spec =
     tie.close
     (tie.spec
-    skips-requires
-    name-of-requires
-    slice-write-names
-    same-length
-    returns
-    returns-2
-    returns-3)
+    (λ c κs. search needs) (λ c κs. search needs) (λ c. search needs) (λ c. search needs) returns returns-2 returns-3)

@@ -10,15 +10,6 @@ use borrow.Author.Needs.{needs}
 use Rattle.names.proofs.write.Statement.{statement}
 use Rattle.names.proofs.write.Tie as tie
 
-count-requires : tie.Need-count-requires
-count-requires c κs = search needs
-
-put-all-requires : tie.Need-put-all-requires
-put-all-requires c κs = search needs
-
-same-length : tie.Need-same-length
-same-length c = search needs
-
 returns : tie.Need-returns
 returns c =
     let b4 = c .before .before .before .before in
@@ -32,4 +23,5 @@ returns-2 c =
     no-names (namesOf (skippedIn (b4 .args .whole)) (itemsOf (now (b4 .args .list)))) (now (b4 .args .names)) (omega arith)
 
 pub write-spec : {M : Type 1} → statement M
-write-spec = tie.close (tie.spec count-requires put-all-requires same-length returns returns-2)
+write-spec = tie.close (tie.spec
+    (λ c κs. search needs) (λ c κs. search needs) (λ c. search needs) returns returns-2)

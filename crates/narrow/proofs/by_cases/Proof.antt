@@ -51,9 +51,6 @@ returns-2 c = c .normal .ensures ∙ of-its-bits (c .before .before .before .bef
 small-requires : tie.Need-small-requires
 small-requires c κs = search needs
 
-signed-requires : tie.Need-signed-requires
-signed-requires c κs = search needs
-
 returns-3 : tie.Need-returns-3
 returns-3 c =
     let e = c .before .before .before .before in
@@ -63,9 +60,6 @@ returns-3 c =
 
 past : (c : tie.Else4) → 0x47ef_ffff_f000_0000 ≤ toBits binary64 (c .before .before .before .args .x) % 2 ^ 63
 past c = ⊎-elim (λ w. omega (arith, ltb-false)) (λ w. omega arith) (c .before .if2 .came)
-
-signed-requires-2 : tie.Need-signed-requires-2
-signed-requires-2 c κs = search needs
 
 returns-4 : tie.Need-returns-4
 returns-4 c =
@@ -80,12 +74,5 @@ pub by-cases-spec : {M : Type 1} → statement M
 by-cases-spec =
     tie.close
     (tie.spec
-    returns
-    float-to-bits-b
-    normal-requires
-    returns-2
-    small-requires
-    signed-requires
-    returns-3
-    signed-requires-2
-    returns-4)
+    returns float-to-bits-b normal-requires returns-2 small-requires (λ c κs. search needs) returns-3
+    (λ c κs. search needs) returns-4)

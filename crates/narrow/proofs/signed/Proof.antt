@@ -6,20 +6,9 @@ use Rattle.narrow.proofs.Sign.{no-nan}
 use Rattle.narrow.proofs.signed.Statement.{statement}
 use Rattle.narrow.proofs.signed.Tie as tie
 
-mul-result : tie.Need-mul-result
-mul-result c = search needs
-
-cast-result : tie.Need-cast-result
-cast-result c = search needs
-
-add-result : tie.Need-add-result
-add-result c = search needs
-
 float-from-bits-result : tie.Need-float-from-bits-result
 float-from-bits-result c = no-nan binary32 _ (omega arith)
 
-returns : tie.Need-returns
-returns c = search needs
-
 pub signed-spec : {M : Type 1} → statement M
-signed-spec = tie.close (tie.spec mul-result cast-result add-result float-from-bits-result returns)
+signed-spec = tie.close (tie.spec
+    (λ c. search needs) (λ c. search needs) (λ c. search needs) float-from-bits-result (λ c. search needs))

@@ -86,32 +86,14 @@ under c = omega arith
 returns : tie.Need-returns
 returns c = (lit≤ tt, to-zero (c .before .args .a) (omega arith))
 
-add-q : tie.Need-add-q
-add-q c = search needs
-
-sub-drop : tie.Need-sub-drop
-sub-drop c = search needs
-
-sub-result : tie.Need-sub-result
-sub-result c = search needs
-
-shl-result : tie.Need-shl-result
-shl-result c = search needs
-
 sub-result-2 : tie.Need-sub-result-2
 sub-result-2 c = omega (arith, half-pos (dropped (c .before .args .a)) (dropped-hi (c .before .args .a) (above c)))
 
 add-result : tie.Need-add-result
 add-result c = omega (arith, half-le (dropped (c .before .args .a)) (dropped-hi (c .before .args .a) (above c)))
 
-shr-result : tie.Need-shr-result
-shr-result c = search needs
-
 add-result-2 : tie.Need-add-result-2
 add-result-2 c = omega (arith, half-le (dropped (c .before .args .a)) (dropped-hi (c .before .args .a) (above c)))
-
-shr-result-2 : tie.Need-shr-result-2
-shr-result-2 c = search needs
 
 cast-result : tie.Need-cast-result
 cast-result c = omega (arith, result-le (c .before .args .a) (above c) (under c))
@@ -123,15 +105,5 @@ pub small-spec : {M : Type 1} → statement M
 small-spec =
     tie.close
     (tie.spec
-    returns
-    add-q
-    sub-drop
-    sub-result
-    shl-result
-    sub-result-2
-    add-result
-    shr-result
-    add-result-2
-    shr-result-2
-    cast-result
-    returns-2)
+    returns (λ c. search needs) (λ c. search needs) (λ c. search needs) (λ c. search needs) sub-result-2 add-result
+    (λ c. search needs) add-result-2 (λ c. search needs) cast-result returns-2)

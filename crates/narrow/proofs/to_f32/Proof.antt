@@ -22,11 +22,6 @@ returns c =
     let d = c .before .before .before .before in
     c .normal .ensures ∙ of-its-bits (d .args .x) (subst T (sym (d .good .0 .1)) tt)
 
-by-cases-requires : tie.Need-by-cases-requires
-by-cases-requires c κs = search needs
-
-returns-2 : tie.Need-returns-2
-returns-2 c = search needs
-
 pub to-f32-spec : {M : Type 1} → statement M
-to-f32-spec = tie.close (tie.spec float-to-bits-b normal-requires returns by-cases-requires returns-2)
+to-f32-spec = tie.close (tie.spec
+    float-to-bits-b normal-requires returns (λ c κs. search needs) (λ c. search needs))

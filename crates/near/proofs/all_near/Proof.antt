@@ -8,9 +8,6 @@ use Rattle.near.proofs.Unmarked.{lone-near, asked-asks, asked-near}
 use Rattle.near.proofs.all_near.Statement.{statement}
 use Rattle.near.proofs.all_near.Tie as tie
 
-lone-inside-requires : tie.Need-lone-inside-requires
-lone-inside-requires c κs = search needs
-
 eight-requires : tie.Need-eight-requires
 eight-requires c κs = let s = c .before .before .before in (s .pre .0 .fits, c .before .lone-inside .ensures (c .if1 .taken) .1)
 
@@ -22,9 +19,6 @@ returns c =
     subst (λ (l : List ℕ). Lists (c .eight .result) l)
     (lone-near (marked (a .marks .now) (a .n)) (a .w) (a .period) (a .x) (a .y) (s .pre .1 (b .before .lone-inside .ensures (b .if1 .taken) .0)))
     (c .eight .ensures)
-
-asked-requires : tie.Need-asked-requires
-asked-requires c κs = search needs
 
 around-requires : tie.Need-around-requires
 around-requires c κs =
@@ -42,4 +36,5 @@ returns-2 c =
     (asked-near (a .marks .now) (a .n) (a .w) (a .period) (a .x) (a .y) (a .lone) (k .asked .ensures) (s .pre .1)) (c .around .ensures)
 
 pub all-near-spec : {M : Type 1} → statement M
-all-near-spec = tie.close (tie.spec lone-inside-requires eight-requires returns asked-requires around-requires returns-2)
+all-near-spec = tie.close (tie.spec
+    (λ c κs. search needs) eight-requires returns (λ c κs. search needs) around-requires returns-2)

@@ -9,15 +9,6 @@ use Rattle.near.proofs.Walking.{step-is}
 use Rattle.near.proofs.beside.Statement.{statement}
 use Rattle.near.proofs.beside.Tie as tie
 
-shifted-requires : tie.Need-shifted-requires
-shifted-requires c κs = search needs
-
-shifted-requires-2 : tie.Need-shifted-requires-2
-shifted-requires-2 c κs = search needs
-
-sound-at-requires : tie.Need-sound-at-requires
-sound-at-requires c κs = search needs
-
 returns : tie.Need-returns
 returns c =
     let s = c .before .before .before .before .before .before .before in
@@ -29,4 +20,5 @@ returns c =
     (c .before .before .shifted2 .ensures ∙ ap (λ (d : ℤ). moved (a .y) d (a .period) (a .w .height)) (bits-step (a .s .dy) (s .pre .1 .0 .1)))
 
 pub beside-spec : {M : Type 1} → statement M
-beside-spec = tie.close (tie.spec shifted-requires shifted-requires-2 sound-at-requires returns)
+beside-spec = tie.close (tie.spec
+    (λ c κs. search needs) (λ c κs. search needs) (λ c κs. search needs) returns)

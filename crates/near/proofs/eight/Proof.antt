@@ -6,42 +6,6 @@ use Rattle.near.proofs.Unmarked.{eight-near}
 use Rattle.near.proofs.eight.Statement.{statement}
 use Rattle.near.proofs.eight.Tie as tie
 
-sub-left : tie.Need-sub-left
-sub-left c = search needs
-
-add-right : tie.Need-add-right
-add-right c = search needs
-
-sub-up : tie.Need-sub-up
-sub-up c = search needs
-
-add-down : tie.Need-add-down
-add-down c = search needs
-
-place-requires : tie.Need-place-requires
-place-requires c κs = search needs
-
-place-requires-2 : tie.Need-place-requires-2
-place-requires-2 c κs = search needs
-
-place-requires-3 : tie.Need-place-requires-3
-place-requires-3 c κs = search needs
-
-place-requires-4 : tie.Need-place-requires-4
-place-requires-4 c κs = search needs
-
-place-requires-5 : tie.Need-place-requires-5
-place-requires-5 c κs = search needs
-
-place-requires-6 : tie.Need-place-requires-6
-place-requires-6 c κs = search needs
-
-place-requires-7 : tie.Need-place-requires-7
-place-requires-7 c κs = search needs
-
-place-requires-8 : tie.Need-place-requires-8
-place-requires-8 c κs = search needs
-
 returns : tie.Need-returns
 returns c =
     let c7 = c .before in
@@ -63,16 +27,6 @@ pub eight-spec : {M : Type 1} → statement M
 eight-spec =
     tie.close
     (tie.spec
-    sub-left
-    add-right
-    sub-up
-    add-down
-    place-requires
-    place-requires-2
-    place-requires-3
-    place-requires-4
-    place-requires-5
-    place-requires-6
-    place-requires-7
-    place-requires-8
-    returns)
+    (λ c. search needs) (λ c. search needs) (λ c. search needs) (λ c. search needs) (λ c κs. search needs)
+    (λ c κs. search needs) (λ c κs. search needs) (λ c κs. search needs) (λ c κs. search needs) (λ c κs. search needs)
+    (λ c κs. search needs) (λ c κs. search needs) returns)

@@ -4,9 +4,6 @@ use borrow.Author.Needs.{needs}
 use Rattle.near.proofs.lone_inside.Statement.{statement}
 use Rattle.near.proofs.lone_inside.Tie as tie
 
-inside-requires : tie.Need-inside-requires
-inside-requires c κs = search needs
-
 returns : tie.Need-returns
 returns c = λ e. (c .before .if1 .taken, c .inside .ensures e)
 
@@ -14,4 +11,5 @@ returns-2 : tie.Need-returns-2
 returns-2 c = λ e. absurd (false≢true e)
 
 pub lone-inside-spec : {M : Type 1} → statement M
-lone-inside-spec = tie.close (tie.spec inside-requires returns returns-2)
+lone-inside-spec = tie.close (tie.spec
+    (λ c κs. search needs) returns returns-2)

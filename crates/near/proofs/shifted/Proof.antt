@@ -11,9 +11,6 @@ returns c =
     let a = c .before .args in
     moved-none (a .at) (a .period) (a .outside) (a .d) (is-none (a .d) (c .before .pre .0) (c .if1 .taken))
 
-add-result : tie.Need-add-result
-add-result c = search needs
-
 returns-2 : tie.Need-returns-2
 returns-2 c =
     let a = c .before .before .args in
@@ -33,4 +30,5 @@ returns-4 c =
     moved-back (a .at) (a .period) (a .outside) (a .d) (back (c .before)) (c .if3 .left)
 
 pub shifted-spec : {M : Type 1} → statement M
-shifted-spec = tie.close (tie.spec returns add-result returns-2 returns-3 returns-4)
+shifted-spec = tie.close (tie.spec
+    returns (λ c. search needs) returns-2 returns-3 returns-4)

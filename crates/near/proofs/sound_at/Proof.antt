@@ -20,12 +20,6 @@ found : (c : tie.After-seek) → bad (start c) (start c .args .y * start c .args
 found c =
     ap (bad (start c)) (sym (c .before .before .position .ensures)) ∙ sym (c .seek .ensures)
 
-position-requires : tie.Need-position-requires
-position-requires c κs = search needs
-
-seek-requires : tie.Need-seek-requires
-seek-requires c κs = search needs
-
 returns : tie.Need-returns
 returns c =
     let s = start (c .before) in
@@ -51,4 +45,5 @@ returns-4 c =
     open-right (s .args .w .width) (s .args .w .height) (bad s) (s .args .x) (s .args .y) (c .if1 .left)
 
 pub sound-at-spec : {M : Type 1} → statement M
-sound-at-spec = tie.close (tie.spec position-requires seek-requires returns returns-2 returns-3 returns-4)
+sound-at-spec = tie.close (tie.spec
+    (λ c κs. search needs) (λ c κs. search needs) returns returns-2 returns-3 returns-4)

@@ -4,18 +4,6 @@ use Rattle.noted.proofs.Parts.{kept-in, kept-out}
 use Rattle.noted.proofs.keep.Statement.{statement}
 use Rattle.noted.proofs.keep.Tie as tie
 
-is-in-requires : tie.Need-is-in-requires
-is-in-requires c κs = search needs
-
-name-of-requires : tie.Need-name-of-requires
-name-of-requires c κs = search needs
-
-put-byte-requires : tie.Need-put-byte-requires
-put-byte-requires c κs = search needs
-
-same-length : tie.Need-same-length
-same-length c = search needs
-
 returns : tie.Need-returns
 returns c =
     let b4 = c .before .before .before .before in
@@ -28,4 +16,5 @@ returns-2 c = kept-out _ _ _ (c .before .is-in .ensures) (c .if1 .left)
 pub keep-spec : {M : Type 1} → statement M
 keep-spec =
     tie.close
-    (tie.spec is-in-requires name-of-requires put-byte-requires same-length returns returns-2)
+    (tie.spec
+    (λ c κs. search needs) (λ c κs. search needs) (λ c κs. search needs) (λ c. search needs) returns returns-2)

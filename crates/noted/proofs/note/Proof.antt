@@ -10,9 +10,6 @@ use borrow.Author.Needs.{needs}
 use Rattle.noted.proofs.note.Statement.{statement}
 use Rattle.noted.proofs.note.Tie as tie
 
-put-note-requires : tie.Need-put-note-requires
-put-note-requires c κs = search needs
-
 returns : tie.Need-returns
 returns c =
     let e = c .put-note .ensures in
@@ -21,4 +18,5 @@ returns c =
     record { note = e; fits = fits; part = sym (length-take-le _ _ fits) }
 
 pub note-spec : {M : Type 1} → statement M
-note-spec = tie.close (tie.spec put-note-requires returns)
+note-spec = tie.close (tie.spec
+    (λ c κs. search needs) returns)

@@ -13,12 +13,6 @@ use borrow.Author.Needs.{needs}
 use Rattle.noted.proofs.put_about.Statement.{statement}
 use Rattle.noted.proofs.put_about.Tie as tie
 
-slice-aggregate-collect : tie.Need-slice-aggregate-collect
-slice-aggregate-collect c = search needs
-
-collect-requires : tie.Need-collect-requires
-collect-requires c κs = search needs
-
 array-share-prefix-codes : tie.Need-array-share-prefix-codes
 array-share-prefix-codes c =
     let b2 = c .before .before in
@@ -35,9 +29,6 @@ slice-aggregate-put-line c =
 put-line-requires : tie.Need-put-line-requires
 put-line-requires c κs = let b3 = c .before .before .before in rw (b3 .collect .ensures .written) (b3 .before .before .before .before .before .before .pre)
 
-same-length : tie.Need-same-length
-same-length c = search needs
-
 returns : tie.Need-returns
 returns c =
     let b6 = c .before .before .before .before .before .before in
@@ -49,10 +40,5 @@ pub put-about-spec : {M : Type 1} → statement M
 put-about-spec =
     tie.close
     (tie.spec
-    slice-aggregate-collect
-    collect-requires
-    array-share-prefix-codes
-    slice-aggregate-put-line
-    put-line-requires
-    same-length
-    returns)
+    (λ c. search needs) (λ c κs. search needs) array-share-prefix-codes slice-aggregate-put-line put-line-requires
+    (λ c. search needs) returns)

@@ -10,12 +10,6 @@ use Rattle.noted.proofs.put_item.Tie as tie
 put-name-requires : tie.Need-put-name-requires
 put-name-requires c κs = let a = c .before .before .before .args in omega (arith, name-in-item (now (a .codes)) (a .code))
 
-count-requires : tie.Need-count-requires
-count-requires c κs = search needs
-
-slice-aggregate-put : tie.Need-slice-aggregate-put
-slice-aggregate-put c = search needs
-
 put-requires : tie.Need-put-requires
 put-requires c κs =
     let b6 = c .before .before .before .before .before .before in
@@ -43,9 +37,6 @@ put-number-requires c κs =
       item-length (now (a .codes)) (a .code) (b3 .before .before .before .before .count .ensures) (omega arith),
     )
 
-same-length : tie.Need-same-length
-same-length c = search needs
-
 returns : tie.Need-returns
 returns c =
     let b6 = c .before .before .before .before .before .before in
@@ -53,9 +44,6 @@ returns c =
     let a = b13 .before .before .before .before .args in
     appended-as (item-times (now (a .codes)) (a .code) (b6 .before .before .before .before .count .ensures) (omega arith))
     (appended-then (appended-then (b13 .put-name .ensures) (b6 .put .ensures)) (c .before .before .put-number .ensures))
-
-same-length-2 : tie.Need-same-length-2
-same-length-2 c = search needs
 
 returns-2 : tie.Need-returns-2
 returns-2 c =
@@ -67,12 +55,5 @@ pub put-item-spec : {M : Type 1} → statement M
 put-item-spec =
     tie.close
     (tie.spec
-    put-name-requires
-    count-requires
-    slice-aggregate-put
-    put-requires
-    put-number-requires
-    same-length
-    returns
-    same-length-2
-    returns-2)
+    put-name-requires (λ c κs. search needs) (λ c. search needs) put-requires put-number-requires (λ c. search needs)
+    returns (λ c. search needs) returns-2)

@@ -42,9 +42,6 @@ put-requires-2 c κs =
       about-length (now (a .head)) (now (a .codes)) (now (a .end)) (b7 .before .before .if1 .left),
     )
 
-same-length : tie.Need-same-length
-same-length c = search needs
-
 returns-2 : tie.Need-returns-2
 returns-2 c =
     let b6 = c .before .before .before .before .before .before in
@@ -56,4 +53,5 @@ returns-2 c =
 pub put-line-spec : {M : Type 1} → statement M
 put-line-spec =
     tie.close
-    (tie.spec returns put-requires put-names-requires put-requires-2 same-length returns-2)
+    (tie.spec
+    returns put-requires put-names-requires put-requires-2 (λ c. search needs) returns-2)

@@ -7,9 +7,6 @@ use borrow.Author.Needs.{needs}
 use Rattle.noted.proofs.put_malformed.Statement.{statement}
 use Rattle.noted.proofs.put_malformed.Tie as tie
 
-slice-aggregate-put : tie.Need-slice-aggregate-put
-slice-aggregate-put c = search needs
-
 put-requires : tie.Need-put-requires
 put-requires c κs = let a = c .before .before .before .args in omega (arith, malformed-length (a .after))
 
@@ -18,9 +15,6 @@ put-number-requires c κs =
     let b3 = c .before .before .before in
     let a = b3 .before .before .before .before .args in
     omega (arith, b3 .put .kept .0, b3 .put .ensures .ends, b3 .before .before .before .before .pre, malformed-length (a .after))
-
-slice-aggregate-put-2 : tie.Need-slice-aggregate-put-2
-slice-aggregate-put-2 c = search needs
 
 put-requires-2 : tie.Need-put-requires-2
 put-requires-2 c κs =
@@ -37,9 +31,6 @@ put-requires-2 c κs =
       malformed-length (a .after),
     )
 
-same-length : tie.Need-same-length
-same-length c = search needs
-
 returns : tie.Need-returns
 unfolding malformedAfter
 returns c =
@@ -50,10 +41,4 @@ pub put-malformed-spec : {M : Type 1} → statement M
 put-malformed-spec =
     tie.close
     (tie.spec
-    slice-aggregate-put
-    put-requires
-    put-number-requires
-    slice-aggregate-put-2
-    put-requires-2
-    same-length
-    returns)
+    (λ c. search needs) put-requires put-number-requires (λ c. search needs) put-requires-2 (λ c. search needs) returns)

@@ -23,9 +23,6 @@ abbrev μ-loop : tie.MeasureT-loop
 loop-holds : tie.Need-loop-holds Inv-loop μ-loop
 loop-holds c = (omega arith, refl, partly-start _ _ (from-start _), seen-none)
 
-shared-slice-read-code : tie.Need-shared-slice-read-code Inv-loop μ-loop
-shared-slice-read-code c = omega arith
-
 cast-code : tie.Need-cast-code Inv-loop μ-loop
 cast-code c = omega (arith, c .shared-slice-known2 .given (c .before .before .loop .k))
 
@@ -54,12 +51,6 @@ array-write-seen c =
     let b4 = c .before .before .before .before in
     omega (arith, b4 .shared-slice-known2 .given (b4 .before .before .loop .k))
 
-add-k : tie.Need-add-k Inv-loop μ-loop
-add-k c = omega arith
-
-loop-less : tie.Need-loop-less Inv-loop μ-loop
-loop-less c = omega arith
-
 loop-again : tie.Need-loop-again Inv-loop μ-loop
 loop-again c =
     let b4 = c .before .before .before .before in
@@ -81,16 +72,5 @@ pub put-names-spec : {M : Type 1} → statement M
 put-names-spec =
     tie.close
     (tie.spec
-    Inv-loop
-    μ-loop
-    loop-holds
-    shared-slice-read-code
-    cast-code
-    array-read-put-piece
-    put-piece-requires
-    array-write-seen
-    add-k
-    loop-less
-    loop-again
-    same-length
-    returns)
+    Inv-loop μ-loop loop-holds (λ c. omega arith) cast-code array-read-put-piece put-piece-requires array-write-seen
+    (λ c. omega arith) (λ c. omega arith) loop-again same-length returns)

@@ -14,17 +14,11 @@ returns c =
     let s = c .before .before .before in
     appended-as (piece-again (now (s .args .codes)) (s .args .k) (s .pre .1) (c .if1 .taken)) (appended-none _ _)
 
-shared-slice-read-code : tie.Need-shared-slice-read-code
-shared-slice-read-code c = search needs
-
 put-item-requires : tie.Need-put-item-requires
 put-item-requires c κs =
     let b3 = c .before .before .before in
     let s = b3 .before .before .before in
     omega (arith, s .pre .2, ap length (piece-first (now (s .args .codes)) (s .args .k) (s .pre .1) (b3 .if1 .left) (c .before .if2 .taken)))
-
-slice-aggregate-put : tie.Need-slice-aggregate-put
-slice-aggregate-put c = search needs
 
 put-requires : tie.Need-put-requires
 put-requires c κs =
@@ -46,18 +40,12 @@ put-item-requires-2 c κs =
       piece-length (now (s .args .codes)) (s .args .k) (s .pre .1) (b8 .if1 .left) (b6 .if2 .left),
     )
 
-same-length : tie.Need-same-length
-same-length c = search needs
-
 returns-2 : tie.Need-returns-2
 returns-2 c =
     let b4 = c .before .before .before .before in
     let b6 = b4 .before .before in
     let s = b6 .before .before .before in
     appended-as (piece-first (now (s .args .codes)) (s .args .k) (s .pre .1) (b6 .if1 .left) (b4 .if2 .taken)) (c .before .before .put-item .ensures)
-
-same-length-2 : tie.Need-same-length-2
-same-length-2 c = search needs
 
 returns-3 : tie.Need-returns-3
 returns-3 c =
@@ -72,13 +60,5 @@ pub put-piece-spec : {M : Type 1} → statement M
 put-piece-spec =
     tie.close
     (tie.spec
-    returns
-    shared-slice-read-code
-    put-item-requires
-    slice-aggregate-put
-    put-requires
-    put-item-requires-2
-    same-length
-    returns-2
-    same-length-2
-    returns-3)
+    returns (λ c. search needs) put-item-requires (λ c. search needs) put-requires put-item-requires-2
+    (λ c. search needs) returns-2 (λ c. search needs) returns-3)

@@ -9,19 +9,11 @@ use borrow.Author.Needs.{needs}
 use Rattle.performs.proofs.step_f32.Statement.{statement}
 use Rattle.performs.proofs.step_f32.Tie as tie
 
-body-requires : tie.Need-body-requires
-body-requires c κs = search needs
-
-window-step-requires : tie.Need-window-step-requires
-window-step-requires c κs = search needs
-
-same-length : tie.Need-same-length
-same-length c = search needs
-
 returns : tie.Need-returns
 returns c =
     let a = c .before .before .before .before .before .before .before .args in
     lent (a .w) (λ (l : List ℕ). ruleOf (frameOf (a .w) (a .scale)) (a .op) l) (now (a .samples)) (c .before .before .before .body .ensures) (c .before .before .window-step .ensures)
 
 pub step-f32-spec : {M : Type 1} → statement M
-step-f32-spec = tie.close (tie.spec body-requires window-step-requires same-length returns)
+step-f32-spec = tie.close (tie.spec
+    (λ c κs. search needs) (λ c κs. search needs) (λ c. search needs) returns)

@@ -8,19 +8,11 @@ use borrow.Author.Needs.{needs}
 use Rattle.performs.proofs.step_u16.Statement.{statement}
 use Rattle.performs.proofs.step_u16.Tie as tie
 
-body-requires : tie.Need-body-requires
-body-requires c κs = search needs
-
-window-step16-requires : tie.Need-window-step16-requires
-window-step16-requires c κs = search needs
-
-same-length : tie.Need-same-length
-same-length c = search needs
-
 returns : tie.Need-returns
 returns c =
     let a = c .before .before .before .before .before .before .before .args in
     lent (a .w) (λ (l : List ℕ). rule16Of (a .op) l) (now (a .samples)) (c .before .before .before .body .ensures) (c .before .before .window-step16 .ensures)
 
 pub step-u16-spec : {M : Type 1} → statement M
-step-u16-spec = tie.close (tie.spec body-requires window-step16-requires same-length returns)
+step-u16-spec = tie.close (tie.spec
+    (λ c κs. search needs) (λ c κs. search needs) (λ c. search needs) returns)

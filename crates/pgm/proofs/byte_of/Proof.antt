@@ -4,33 +4,6 @@ use borrow.Author.Needs.{needs}
 use Rattle.pgm.proofs.byte_of.Statement.{statement}
 use Rattle.pgm.proofs.byte_of.Tie as tie
 
-mul-held : tie.Need-mul-held
-mul-held c = search needs
-
-shared-slice-read-held : tie.Need-shared-slice-read-held
-shared-slice-read-held c = search needs
-
-held-requires : tie.Need-held-requires
-held-requires c κs = search needs
-
-low-byte-requires : tie.Need-low-byte-requires
-low-byte-requires c κs = search needs
-
-mul-held-2 : tie.Need-mul-held-2
-mul-held-2 c = search needs
-
-shared-slice-read-held-2 : tie.Need-shared-slice-read-held-2
-shared-slice-read-held-2 c = search needs
-
-held-requires-2 : tie.Need-held-requires-2
-held-requires-2 c κs = search needs
-
-high-byte-requires : tie.Need-high-byte-requires
-high-byte-requires c κs = search needs
-
-low-byte-requires-2 : tie.Need-low-byte-requires-2
-low-byte-requires-2 c κs = search needs
-
 returns : tie.Need-returns
 returns c =
     let b4 = c .before .before .before .before in
@@ -56,17 +29,6 @@ pub byte-of-spec : {M : Type 1} → statement M
 byte-of-spec =
     tie.close
     (tie.spec
-    mul-held
-    shared-slice-read-held
-    held-requires
-    low-byte-requires
-    mul-held-2
-    shared-slice-read-held-2
-    held-requires-2
-    high-byte-requires
-    low-byte-requires-2
-    returns
-    returns-2
-    returns-3
-    returns-4
-    returns-5)
+    (λ c. search needs) (λ c. search needs) (λ c κs. search needs) (λ c κs. search needs) (λ c. search needs)
+    (λ c. search needs) (λ c κs. search needs) (λ c κs. search needs) (λ c κs. search needs) returns returns-2
+    returns-3 returns-4 returns-5)

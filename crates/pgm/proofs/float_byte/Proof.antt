@@ -4,18 +4,6 @@ use Rattle.pgm.proofs.Laws.{float-in, float-past}
 use Rattle.pgm.proofs.float_byte.Statement.{statement}
 use Rattle.pgm.proofs.float_byte.Tie as tie
 
-mul-bits-of : tie.Need-mul-bits-of
-mul-bits-of c = search needs
-
-shared-slice-read-bits-of : tie.Need-shared-slice-read-bits-of
-shared-slice-read-bits-of c = search needs
-
-bits-of-requires : tie.Need-bits-of-requires
-bits-of-requires c κs = search needs
-
-nth-byte-requires : tie.Need-nth-byte-requires
-nth-byte-requires c κs = search needs
-
 returns : tie.Need-returns
 returns c = float-in _ _ _ (c .before .before .before .if1 .taken) (c .before .bits-of .ensures) (c .nth-byte .ensures)
 
@@ -26,9 +14,4 @@ pub float-byte-spec : {M : Type 1} → statement M
 float-byte-spec =
     tie.close
     (tie.spec
-    mul-bits-of
-    shared-slice-read-bits-of
-    bits-of-requires
-    nth-byte-requires
-    returns
-    returns-2)
+    (λ c. search needs) (λ c. search needs) (λ c κs. search needs) (λ c κs. search needs) returns returns-2)

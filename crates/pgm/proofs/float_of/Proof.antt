@@ -9,12 +9,6 @@ use Rattle.pgm.specs.Pgm.{floatAt}
 use Rattle.pgm.proofs.float_of.Statement.{statement}
 use Rattle.pgm.proofs.float_of.Tie as tie
 
-mul-f32-from : tie.Need-mul-f32-from
-mul-f32-from c = search needs
-
-f32-from-requires : tie.Need-f32-from-requires
-f32-from-requires c κs = search needs
-
 returns : tie.Need-returns
 unfolding floatAt
 returns c = c .f32-from .ensures
@@ -24,4 +18,5 @@ unfolding floatAt ofBits
 returns-2 c = sym (ap (ofBits binary32) (little-past 4 (c .before .before .args .raster .now) (4 * c .before .before .args .i) (omega arith)))
 
 pub float-of-spec : {M : Type 1} → statement M
-float-of-spec = tie.close (tie.spec mul-f32-from f32-from-requires returns returns-2)
+float-of-spec = tie.close (tie.spec
+    (λ c. search needs) (λ c κs. search needs) returns returns-2)

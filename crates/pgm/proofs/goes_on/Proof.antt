@@ -4,9 +4,6 @@ use Rattle.pgm.specs.Pgm.{goesOn}
 use Rattle.pgm.proofs.goes_on.Statement.{statement}
 use Rattle.pgm.proofs.goes_on.Tie as tie
 
-is-white-requires : tie.Need-is-white-requires
-is-white-requires c κs = search needs
-
 returns : tie.Need-returns
 unfolding goesOn
 returns c = simp (c .if1 .taken)
@@ -16,4 +13,5 @@ unfolding goesOn
 returns-2 c = simp (c .before .if1 .left, c .is-white .ensures)
 
 pub goes-on-spec : {M : Type 1} → statement M
-goes-on-spec = tie.close (tie.spec is-white-requires returns returns-2)
+goes-on-spec = tie.close (tie.spec
+    (λ c κs. search needs) returns returns-2)

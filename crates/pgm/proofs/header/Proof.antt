@@ -7,33 +7,6 @@ use native.Mathlib.Omega.{arith}
 use Rattle.pgm.proofs.header.Statement.{statement}
 use Rattle.pgm.proofs.header.Tie as tie
 
-next-number-requires : tie.Need-next-number-requires
-next-number-requires c κs = search needs
-
-next-number-requires-2 : tie.Need-next-number-requires-2
-next-number-requires-2 c κs = search needs
-
-next-number-requires-3 : tie.Need-next-number-requires-3
-next-number-requires-3 c κs = search needs
-
-is-p5-requires : tie.Need-is-p5-requires
-is-p5-requires c κs = search needs
-
-is-sound-requires : tie.Need-is-sound-requires
-is-sound-requires c κs = search needs
-
-is-sound-requires-2 : tie.Need-is-sound-requires-2
-is-sound-requires-2 c κs = search needs
-
-is-sound-requires-3 : tie.Need-is-sound-requires-3
-is-sound-requires-3 c κs = search needs
-
-byte-requires : tie.Need-byte-requires
-byte-requires c κs = search needs
-
-is-white-requires : tie.Need-is-white-requires
-is-white-requires c κs = search needs
-
 add-t19 : tie.Need-add-t19
 add-t19 c =
     let b4 = c .before .before .before .before in
@@ -63,15 +36,6 @@ pub header-spec : {M : Type 1} → statement M
 header-spec =
     tie.close
     (tie.spec
-    next-number-requires
-    next-number-requires-2
-    next-number-requires-3
-    is-p5-requires
-    is-sound-requires
-    is-sound-requires-2
-    is-sound-requires-3
-    byte-requires
-    is-white-requires
-    add-t19
-    returns
+    (λ c κs. search needs) (λ c κs. search needs) (λ c κs. search needs) (λ c κs. search needs) (λ c κs. search needs)
+    (λ c κs. search needs) (λ c κs. search needs) (λ c κs. search needs) (λ c κs. search needs) add-t19 returns
     returns-2)

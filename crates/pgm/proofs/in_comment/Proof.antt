@@ -4,9 +4,6 @@ use Rattle.pgm.specs.Pgm.{inside}
 use Rattle.pgm.proofs.in_comment.Statement.{statement}
 use Rattle.pgm.proofs.in_comment.Tie as tie
 
-ends-line-requires : tie.Need-ends-line-requires
-ends-line-requires c κs = search needs
-
 returns : tie.Need-returns
 unfolding inside
 returns c = simp (c .before .if1 .taken, c .ends-line .ensures)
@@ -16,4 +13,5 @@ unfolding inside
 returns-2 c = simp (c .if1 .left)
 
 pub in-comment-spec : {M : Type 1} → statement M
-in-comment-spec = tie.close (tie.spec ends-line-requires returns returns-2)
+in-comment-spec = tie.close (tie.spec
+    (λ c κs. search needs) returns returns-2)

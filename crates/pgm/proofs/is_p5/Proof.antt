@@ -4,15 +4,10 @@ use borrow.Author.Needs.{needs}
 use Rattle.pgm.proofs.is_p5.Statement.{statement}
 use Rattle.pgm.proofs.is_p5.Tie as tie
 
-byte-requires : tie.Need-byte-requires
-byte-requires c κs = search needs
-
-byte-requires-2 : tie.Need-byte-requires-2
-byte-requires-2 c κs = search needs
-
 returns : tie.Need-returns
 unfolding p5
 returns c = simp (c .before .byte .ensures, c .byte2 .ensures)
 
 pub is-p5-spec : {M : Type 1} → statement M
-is-p5-spec = tie.close (tie.spec byte-requires byte-requires-2 returns)
+is-p5-spec = tie.close (tie.spec
+    (λ c κs. search needs) (λ c κs. search needs) returns)

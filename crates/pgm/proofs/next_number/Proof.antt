@@ -6,14 +6,9 @@ use Rattle.pgm.specs.Pgm.{Held}
 use Rattle.pgm.proofs.next_number.Statement.{statement}
 use Rattle.pgm.proofs.next_number.Tie as tie
 
-skip-requires : tie.Need-skip-requires
-skip-requires c κs = search needs
-
-number-requires : tie.Need-number-requires
-number-requires c κs = search needs
-
 returns : tie.Need-returns
 returns c = subst (λ (i : ℕ). Held (c .before .before .before .args .bytes .now) i (c .number .result)) (c .before .skip .ensures) (c .number .ensures)
 
 pub next-number-spec : {M : Type 1} → statement M
-next-number-spec = tie.close (tie.spec skip-requires number-requires returns)
+next-number-spec = tie.close (tie.spec
+    (λ c κs. search needs) (λ c κs. search needs) returns)

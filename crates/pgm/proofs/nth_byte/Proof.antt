@@ -5,18 +5,6 @@ use Rattle.pgm.specs.Pgm.{nthByte}
 use Rattle.pgm.proofs.nth_byte.Statement.{statement}
 use Rattle.pgm.proofs.nth_byte.Tie as tie
 
-cast-result : tie.Need-cast-result
-cast-result c = search needs
-
-cast-result-2 : tie.Need-cast-result-2
-cast-result-2 c = search needs
-
-cast-result-3 : tie.Need-cast-result-3
-cast-result-3 c = search needs
-
-cast-result-4 : tie.Need-cast-result-4
-cast-result-4 c = search needs
-
 returns : tie.Need-returns
 unfolding nthByte
 returns c = simp (eq-eqb _ _ (c .if1 .taken))
@@ -37,11 +25,5 @@ pub nth-byte-spec : {M : Type 1} → statement M
 nth-byte-spec =
     tie.close
     (tie.spec
-    cast-result
-    cast-result-2
-    cast-result-3
-    cast-result-4
-    returns
-    returns-2
-    returns-3
+    (λ c. search needs) (λ c. search needs) (λ c. search needs) (λ c. search needs) returns returns-2 returns-3
     returns-4)

@@ -22,12 +22,6 @@ loop-holds : tie.Need-loop-holds Inv-loop μ-loop
 unfolding numberAt
 loop-holds c = (omega arith, refl, refl)
 
-shared-slice-read-b : tie.Need-shared-slice-read-b Inv-loop μ-loop
-shared-slice-read-b c = search needs
-
-is-digit-requires : tie.Need-is-digit-requires Inv-loop μ-loop
-is-digit-requires c κs = search needs
-
 returns : tie.Need-returns Inv-loop μ-loop
 returns c =
     let b4 = c .before .before .before .before in
@@ -39,18 +33,6 @@ returns c =
       ends = digits-off _ _ in-it r off ∙ b4 .loop .inv .1;
       held = omega (arith, decimal-off (b4 .before .before .args .bytes .now) (b4 .loop .i) (b4 .loop .value) in-it r off, b4 .loop .inv .2, b4 .loop .inv .0);
     }
-
-digit-requires : tie.Need-digit-requires Inv-loop μ-loop
-digit-requires c κs = search needs
-
-more-requires : tie.Need-more-requires Inv-loop μ-loop
-more-requires c κs = search needs
-
-add-i : tie.Need-add-i Inv-loop μ-loop
-add-i c = search needs
-
-loop-less : tie.Need-loop-less Inv-loop μ-loop
-loop-less c = search needs
 
 loop-again : tie.Need-loop-again Inv-loop μ-loop
 loop-again c =
@@ -67,15 +49,5 @@ pub number-spec : {M : Type 1} → statement M
 number-spec =
     tie.close
     (tie.spec
-    Inv-loop
-    μ-loop
-    loop-holds
-    shared-slice-read-b
-    is-digit-requires
-    returns
-    digit-requires
-    more-requires
-    add-i
-    loop-less
-    loop-again
-    returns-2)
+    Inv-loop μ-loop loop-holds (λ c. search needs) (λ c κs. search needs) returns (λ c κs. search needs)
+    (λ c κs. search needs) (λ c. search needs) (λ c. search needs) loop-again returns-2)

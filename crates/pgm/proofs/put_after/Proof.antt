@@ -6,16 +6,10 @@ use Rattle.pgm.proofs.Laws.{few}
 use Rattle.pgm.proofs.put_after.Statement.{statement}
 use Rattle.pgm.proofs.put_after.Tie as tie
 
-put-requires : tie.Need-put-requires
-put-requires c κs = search needs
-
 put-number-requires : tie.Need-put-number-requires
 put-number-requires c κs =
     let b7 = c .before .before .before .before .before .before .before in
     omega (arith, c .before .before .before .put .ensures .ends, c .before .before .before .put .kept .0, few (b7 .args .n) (omega arith))
-
-same-length : tie.Need-same-length
-same-length c = search needs
 
 returns : tie.Need-returns
 returns c =
@@ -28,4 +22,5 @@ returns c =
     }
 
 pub put-after-spec : {M : Type 1} → statement M
-put-after-spec = tie.close (tie.spec put-requires put-number-requires same-length returns)
+put-after-spec = tie.close (tie.spec
+    (λ c κs. search needs) put-number-requires (λ c. search needs) returns)

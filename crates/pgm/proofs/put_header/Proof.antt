@@ -6,20 +6,8 @@ use Rattle.pgm.specs.Pgm.{headerText}
 use Rattle.pgm.proofs.put_header.Statement.{statement}
 use Rattle.pgm.proofs.put_header.Tie as tie
 
-slice-aggregate-put-after : tie.Need-slice-aggregate-put-after
-slice-aggregate-put-after c = search needs
-
-put-after-requires : tie.Need-put-after-requires
-put-after-requires c κs = search needs
-
-slice-aggregate-put-after-2 : tie.Need-slice-aggregate-put-after-2
-slice-aggregate-put-after-2 c = search needs
-
 put-after-requires-2 : tie.Need-put-after-requires-2
 put-after-requires-2 c κs = omega (arith, c .before .before .before .before .put-after .ensures .short, c .before .before .before .before .put-after .kept .0)
-
-slice-aggregate-put-after-3 : tie.Need-slice-aggregate-put-after-3
-slice-aggregate-put-after-3 c = search needs
 
 put-after-requires-3 : tie.Need-put-after-requires-3
 put-after-requires-3 c κs =
@@ -42,9 +30,6 @@ put-byte-requires c κs =
       b13 .put-after .kept .0,
     )
 
-same-length : tie.Need-same-length
-same-length c = search needs
-
 returns : tie.Need-returns
 unfolding headerText
 returns c =
@@ -59,12 +44,5 @@ pub put-header-spec : {M : Type 1} → statement M
 put-header-spec =
     tie.close
     (tie.spec
-    slice-aggregate-put-after
-    put-after-requires
-    slice-aggregate-put-after-2
-    put-after-requires-2
-    slice-aggregate-put-after-3
-    put-after-requires-3
-    put-byte-requires
-    same-length
-    returns)
+    (λ c. search needs) (λ c κs. search needs) (λ c. search needs) put-after-requires-2 (λ c. search needs)
+    put-after-requires-3 put-byte-requires (λ c. search needs) returns)

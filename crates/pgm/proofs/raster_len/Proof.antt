@@ -5,9 +5,6 @@ use Rattle.pgm.specs.Pgm.{rasterLen}
 use Rattle.pgm.proofs.raster_len.Statement.{statement}
 use Rattle.pgm.proofs.raster_len.Tie as tie
 
-mul-result : tie.Need-mul-result
-mul-result c = search needs
-
 returns : tie.Need-returns
 unfolding rasterLen
 returns c = simp (lt-ltb _ _ (c .if1 .taken))
@@ -17,4 +14,5 @@ unfolding rasterLen
 returns-2 c = simp (le-ltb _ _ (c .if1 .left))
 
 pub raster-len-spec : {M : Type 1} → statement M
-raster-len-spec = tie.close (tie.spec mul-result returns returns-2)
+raster-len-spec = tie.close (tie.spec
+    (λ c. search needs) returns returns-2)

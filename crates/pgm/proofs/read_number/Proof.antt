@@ -4,9 +4,6 @@ use Rattle.pgm.proofs.Laws.{a-number, no-number}
 use Rattle.pgm.proofs.read_number.Statement.{statement}
 use Rattle.pgm.proofs.read_number.Tie as tie
 
-number-requires : tie.Need-number-requires
-number-requires c κs = search needs
-
 returns : tie.Need-returns
 returns c = a-number _ _ (c .before .before .before .number .ensures) (c .if1 .taken)
 
@@ -14,4 +11,5 @@ returns-2 : tie.Need-returns-2
 returns-2 c = no-number _ _ (c .before .before .before .number .ensures) (c .if1 .left)
 
 pub read-number-spec : {M : Type 1} → statement M
-read-number-spec = tie.close (tie.spec number-requires returns returns-2)
+read-number-spec = tie.close (tie.spec
+    (λ c κs. search needs) returns returns-2)

@@ -8,18 +8,6 @@ use native.Mathlib.Omega.{arith}
 use Rattle.pgm.proofs.sample_of.Statement.{statement}
 use Rattle.pgm.proofs.sample_of.Tie as tie
 
-byte-requires : tie.Need-byte-requires
-byte-requires c κs = search needs
-
-cast-result : tie.Need-cast-result
-cast-result c = search needs
-
-mul-u16-at : tie.Need-mul-u16-at
-mul-u16-at c = search needs
-
-u16-at-requires : tie.Need-u16-at-requires
-u16-at-requires c κs = search needs
-
 returns : tie.Need-returns
 unfolding sampleAt
 returns c = simp (lt-ltb _ _ (c .before .if1 .taken)) (c .byte .ensures)
@@ -35,4 +23,5 @@ returns-3 c = simp (le-ltb _ _ (c .before .if1 .left)) (sym (past 2 _ _ (omega a
 pub sample-of-spec : {M : Type 1} → statement M
 sample-of-spec =
     tie.close
-    (tie.spec byte-requires cast-result mul-u16-at u16-at-requires returns returns-2 returns-3)
+    (tie.spec
+    (λ c κs. search needs) (λ c. search needs) (λ c. search needs) (λ c κs. search needs) returns returns-2 returns-3)

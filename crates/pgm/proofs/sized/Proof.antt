@@ -18,14 +18,8 @@ returns c = simp (lt-leb _ _ (c .if1 .taken))
 raster-len-requires : tie.Need-raster-len-requires
 raster-len-requires c κs = area _ _ (c .before .pre .narrow) (c .before .pre .low)
 
-sub-if2 : tie.Need-sub-if2
-sub-if2 c = search needs
-
 returns-2 : tie.Need-returns-2
 returns-2 c = too-short _ _ _ _ _ _ _ (c .before .before .if1 .left) (c .before .raster-len .ensures) (c .if2 .taken)
-
-add-t10 : tie.Need-add-t10
-add-t10 c = search needs
 
 returns-3 : tie.Need-returns-3
 returns-3 c = all-there _ _ _ _ _ _ _ (c .before .before .if1 .left) (c .before .raster-len .ensures) (c .if2 .left)
@@ -33,4 +27,5 @@ returns-3 c = all-there _ _ _ _ _ _ _ (c .before .before .if1 .left) (c .before 
 pub sized-spec : {M : Type 1} → statement M
 sized-spec =
     tie.close
-    (tie.spec mul-samples returns raster-len-requires sub-if2 returns-2 add-t10 returns-3)
+    (tie.spec
+    mul-samples returns raster-len-requires (λ c. search needs) returns-2 (λ c. search needs) returns-3)

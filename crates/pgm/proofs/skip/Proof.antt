@@ -19,25 +19,10 @@ loop-holds : tie.Need-loop-holds Inv-loop μ-loop
 unfolding past
 loop-holds c = refl
 
-shared-slice-read-b : tie.Need-shared-slice-read-b Inv-loop μ-loop
-shared-slice-read-b c = search needs
-
-goes-on-requires : tie.Need-goes-on-requires Inv-loop μ-loop
-goes-on-requires c κs = search needs
-
 returns : tie.Need-returns Inv-loop μ-loop
 returns c =
     let b4 = c .before .before .before .before in
     blanks-off _ _ _ (c .before .before .before .loop-test .taken) (c .before .goes-on .ensures) (not-true _ (c .if1 .taken)) ∙ b4 .loop .inv
-
-in-comment-requires : tie.Need-in-comment-requires Inv-loop μ-loop
-in-comment-requires c κs = search needs
-
-add-i : tie.Need-add-i Inv-loop μ-loop
-add-i c = search needs
-
-loop-less : tie.Need-loop-less Inv-loop μ-loop
-loop-less c = search needs
 
 loop-again : tie.Need-loop-again Inv-loop μ-loop
 loop-again c =
@@ -52,14 +37,5 @@ pub skip-spec : {M : Type 1} → statement M
 skip-spec =
     tie.close
     (tie.spec
-    Inv-loop
-    μ-loop
-    loop-holds
-    shared-slice-read-b
-    goes-on-requires
-    returns
-    in-comment-requires
-    add-i
-    loop-less
-    loop-again
-    returns-2)
+    Inv-loop μ-loop loop-holds (λ c. search needs) (λ c κs. search needs) returns (λ c κs. search needs)
+    (λ c. search needs) (λ c. search needs) loop-again returns-2)

@@ -5,20 +5,11 @@ use borrow.Author.Needs.{needs}
 use Rattle.places.proofs.find_at.Statement.{statement}
 use Rattle.places.proofs.find_at.Tie as tie
 
-stands-requires : tie.Need-stands-requires
-stands-requires c κs = search needs
-
 returns : tie.Need-returns
 returns c = sym (c .before .stands .ensures (c .if1 .taken))
 
-free-requires : tie.Need-free-requires
-free-requires c κs = search needs
-
 returns-2 : tie.Need-returns-2
 returns-2 c = sym (c .before .free .ensures (c .if2 .taken) _ (le-refl _) (le-refl _))
-
-find-requires : tie.Need-find-requires
-find-requires c κs = search needs
 
 returns-3 : tie.Need-returns-3
 returns-3 c =
@@ -26,4 +17,5 @@ returns-3 c =
     c .find .ensures (s .pre .0) (s .pre .1)
 
 pub find-at-spec : {M : Type 1} → statement M
-find-at-spec = tie.close (tie.spec stands-requires returns free-requires returns-2 find-requires returns-3)
+find-at-spec = tie.close (tie.spec
+    (λ c κs. search needs) returns (λ c κs. search needs) returns-2 (λ c κs. search needs) returns-3)

@@ -8,12 +8,6 @@ use Rattle.places.proofs.free.Tie as tie
 returns : tie.Need-returns
 returns c = λ e. absurd (false≢true e)
 
-under-requires : tie.Need-under-requires
-under-requires c κs = search needs
-
-over-requires : tie.Need-over-requires
-over-requires c κs = search needs
-
 returns-2 : tie.Need-returns-2
 returns-2 c = λ e.
     let t = c .before .before in
@@ -26,4 +20,5 @@ returns-3 : tie.Need-returns-3
 returns-3 c = λ e. absurd (false≢true e)
 
 pub free-spec : {M : Type 1} → statement M
-free-spec = tie.close (tie.spec returns under-requires over-requires returns-2 returns-3)
+free-spec = tie.close (tie.spec
+    returns (λ c κs. search needs) (λ c κs. search needs) returns-2 returns-3)

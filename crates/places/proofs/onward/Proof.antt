@@ -21,12 +21,6 @@ mark-requires c κs = omega (arith, c .before .before .before .pre)
 returns : tie.Need-returns Inv-loop μ-loop
 returns c = pass-stop (c .before .before .before .loop .inv) (rw (sym (c .before .mark .ensures .0)) (c .if1 .taken))
 
-add-at : tie.Need-add-at Inv-loop μ-loop
-add-at c = omega arith
-
-loop-less : tie.Need-loop-less Inv-loop μ-loop
-loop-less c = omega arith
-
 loop-again : tie.Need-loop-again Inv-loop μ-loop
 loop-again c = pass-on (c .before .before .before .loop .inv) (c .before .before .loop-test .taken) (rw (sym (c .before .mark .ensures .0)) (c .if1 .left))
 
@@ -34,4 +28,5 @@ returns-2 : tie.Need-returns-2 Inv-loop μ-loop
 returns-2 c = pass-end (c .before .loop .inv) (c .loop-test .left)
 
 pub onward-spec : {M : Type 1} → statement M
-onward-spec = tie.close (tie.spec Inv-loop μ-loop loop-holds mark-requires returns add-at loop-less loop-again returns-2)
+onward-spec = tie.close (tie.spec
+    Inv-loop μ-loop loop-holds mark-requires returns (λ c. omega arith) (λ c. omega arith) loop-again returns-2)

@@ -7,12 +7,6 @@ use Rattle.places.proofs.Between.{over-from}
 use Rattle.places.proofs.over.Statement.{statement}
 use Rattle.places.proofs.over.Tie as tie
 
-returns : tie.Need-returns
-returns c = search needs
-
-mark-requires : tie.Need-mark-requires
-mark-requires c κs = search needs
-
 returns-2 : tie.Need-returns-2
 returns-2 c = λ e.
     let s = c .before .before .before in
@@ -20,4 +14,5 @@ returns-2 c = λ e.
     (subst (λ (z : ℕ). s .args .hi < z) (c .mark .ensures .0) (ltb-true (s .args .hi) (c .mark .result) e))
 
 pub over-spec : {M : Type 1} → statement M
-over-spec = tie.close (tie.spec returns mark-requires returns-2)
+over-spec = tie.close (tie.spec
+    (λ c. search needs) (λ c κs. search needs) returns-2)

@@ -7,9 +7,6 @@ use Rattle.places.proofs.Between.{standing}
 use Rattle.places.proofs.stands.Statement.{statement}
 use Rattle.places.proofs.stands.Tie as tie
 
-mark-requires : tie.Need-mark-requires
-mark-requires c κs = search needs
-
 returns : tie.Need-returns
 returns c = λ e.
     let s = c .before .before .before in
@@ -21,4 +18,5 @@ returns-2 : tie.Need-returns-2
 returns-2 c = λ e. absurd (false≢true e)
 
 pub stands-spec : {M : Type 1} → statement M
-stands-spec = tie.close (tie.spec mark-requires returns returns-2)
+stands-spec = tie.close (tie.spec
+    (λ c κs. search needs) returns returns-2)

@@ -8,15 +8,6 @@ use Rattle.places.proofs.Between.{under-from}
 use Rattle.places.proofs.under.Statement.{statement}
 use Rattle.places.proofs.under.Tie as tie
 
-returns : tie.Need-returns
-returns c = search needs
-
-sub-mark : tie.Need-sub-mark
-sub-mark c = search needs
-
-mark-requires : tie.Need-mark-requires
-mark-requires c κs = search needs
-
 returns-2 : tie.Need-returns-2
 returns-2 c = λ e.
     let s = c .before .before .before in
@@ -24,4 +15,5 @@ returns-2 c = λ e.
     (subst (λ (z : ℕ). z < s .args .lo) (c .mark .ensures .0) (ltb-true (c .mark .result) (s .args .lo) e))
 
 pub under-spec : {M : Type 1} → statement M
-under-spec = tie.close (tie.spec returns sub-mark mark-requires returns-2)
+under-spec = tie.close (tie.spec
+    (λ c. search needs) (λ c. search needs) (λ c κs. search needs) returns-2)

@@ -151,22 +151,5 @@ pub blocks-spec : {M : Type 1} → statement M
 blocks-spec =
     tie.close
     (tie.spec
-    Inv-loop
-    μ-loop
-    stop-of-requires
-    mul-step
-    mul-i
-    add-i
-    loop-holds
-    count-of-requires
-    evaluate-requires
-    write-block-requires
-    mul-i-2
-    add-i-2
-    mul-c
-    add-c
-    loop-less
-    loop-again
-    same-length
-    same-length-2
-    returns)
+    Inv-loop μ-loop stop-of-requires mul-step mul-i add-i loop-holds count-of-requires evaluate-requires
+    write-block-requires mul-i-2 add-i-2 mul-c add-c loop-less loop-again same-length same-length-2 returns)

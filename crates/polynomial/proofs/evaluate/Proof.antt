@@ -37,26 +37,8 @@ mul-x-of c = omega (arith, below c, c .before .loop .inv .1, entry c .pre .0 .sh
 shared-slice-read-x-of : tie.Need-shared-slice-read-x-of Inv-loop μ-loop
 shared-slice-read-x-of c = omega (arith, below (c .before), c .before .before .loop .inv .1)
 
-x-of-requires : tie.Need-x-of-requires Inv-loop μ-loop
-x-of-requires c κs = search needs
-
-wide-of-requires : tie.Need-wide-of-requires Inv-loop μ-loop
-wide-of-requires c κs = search needs
-
-mul-xs : tie.Need-mul-xs Inv-loop μ-loop
-mul-xs c = omega arith
-
-slice-write-xs : tie.Need-slice-write-xs Inv-loop μ-loop
-slice-write-xs c = omega arith
-
 add-at : tie.Need-add-at Inv-loop μ-loop
 add-at c = let t = c .before .before .before in omega (arith, below t, entry t .pre .0 .short, entry t .pre .0 .near)
-
-add-j : tie.Need-add-j Inv-loop μ-loop
-add-j c = omega arith
-
-loop-less : tie.Need-loop-less Inv-loop μ-loop
-loop-less c = omega arith
 
 loop-again : tie.Need-loop-again Inv-loop μ-loop
 loop-again c =
@@ -83,18 +65,5 @@ pub evaluate-spec : {M : Type 1} → statement M
 evaluate-spec =
     tie.close
     (tie.spec
-    Inv-loop
-    μ-loop
-    loop-holds
-    mul-x-of
-    shared-slice-read-x-of
-    x-of-requires
-    wide-of-requires
-    mul-xs
-    slice-write-xs
-    add-at
-    add-j
-    loop-less
-    loop-again
-    same-length
-    returns)
+    Inv-loop μ-loop loop-holds mul-x-of shared-slice-read-x-of (λ c κs. search needs) (λ c κs. search needs)
+    (λ c. omega arith) (λ c. omega arith) add-at (λ c. omega arith) (λ c. omega arith) loop-again same-length returns)

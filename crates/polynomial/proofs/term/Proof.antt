@@ -5,15 +5,6 @@ use Rattle.polynomial.proofs.Horner.{term-in, term-out, from-zero}
 use Rattle.polynomial.proofs.term.Statement.{statement}
 use Rattle.polynomial.proofs.term.Tie as tie
 
-mul-f64-at : tie.Need-mul-f64-at
-mul-f64-at c = search needs
-
-add-f64-at : tie.Need-add-f64-at
-add-f64-at c = search needs
-
-f64-at-requires : tie.Need-f64-at-requires
-f64-at-requires c κs = search needs
-
 returns : tie.Need-returns
 returns c = c .f64-at .ensures ∙ sym (term-in _ _ _ (c .before .if1 .taken))
 
@@ -21,4 +12,5 @@ returns-2 : tie.Need-returns-2
 returns-2 c = from-zero ∙ sym (term-out _ _ _ (c .if1 .left))
 
 pub term-spec : {M : Type 1} → statement M
-term-spec = tie.close (tie.spec mul-f64-at add-f64-at f64-at-requires returns returns-2)
+term-spec = tie.close (tie.spec
+    (λ c. search needs) (λ c. search needs) (λ c κs. search needs) returns returns-2)

@@ -7,9 +7,6 @@ use Rattle.polynomial.specs.Blocks.{wideOf}
 use Rattle.polynomial.proofs.wide_of.Statement.{statement}
 use Rattle.polynomial.proofs.wide_of.Tie as tie
 
-along-requires : tie.Need-along-requires
-along-requires c κs = search needs
-
 most : ofBits binary64 0x40ef_ffe0_0000_0000 ≡ ofInt binary64 (pos 65535)
 unfolding ofBits ofInt round units odd size span climb
 most = refl
@@ -19,4 +16,5 @@ unfolding wideOf
 returns c = cc most
 
 pub wide-of-spec : {M : Type 1} → statement M
-wide-of-spec = tie.close (tie.spec along-requires returns)
+wide-of-spec = tie.close (tie.spec
+    (λ c κs. search needs) returns)

@@ -28,15 +28,6 @@ below c = inside (c .before .loop .at) (c .before .loop .j) (entry c .pre) (c .b
 loop-holds : tie.Need-loop-holds Inv-loop μ-loop
 loop-holds c = (written-none _ _ _ _, omega arith, omega arith, refl)
 
-mul-to-f32 : tie.Need-mul-to-f32 Inv-loop μ-loop
-mul-to-f32 c = omega arith
-
-shared-slice-read-to-f32 : tie.Need-shared-slice-read-to-f32 Inv-loop μ-loop
-shared-slice-read-to-f32 c = omega arith
-
-to-f32-requires : tie.Need-to-f32-requires Inv-loop μ-loop
-to-f32-requires c κs = search needs
-
 mul-row : tie.Need-mul-row Inv-loop μ-loop
 mul-row c = omega (arith, below (c .before .before), entry (c .before .before) .pre .short)
 
@@ -45,12 +36,6 @@ slice-write-row c = omega (arith, below (c .before .before), c .before .before .
 
 add-at : tie.Need-add-at Inv-loop μ-loop
 add-at c = omega (arith, below (c .before .before), entry (c .before .before) .pre .short, entry (c .before .before) .pre .near)
-
-add-j : tie.Need-add-j Inv-loop μ-loop
-add-j c = omega arith
-
-loop-less : tie.Need-loop-less Inv-loop μ-loop
-loop-less c = omega arith
 
 loop-again : tie.Need-loop-again Inv-loop μ-loop
 loop-again c =
@@ -75,17 +60,5 @@ pub write-block-spec : {M : Type 1} → statement M
 write-block-spec =
     tie.close
     (tie.spec
-    Inv-loop
-    μ-loop
-    loop-holds
-    mul-to-f32
-    shared-slice-read-to-f32
-    to-f32-requires
-    mul-row
-    slice-write-row
-    add-at
-    add-j
-    loop-less
-    loop-again
-    same-length
-    returns)
+    Inv-loop μ-loop loop-holds (λ c. omega arith) (λ c. omega arith) (λ c κs. search needs) mul-row slice-write-row
+    add-at (λ c. omega arith) (λ c. omega arith) loop-again same-length returns)

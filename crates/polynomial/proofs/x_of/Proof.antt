@@ -7,9 +7,6 @@ use Rattle.polynomial.specs.Blocks.{xOf}
 use Rattle.polynomial.proofs.x_of.Statement.{statement}
 use Rattle.polynomial.proofs.x_of.Tie as tie
 
-widen-requires : tie.Need-widen-requires
-widen-requires c κs = search needs
-
 most : ofBits binary32 0x477f_ff00 ≡ ofInt binary32 (pos 65535)
 unfolding ofBits ofInt round units odd size span climb
 most = refl
@@ -19,4 +16,5 @@ unfolding xOf
 returns c = cc most
 
 pub x-of-spec : {M : Type 1} → statement M
-x-of-spec = tie.close (tie.spec widen-requires returns)
+x-of-spec = tie.close (tie.spec
+    (λ c κs. search needs) returns)

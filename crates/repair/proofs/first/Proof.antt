@@ -16,12 +16,6 @@ use Rattle.repair.proofs.first.Tie as tie
 abbrev mark : tie.Start → ℕ
 mark s = getD (s .args .marks .now) (s .args .i) 0
 
-mul-result : tie.Need-mul-result
-mul-result c = search needs
-
-shared-slice-read-result : tie.Need-shared-slice-read-result
-shared-slice-read-result c = search needs
-
 cast-result : tie.Need-cast-result
 cast-result c = let s = c .before .before .before .before in omega (arith, c .shared-slice-known2 .given (s .args .i))
 
@@ -36,9 +30,6 @@ returns c =
     let w = s .args .w in
     let whole : mark s / w .width * w .stride + mark s % w .width ≡ mark s = rw (c .before .before .if1 .taken) (position-is w (mark s)) in
     ap (λ (z : ℕ). z * w .planes) (sym whole)
-
-spot-of-requires : tie.Need-spot-of-requires
-spot-of-requires c κs = search needs
 
 place-requires : tie.Need-place-requires
 place-requires c κs =
@@ -62,4 +53,6 @@ returns-2 c =
 pub first-spec : {M : Type 1} → statement M
 first-spec =
     tie.close
-    (tie.spec mul-result shared-slice-read-result cast-result mul-result-2 returns spot-of-requires place-requires returns-2)
+    (tie.spec
+    (λ c. search needs) (λ c. search needs) cast-result mul-result-2 returns (λ c κs. search needs) place-requires
+    returns-2)

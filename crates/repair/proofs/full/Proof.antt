@@ -20,9 +20,6 @@ returns-3 c =
     let a = c .before .before .before .before .before .before .args in
     complete-flat (a .w) (a .n) (c .if3 .taken)
 
-sub-result : tie.Need-sub-result
-sub-result c = search needs
-
 mul-result : tie.Need-mul-result
 mul-result c =
     let s = c .before .before .before .before .before .before .before .before in
@@ -47,4 +44,5 @@ returns-4 c =
 pub full-spec : {M : Type 1} → statement M
 full-spec =
     tie.close
-    (tie.spec returns returns-2 returns-3 sub-result mul-result add-result mul-result-2 returns-4)
+    (tie.spec
+    returns returns-2 returns-3 (λ c. search needs) mul-result add-result mul-result-2 returns-4)

@@ -9,24 +9,6 @@ use borrow.Author.Needs.{needs}
 use Rattle.repair.proofs.gather_f32.Statement.{statement}
 use Rattle.repair.proofs.gather_f32.Tie as tie
 
-enum-known-op : tie.Need-enum-known-op
-enum-known-op c = search needs
-
-f32-of-u32-requires : tie.Need-f32-of-u32-requires
-f32-of-u32-requires c κs = search needs
-
-constant-marks-f32-requires : tie.Need-constant-marks-f32-requires
-constant-marks-f32-requires c κs = search needs
-
-enum-known-op-2 : tie.Need-enum-known-op-2
-enum-known-op-2 c = search needs
-
-list-marks-requires : tie.Need-list-marks-requires
-list-marks-requires c κs = search needs
-
-same-length : tie.Need-same-length
-same-length c = search needs
-
 returns : tie.Need-returns
 returns c =
     let a = c .before .before .before .before .before .before .before .before .before .before .before .args in
@@ -34,9 +16,6 @@ returns c =
     marks-constant nan (a .w) (f32Kind (frameOf (a .w) (a .scale)) .isBad) (a .op) (a .body .now) (a .samples .now) (positions (a .w)) (a .marks .now) _
     (v .0 .0) (v .0 .1 .0) (λ u. eq u (div binary32 (c .before .before .before .before .f32-of-u32 .result) (a .scale))) (c .before .before .constant-marks-f32 .result) (v .1)
     (ap (λ (x : Float). λ (u : Float). eq u (div binary32 x (a .scale))) (c .before .before .before .before .f32-of-u32 .ensures)) (c .before .before .constant-marks-f32 .ensures)
-
-same-length-2 : tie.Need-same-length-2
-same-length-2 c = search needs
 
 returns-2 : tie.Need-returns-2
 returns-2 c =
@@ -55,13 +34,5 @@ pub gather-f32-spec : {M : Type 1} → statement M
 gather-f32-spec =
     tie.close
     (tie.spec
-    enum-known-op
-    f32-of-u32-requires
-    constant-marks-f32-requires
-    enum-known-op-2
-    list-marks-requires
-    same-length
-    returns
-    same-length-2
-    returns-2
-    returns-3)
+    (λ c. search needs) (λ c κs. search needs) (λ c κs. search needs) (λ c. search needs) (λ c κs. search needs)
+    (λ c. search needs) returns (λ c. search needs) returns-2 returns-3)

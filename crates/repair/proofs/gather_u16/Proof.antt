@@ -8,30 +8,12 @@ use Rattle.repair.proofs.Gathering.{marks-constant, marks-list, marks-n
 use Rattle.repair.proofs.gather_u16.Statement.{statement}
 use Rattle.repair.proofs.gather_u16.Tie as tie
 
-enum-known-op : tie.Need-enum-known-op
-enum-known-op c = search needs
-
-constant-marks-u16-requires : tie.Need-constant-marks-u16-requires
-constant-marks-u16-requires c κs = search needs
-
-enum-known-op-2 : tie.Need-enum-known-op-2
-enum-known-op-2 c = search needs
-
-list-marks-requires : tie.Need-list-marks-requires
-list-marks-requires c κs = search needs
-
-same-length : tie.Need-same-length
-same-length c = search needs
-
 returns : tie.Need-returns
 returns c =
     let a = c .before .before .before .before .before .before .before .before .before .before .args in
     let v = c .before .before .before .before .before .op .given in
     marks-constant 0 (a .w) (u16Kind .isBad) (a .op) (a .body .now) (a .samples .now) (positions (a .w)) (a .marks .now) _
     (v .0 .0) (v .0 .1 .0) (λ u. eqb u (v .0 .0)) (c .before .before .constant-marks-u16 .result) (v .1) refl (c .before .before .constant-marks-u16 .ensures)
-
-same-length-2 : tie.Need-same-length-2
-same-length-2 c = search needs
 
 returns-2 : tie.Need-returns-2
 returns-2 c =
@@ -49,12 +31,5 @@ pub gather-u16-spec : {M : Type 1} → statement M
 gather-u16-spec =
     tie.close
     (tie.spec
-    enum-known-op
-    constant-marks-u16-requires
-    enum-known-op-2
-    list-marks-requires
-    same-length
-    returns
-    same-length-2
-    returns-2
-    returns-3)
+    (λ c. search needs) (λ c κs. search needs) (λ c. search needs) (λ c κs. search needs) (λ c. search needs) returns
+    (λ c. search needs) returns-2 returns-3)

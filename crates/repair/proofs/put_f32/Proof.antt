@@ -36,12 +36,6 @@ mul-samples-2 c = let s = c .before .before .before in omega (arith, s .pre .0, 
 slice-write-samples : tie.Need-slice-write-samples Inv-loop μ-loop
 slice-write-samples c = let s = c .before .before .before in omega (arith, s .pre .0, c .before .before .loop .inv .same)
 
-add-k : tie.Need-add-k Inv-loop μ-loop
-add-k c = omega arith
-
-loop-less : tie.Need-loop-less Inv-loop μ-loop
-loop-less c = omega arith
-
 loop-again : tie.Need-loop-again Inv-loop μ-loop
 loop-again c =
     let s = c .before .before .before in
@@ -62,17 +56,5 @@ pub put-f32-spec : {M : Type 1} → statement M
 put-f32-spec =
     tie.close
     (tie.spec
-    Inv-loop
-    μ-loop
-    loop-holds
-    add-samples
-    mul-samples
-    shared-slice-read-samples
-    add-samples-2
-    mul-samples-2
-    slice-write-samples
-    add-k
-    loop-less
-    loop-again
-    same-length
-    returns)
+    Inv-loop μ-loop loop-holds add-samples mul-samples shared-slice-read-samples add-samples-2 mul-samples-2
+    slice-write-samples (λ c. omega arith) (λ c. omega arith) loop-again same-length returns)

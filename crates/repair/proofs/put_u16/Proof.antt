@@ -26,9 +26,6 @@ mul-round-u16 c = let s = c .before .before .before .before in omega (arith, s .
 shared-slice-read-round-u16 : tie.Need-shared-slice-read-round-u16 Inv-loop μ-loop
 shared-slice-read-round-u16 c = let s = c .before .before .before .before .before in omega (arith, s .pre .1)
 
-round-u16-requires : tie.Need-round-u16-requires Inv-loop μ-loop
-round-u16-requires c κs = search needs
-
 add-samples : tie.Need-add-samples Inv-loop μ-loop
 add-samples c = let s = c .before .before .before .before .before .before in omega (arith, s .pre .0, s .good .0 .1)
 
@@ -37,12 +34,6 @@ mul-samples c = let s = c .before .before .before .before .before .before in ome
 
 slice-write-samples : tie.Need-slice-write-samples Inv-loop μ-loop
 slice-write-samples c = let s = c .before .before .before .before .before .before in omega (arith, s .pre .0, c .before .before .before .loop .inv .same)
-
-add-k : tie.Need-add-k Inv-loop μ-loop
-add-k c = omega arith
-
-loop-less : tie.Need-loop-less Inv-loop μ-loop
-loop-less c = omega arith
 
 loop-again : tie.Need-loop-again Inv-loop μ-loop
 loop-again c =
@@ -64,18 +55,5 @@ pub put-u16-spec : {M : Type 1} → statement M
 put-u16-spec =
     tie.close
     (tie.spec
-    Inv-loop
-    μ-loop
-    loop-holds
-    add-round-u16
-    mul-round-u16
-    shared-slice-read-round-u16
-    round-u16-requires
-    add-samples
-    mul-samples
-    slice-write-samples
-    add-k
-    loop-less
-    loop-again
-    same-length
-    returns)
+    Inv-loop μ-loop loop-holds add-round-u16 mul-round-u16 shared-slice-read-round-u16 (λ c κs. search needs)
+    add-samples mul-samples slice-write-samples (λ c. omega arith) (λ c. omega arith) loop-again same-length returns)

@@ -8,26 +8,11 @@ use Rattle.replay.proofs.counted.Tie as tie
 returns : tie.Need-returns
 returns c = part-cut _ _ (omega arith)
 
-sub-last : tie.Need-sub-last
-sub-last c = search needs
-
 returns-2 : tie.Need-returns-2
 returns-2 c = part-cut _ _ (omega arith)
 
-size-requires : tie.Need-size-requires
-size-requires c κs = search needs
-
 returns-3 : tie.Need-returns-3
 returns-3 c = part-cut _ _ (omega (arith, c .before .size .ensures))
-
-add-t5 : tie.Need-add-t5
-add-t5 c = search needs
-
-add-t7 : tie.Need-add-t7
-add-t7 c = search needs
-
-add-t8 : tie.Need-add-t8
-add-t8 c = search needs
 
 returns-4 : tie.Need-returns-4
 returns-4 c = part-whole _ _ (c .before .size .ensures) (omega arith)
@@ -35,4 +20,6 @@ returns-4 c = part-whole _ _ (c .before .size .ensures) (omega arith)
 pub counted-spec : {M : Type 1} → statement M
 counted-spec =
     tie.close
-    (tie.spec returns sub-last returns-2 size-requires returns-3 add-t5 add-t7 add-t8 returns-4)
+    (tie.spec
+    returns (λ c. search needs) returns-2 (λ c κs. search needs) returns-3 (λ c. search needs) (λ c. search needs)
+    (λ c. search needs) returns-4)

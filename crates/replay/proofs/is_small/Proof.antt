@@ -5,12 +5,10 @@ use borrow.Author.Needs.{needs}
 use Rattle.replay.proofs.is_small.Statement.{statement}
 use Rattle.replay.proofs.is_small.Tie as tie
 
-sub-result : tie.Need-sub-result
-sub-result c = search needs
-
 returns : tie.Need-returns
 unfolding smallOf
 returns c = refl
 
 pub is-small-spec : {M : Type 1} → statement M
-is-small-spec = tie.close (tie.spec sub-result returns)
+is-small-spec = tie.close (tie.spec
+    (λ c. search needs) returns)

@@ -4,9 +4,6 @@ use borrow.Author.Needs.{needs}
 use Rattle.replay.proofs.kept.Statement.{statement}
 use Rattle.replay.proofs.kept.Tie as tie
 
-is-small-requires : tie.Need-is-small-requires
-is-small-requires c κs = search needs
-
 returns : tie.Need-returns
 returns c = simp (sym (c .before .is-small .ensures) ∙ c .if1 .taken)
 
@@ -14,4 +11,5 @@ returns-2 : tie.Need-returns-2
 returns-2 c = simp (sym (c .before .is-small .ensures) ∙ c .if1 .left)
 
 pub kept-spec : {M : Type 1} → statement M
-kept-spec = tie.close (tie.spec is-small-requires returns returns-2)
+kept-spec = tie.close (tie.spec
+    (λ c κs. search needs) returns returns-2)

@@ -10,23 +10,8 @@ use borrow.Author.Needs.{needs}
 use Rattle.replay.proofs.put_pair.Statement.{statement}
 use Rattle.replay.proofs.put_pair.Tie as tie
 
-digit-requires : tie.Need-digit-requires
-digit-requires c κs = search needs
-
-slice-write-text : tie.Need-slice-write-text
-slice-write-text c = search needs
-
-digit-requires-2 : tie.Need-digit-requires-2
-digit-requires-2 c κs = search needs
-
-add-text : tie.Need-add-text
-add-text c = search needs
-
 slice-write-text-2 : tie.Need-slice-write-text-2
 slice-write-text-2 c = simp length-set (omega arith)
-
-same-length : tie.Need-same-length
-same-length c = search needs
 
 returns : tie.Need-returns
 returns c = pair-put _ _ _ _ (c .before .before .before .pre) ∙ ap₂ (λ (x y : ℕ). take (c .before .before .before .args .at) (now (c .before .before .before .args .text)) ++ (x ∷ y ∷ [])) (c .before .digit .ensures) (c .digit2 .ensures)
@@ -35,10 +20,5 @@ pub put-pair-spec : {M : Type 1} → statement M
 put-pair-spec =
     tie.close
     (tie.spec
-    digit-requires
-    slice-write-text
-    digit-requires-2
-    add-text
-    slice-write-text-2
-    same-length
-    returns)
+    (λ c κs. search needs) (λ c. search needs) (λ c κs. search needs) (λ c. search needs) slice-write-text-2
+    (λ c. search needs) returns)

@@ -11,42 +11,6 @@ use Rattle.report.proofs.Laws.{within-then, within-as}
 use Rattle.report.proofs.put_done.Statement.{statement}
 use Rattle.report.proofs.put_done.Tie as tie
 
-smaller-requires : tie.Need-smaller-requires
-smaller-requires c κs = search needs
-
-put-form-requires : tie.Need-put-form-requires
-put-form-requires c κs = search needs
-
-sub-put-skipped : tie.Need-sub-put-skipped
-sub-put-skipped c = search needs
-
-part-put-skipped-start : tie.Need-part-put-skipped-start
-part-put-skipped-start c = search needs
-
-part-put-skipped-end : tie.Need-part-put-skipped-end
-part-put-skipped-end c = search needs
-
-put-skipped-requires : tie.Need-put-skipped-requires
-put-skipped-requires c κs = search needs
-
-slice-aggregate-put-line : tie.Need-slice-aggregate-put-line
-slice-aggregate-put-line c = search needs
-
-put-line-requires : tie.Need-put-line-requires
-put-line-requires c κs = search needs
-
-slice-aggregate-put-line-2 : tie.Need-slice-aggregate-put-line-2
-slice-aggregate-put-line-2 c = search needs
-
-put-line-requires-2 : tie.Need-put-line-requires-2
-put-line-requires-2 c κs = search needs
-
-slice-aggregate-put-line-if : tie.Need-slice-aggregate-put-line-if
-slice-aggregate-put-line-if c = search needs
-
-put-line-if-requires : tie.Need-put-line-if-requires
-put-line-if-requires c κs = search needs
-
 put-verdict-requires : tie.Need-put-verdict-requires
 put-verdict-requires c κs =
     let d = c .before .before .before in
@@ -67,9 +31,6 @@ put-verdict-requires c κs =
       h .put-form .ensures .short,
       h .put-form .kept .0,
     )
-
-same-length : tie.Need-same-length
-same-length c = search needs
 
 returns : tie.Need-returns
 unfolding doneText
@@ -92,18 +53,6 @@ pub put-done-spec : {M : Type 1} → statement M
 put-done-spec =
     tie.close
     (tie.spec
-    smaller-requires
-    put-form-requires
-    sub-put-skipped
-    part-put-skipped-start
-    part-put-skipped-end
-    put-skipped-requires
-    slice-aggregate-put-line
-    put-line-requires
-    slice-aggregate-put-line-2
-    put-line-requires-2
-    slice-aggregate-put-line-if
-    put-line-if-requires
-    put-verdict-requires
-    same-length
-    returns)
+    (λ c κs. search needs) (λ c κs. search needs) (λ c. search needs) (λ c. search needs) (λ c. search needs)
+    (λ c κs. search needs) (λ c. search needs) (λ c κs. search needs) (λ c. search needs) (λ c κs. search needs)
+    (λ c. search needs) (λ c κs. search needs) put-verdict-requires (λ c. search needs) returns)

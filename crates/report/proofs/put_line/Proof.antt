@@ -5,9 +5,6 @@ use Rattle.report.proofs.Laws.{few, line-is}
 use Rattle.report.proofs.put_line.Statement.{statement}
 use Rattle.report.proofs.put_line.Tie as tie
 
-put-requires : tie.Need-put-requires
-put-requires c κs = search needs
-
 put-number-requires : tie.Need-put-number-requires
 put-number-requires c κs =
     let b3 = c .before .before .before in
@@ -26,9 +23,6 @@ put-byte-requires c κs =
       few (b7 .before .before .before .before .args .n) (omega arith),
     )
 
-same-length : tie.Need-same-length
-same-length c = search needs
-
 returns : tie.Need-returns
 returns c =
     let b6 = c .before .before .before .before .before .before in
@@ -37,4 +31,5 @@ returns c =
 
 pub put-line-spec : {M : Type 1} → statement M
 put-line-spec =
-    tie.close (tie.spec put-requires put-number-requires put-byte-requires same-length returns)
+    tie.close (tie.spec
+    (λ c κs. search needs) put-number-requires put-byte-requires (λ c. search needs) returns)

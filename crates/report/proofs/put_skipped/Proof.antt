@@ -8,48 +8,6 @@ use Rattle.report.proofs.Laws.{counted, within-then, within-as}
 use Rattle.report.proofs.put_skipped.Statement.{statement}
 use Rattle.report.proofs.put_skipped.Tie as tie
 
-slice-aggregate-put-line-if : tie.Need-slice-aggregate-put-line-if
-slice-aggregate-put-line-if c = search needs
-
-count-requires : tie.Need-count-requires
-count-requires c κs = search needs
-
-put-line-if-requires : tie.Need-put-line-if-requires
-put-line-if-requires c κs = search needs
-
-slice-aggregate-put-line-if-2 : tie.Need-slice-aggregate-put-line-if-2
-slice-aggregate-put-line-if-2 c = search needs
-
-count-requires-2 : tie.Need-count-requires-2
-count-requires-2 c κs = search needs
-
-put-line-if-requires-2 : tie.Need-put-line-if-requires-2
-put-line-if-requires-2 c κs = search needs
-
-slice-aggregate-put-line-if-3 : tie.Need-slice-aggregate-put-line-if-3
-slice-aggregate-put-line-if-3 c = search needs
-
-count-requires-3 : tie.Need-count-requires-3
-count-requires-3 c κs = search needs
-
-put-line-if-requires-3 : tie.Need-put-line-if-requires-3
-put-line-if-requires-3 c κs = search needs
-
-slice-aggregate-put-line-if-4 : tie.Need-slice-aggregate-put-line-if-4
-slice-aggregate-put-line-if-4 c = search needs
-
-count-requires-4 : tie.Need-count-requires-4
-count-requires-4 c κs = search needs
-
-put-line-if-requires-4 : tie.Need-put-line-if-requires-4
-put-line-if-requires-4 c κs = search needs
-
-slice-aggregate-put-line-if-5 : tie.Need-slice-aggregate-put-line-if-5
-slice-aggregate-put-line-if-5 c = search needs
-
-count-requires-5 : tie.Need-count-requires-5
-count-requires-5 c κs = search needs
-
 put-line-if-requires-5 : tie.Need-put-line-if-requires-5
 put-line-if-requires-5 c κs =
     let d = c .before .before .before .before .before in
@@ -68,9 +26,6 @@ put-line-if-requires-5 c κs =
       g .put-line-if .kept .0,
       g .before .before .before .before .before .before .pre,
     )
-
-same-length : tie.Need-same-length
-same-length c = search needs
 
 returns : tie.Need-returns
 unfolding skippedText
@@ -93,20 +48,7 @@ pub put-skipped-spec : {M : Type 1} → statement M
 put-skipped-spec =
     tie.close
     (tie.spec
-    slice-aggregate-put-line-if
-    count-requires
-    put-line-if-requires
-    slice-aggregate-put-line-if-2
-    count-requires-2
-    put-line-if-requires-2
-    slice-aggregate-put-line-if-3
-    count-requires-3
-    put-line-if-requires-3
-    slice-aggregate-put-line-if-4
-    count-requires-4
-    put-line-if-requires-4
-    slice-aggregate-put-line-if-5
-    count-requires-5
-    put-line-if-requires-5
-    same-length
-    returns)
+    (λ c. search needs) (λ c κs. search needs) (λ c κs. search needs) (λ c. search needs) (λ c κs. search needs)
+    (λ c κs. search needs) (λ c. search needs) (λ c κs. search needs) (λ c κs. search needs) (λ c. search needs)
+    (λ c κs. search needs) (λ c κs. search needs) (λ c. search needs) (λ c κs. search needs) put-line-if-requires-5
+    (λ c. search needs) returns)

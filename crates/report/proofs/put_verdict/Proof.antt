@@ -7,26 +7,8 @@ use Rattle.report.proofs.Laws.{within}
 use Rattle.report.proofs.put_verdict.Statement.{statement}
 use Rattle.report.proofs.put_verdict.Tie as tie
 
-slice-aggregate-put : tie.Need-slice-aggregate-put
-slice-aggregate-put c = search needs
-
-put-requires : tie.Need-put-requires
-put-requires c κs = search needs
-
-slice-aggregate-put-2 : tie.Need-slice-aggregate-put-2
-slice-aggregate-put-2 c = search needs
-
-put-requires-2 : tie.Need-put-requires-2
-put-requires-2 c κs = search needs
-
-same-length : tie.Need-same-length
-same-length c = search needs
-
 returns : tie.Need-returns
 returns c = within 40 _ (lit≤ tt) (ap verdictText (sym (c .before .before .before .before .before .if1 .taken))) (c .before .before .put .ensures)
-
-same-length-2 : tie.Need-same-length-2
-same-length-2 c = search needs
 
 returns-2 : tie.Need-returns-2
 returns-2 c = within 40 _ (lit≤ tt) (ap verdictText (sym (c .before .before .before .before .before .if1 .left))) (c .before .before .put2 .ensures)
@@ -35,11 +17,5 @@ pub put-verdict-spec : {M : Type 1} → statement M
 put-verdict-spec =
     tie.close
     (tie.spec
-    slice-aggregate-put
-    put-requires
-    slice-aggregate-put-2
-    put-requires-2
-    same-length
-    returns
-    same-length-2
-    returns-2)
+    (λ c. search needs) (λ c κs. search needs) (λ c. search needs) (λ c κs. search needs) (λ c. search needs) returns
+    (λ c. search needs) returns-2)

@@ -29,13 +29,11 @@ sub-larger c = omega (arith, c .before .pre .0)
 div-larger : tie.Need-div-larger
 div-larger c = omega (arith, c .before .pre .0)
 
-larger-requires : tie.Need-larger-requires
-larger-requires c κs = search needs
-
 returns-2 : tie.Need-returns-2
 returns-2 c =
     let s = c .before .before in
     subst (Begun (s .args .len) (s .args .planes)) (sym (c .larger .ensures)) (begun-cut (s .pre .0))
 
 pub columns-of-spec : {M : Type 1} → statement M
-columns-of-spec = tie.close (tie.spec mul-if1 returns add-larger sub-larger div-larger larger-requires returns-2)
+columns-of-spec = tie.close (tie.spec
+    mul-if1 returns add-larger sub-larger div-larger (λ c κs. search needs) returns-2)

@@ -17,22 +17,10 @@ use Rattle.rows.proofs.Single.{begun-spans, single-fits, single-ordered
 use Rattle.rows.proofs.gain_planes.Statement.{statement}
 use Rattle.rows.proofs.gain_planes.Tie as tie
 
-first-column-requires : tie.Need-first-column-requires
-first-column-requires c κs = search needs
-
-touched-requires : tie.Need-touched-requires
-touched-requires c κs = search needs
-
 columns-of-requires : tie.Need-columns-of-requires
 columns-of-requires c κs =
     let at = c .before .before .before .before .before in
     (at .pre .0 .some, at .pre .0 .few, at .pre .1 .some, at .pre .1 .most, at .pre .1 .holds)
-
-window-of-requires : tie.Need-window-of-requires
-window-of-requires c κs = search needs
-
-every-row-requires : tie.Need-every-row-requires
-every-row-requires c κs = search needs
 
 blocks-requires : tie.Need-blocks-requires
 blocks-requires c κs =
@@ -50,9 +38,6 @@ blocks-requires c κs =
           (start .ensures)),
       at .pre .2,
     )
-
-same-length : tie.Need-same-length
-same-length c = search needs
 
 returns : tie.Need-returns
 unfolding gained
@@ -84,4 +69,6 @@ returns-2 c =
 pub gain-planes-spec : {M : Type 1} → statement M
 gain-planes-spec =
     tie.close
-    (tie.spec first-column-requires touched-requires columns-of-requires window-of-requires every-row-requires blocks-requires same-length returns returns-2)
+    (tie.spec
+    (λ c κs. search needs) (λ c κs. search needs) columns-of-requires (λ c κs. search needs) (λ c κs. search needs)
+    blocks-requires (λ c. search needs) returns returns-2)

@@ -5,23 +5,11 @@ use borrow.Author.Needs.{needs}
 use Rattle.rows.proofs.run_row.Statement.{statement}
 use Rattle.rows.proofs.run_row.Tie as tie
 
-settle-row-requires : tie.Need-settle-row-requires
-settle-row-requires c κs = search needs
-
-enum-known-answer : tie.Need-enum-known-answer
-enum-known-answer c = search needs
-
-enum-known-skipped : tie.Need-enum-known-skipped
-enum-known-skipped c = search needs
-
 place-of-requires : tie.Need-place-of-requires
 place-of-requires c κs =
     let b4 = c .before .before .before .before in
     let a = b4 .before .before .before .args in
     goes-narrow (a .w) (a .scale) (a .y) (now (a .list)) (now (a .row)) (b4 .settle-row .ensures) (c .before .before .skipped .given .1)
-
-larger-requires : tie.Need-larger-requires
-larger-requires c κs = search needs
 
 perform-requires : tie.Need-perform-requires
 perform-requires c κs =
@@ -41,9 +29,6 @@ returns c =
     refused (a .w) (a .scale) (a .y) (now (a .list)) (now (a .row)) (c .before .before .before .settle-row .ensures)
     (c .before .answer .given .1)
 
-same-length : tie.Need-same-length
-same-length c = search needs
-
 returns-2 : tie.Need-returns-2
 returns-2 c =
     let p = c .before .before .before .before in
@@ -57,12 +42,5 @@ pub run-row-spec : {M : Type 1} → statement M
 run-row-spec =
     tie.close
     (tie.spec
-    settle-row-requires
-    enum-known-answer
-    enum-known-skipped
-    place-of-requires
-    larger-requires
-    perform-requires
-    returns
-    same-length
-    returns-2)
+    (λ c κs. search needs) (λ c. search needs) (λ c. search needs) place-of-requires (λ c κs. search needs)
+    perform-requires returns (λ c. search needs) returns-2)

@@ -6,18 +6,6 @@ use borrow.Author.Needs.{needs}
 use Rattle.rows.proofs.step_one.Statement.{statement}
 use Rattle.rows.proofs.step_one.Tie as tie
 
-prepare-requires : tie.Need-prepare-requires
-prepare-requires c κs = search needs
-
-body-requires : tie.Need-body-requires
-body-requires c κs = search needs
-
-row-step-requires : tie.Need-row-step-requires
-row-step-requires c κs = search needs
-
-same-length : tie.Need-same-length
-same-length c = search needs
-
 returns : tie.Need-returns
 returns c =
     let a = c .before .before .before .before .before .before .before .before .args in
@@ -27,4 +15,5 @@ returns c =
 
 pub step-one-spec : {M : Type 1} → statement M
 step-one-spec =
-    tie.close (tie.spec prepare-requires body-requires row-step-requires same-length returns)
+    tie.close (tie.spec
+    (λ c κs. search needs) (λ c κs. search needs) (λ c κs. search needs) (λ c. search needs) returns)

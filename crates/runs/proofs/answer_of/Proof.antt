@@ -6,15 +6,6 @@ use borrow.Author.Needs.{needs}
 use Rattle.runs.proofs.answer_of.Statement.{statement}
 use Rattle.runs.proofs.answer_of.Tie as tie
 
-enum-known-p : tie.Need-enum-known-p
-enum-known-p c = search needs
-
-enum-known-p-2 : tie.Need-enum-known-p-2
-enum-known-p-2 c = search needs
-
-enum-known-p-3 : tie.Need-enum-known-p-3
-enum-known-p-3 c = search needs
-
 returns : tie.Need-returns
 returns c = sym (ap (λ (p : Performed). answerOf p (c .before .before .before .args .n)) (c .before .p .given .1))
 
@@ -26,4 +17,5 @@ returns-3 c = sym (ap (λ (p : Performed). answerOf p (c .before .before .before
 
 pub answer-of-spec : {M : Type 1} → statement M
 answer-of-spec =
-    tie.close (tie.spec enum-known-p enum-known-p-2 enum-known-p-3 returns returns-2 returns-3)
+    tie.close (tie.spec
+    (λ c. search needs) (λ c. search needs) (λ c. search needs) returns returns-2 returns-3)

@@ -7,15 +7,6 @@ use borrow.Author.Needs.{needs}
 use Rattle.runs.proofs.attempt_u16.Statement.{statement}
 use Rattle.runs.proofs.attempt_u16.Tie as tie
 
-settle-u16-requires : tie.Need-settle-u16-requires
-settle-u16-requires c κs = search needs
-
-enum-known-answer : tie.Need-enum-known-answer
-enum-known-answer c = search needs
-
-enum-known-n : tie.Need-enum-known-n
-enum-known-n c = search needs
-
 perform-u16-requires : tie.Need-perform-u16-requires
 perform-u16-requires c κs =
     let a = c .before .before .before .before .before .before .before .before .before .before .before .before .args in
@@ -23,33 +14,12 @@ perform-u16-requires c κs =
     (record { marks = length (now (a .marks)); values = length (now (a .values)) }) (now (a .list)) (now (a .samples)) (now (a .names))
     (c .before .before .before .before .before .before .settle-u16 .ensures) (c .before .before .before .before .n .given .1)
 
-is-done-requires : tie.Need-is-done-requires
-is-done-requires c κs = search needs
-
-name-requires : tie.Need-name-requires
-name-requires c κs = search needs
-
-answer-of-requires : tie.Need-answer-of-requires
-answer-of-requires c κs = search needs
-
 returns : tie.Need-returns
 returns c =
     let a = c .before .before .before .before .before .before .before .before .before .args in
     refused u16Kind takes16 skipped16 (a .w) (a .period)
     (record { marks = length (now (a .marks)); values = length (now (a .values)) }) (now (a .list)) (now (a .samples)) (now (a .names))
     (c .before .before .before .settle-u16 .ensures) (c .before .answer .given .1)
-
-same-length : tie.Need-same-length
-same-length c = search needs
-
-same-length-2 : tie.Need-same-length-2
-same-length-2 c = search needs
-
-same-length-3 : tie.Need-same-length-3
-same-length-3 c = search needs
-
-same-length-4 : tie.Need-same-length-4
-same-length-4 c = search needs
 
 returns-2 : tie.Need-returns-2
 returns-2 c =
@@ -63,16 +33,6 @@ pub attempt-u16-spec : {M : Type 1} → statement M
 attempt-u16-spec =
     tie.close
     (tie.spec
-    settle-u16-requires
-    enum-known-answer
-    enum-known-n
-    perform-u16-requires
-    is-done-requires
-    name-requires
-    answer-of-requires
-    returns
-    same-length
-    same-length-2
-    same-length-3
-    same-length-4
-    returns-2)
+    (λ c κs. search needs) (λ c. search needs) (λ c. search needs) perform-u16-requires (λ c κs. search needs)
+    (λ c κs. search needs) (λ c κs. search needs) returns (λ c. search needs) (λ c. search needs) (λ c. search needs)
+    (λ c. search needs) returns-2)

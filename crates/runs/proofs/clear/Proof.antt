@@ -4,18 +4,6 @@ use Rattle.samples.specs.Samples.{cleared}
 use Rattle.runs.proofs.clear.Statement.{statement}
 use Rattle.runs.proofs.clear.Tie as tie
 
-clear-requires : tie.Need-clear-requires
-clear-requires c κs = search needs
-
-clear-f32-requires : tie.Need-clear-f32-requires
-clear-f32-requires c κs = search needs
-
-same-length : tie.Need-same-length
-same-length c = search needs
-
-same-length-2 : tie.Need-same-length-2
-same-length-2 c = search needs
-
 returns : tie.Need-returns
 unfolding cleared
 returns c =
@@ -25,4 +13,5 @@ returns c =
     }
 
 pub clear-spec : {M : Type 1} → statement M
-clear-spec = tie.close (tie.spec clear-requires clear-f32-requires same-length same-length-2 returns)
+clear-spec = tie.close (tie.spec
+    (λ c κs. search needs) (λ c κs. search needs) (λ c. search needs) (λ c. search needs) returns)

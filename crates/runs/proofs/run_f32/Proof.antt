@@ -6,24 +6,6 @@ use borrow.Author.Needs.{needs}
 use Rattle.runs.proofs.run_f32.Statement.{statement}
 use Rattle.runs.proofs.run_f32.Tie as tie
 
-attempt-f32-requires : tie.Need-attempt-f32-requires
-attempt-f32-requires c κs = search needs
-
-clear-requires : tie.Need-clear-requires
-clear-requires c κs = search needs
-
-same-length : tie.Need-same-length
-same-length c = search needs
-
-same-length-2 : tie.Need-same-length-2
-same-length-2 c = search needs
-
-same-length-3 : tie.Need-same-length-3
-same-length-3 c = search needs
-
-same-length-4 : tie.Need-same-length-4
-same-length-4 c = search needs
-
 returns : tie.Need-returns
 returns c =
     let a = c .before .before .before .before .before .before .before .before .before .before .before .before .before .before .before .before .before .before .before .before .before .before .before .before .before .args in
@@ -35,10 +17,5 @@ pub run-f32-spec : {M : Type 1} → statement M
 run-f32-spec =
     tie.close
     (tie.spec
-    attempt-f32-requires
-    clear-requires
-    same-length
-    same-length-2
-    same-length-3
-    same-length-4
-    returns)
+    (λ c κs. search needs) (λ c κs. search needs) (λ c. search needs) (λ c. search needs) (λ c. search needs)
+    (λ c. search needs) returns)

@@ -17,24 +17,6 @@ abbrev μ-loop : tie.MeasureT-loop
 loop-holds : tie.Need-loop-holds Inv-loop μ-loop
 loop-holds c = put-start 4 (toBits binary32) nan _ _
 
-mul-put-f32 : tie.Need-mul-put-f32 Inv-loop μ-loop
-mul-put-f32 c = omega arith
-
-mul-put-f32-2 : tie.Need-mul-put-f32-2 Inv-loop μ-loop
-mul-put-f32-2 c = omega arith
-
-shared-slice-read-put-f32 : tie.Need-shared-slice-read-put-f32 Inv-loop μ-loop
-shared-slice-read-put-f32 c = omega arith
-
-put-f32-requires : tie.Need-put-f32-requires Inv-loop μ-loop
-put-f32-requires c κs = search needs
-
-add-i : tie.Need-add-i Inv-loop μ-loop
-add-i c = omega arith
-
-loop-less : tie.Need-loop-less Inv-loop μ-loop
-loop-less c = omega arith
-
 loop-again : tie.Need-loop-again Inv-loop μ-loop
 loop-again c =
     let b5 = c .before .before .before .before .before in
@@ -52,15 +34,5 @@ pub encode-f32-spec : {M : Type 1} → statement M
 encode-f32-spec =
     tie.close
     (tie.spec
-    Inv-loop
-    μ-loop
-    loop-holds
-    mul-put-f32
-    mul-put-f32-2
-    shared-slice-read-put-f32
-    put-f32-requires
-    add-i
-    loop-less
-    loop-again
-    same-length
-    returns)
+    Inv-loop μ-loop loop-holds (λ c. omega arith) (λ c. omega arith) (λ c. omega arith) (λ c κs. search needs)
+    (λ c. omega arith) (λ c. omega arith) loop-again same-length returns)

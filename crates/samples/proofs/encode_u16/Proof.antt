@@ -16,24 +16,6 @@ abbrev μ-loop : tie.MeasureT-loop
 loop-holds : tie.Need-loop-holds Inv-loop μ-loop
 loop-holds c = put-start 2 (λ n. n) 0 _ _
 
-mul-put-u16 : tie.Need-mul-put-u16 Inv-loop μ-loop
-mul-put-u16 c = omega arith
-
-mul-put-u16-2 : tie.Need-mul-put-u16-2 Inv-loop μ-loop
-mul-put-u16-2 c = omega arith
-
-shared-slice-read-put-u16 : tie.Need-shared-slice-read-put-u16 Inv-loop μ-loop
-shared-slice-read-put-u16 c = omega arith
-
-put-u16-requires : tie.Need-put-u16-requires Inv-loop μ-loop
-put-u16-requires c κs = search needs
-
-add-i : tie.Need-add-i Inv-loop μ-loop
-add-i c = omega arith
-
-loop-less : tie.Need-loop-less Inv-loop μ-loop
-loop-less c = omega arith
-
 loop-again : tie.Need-loop-again Inv-loop μ-loop
 loop-again c =
     let b5 = c .before .before .before .before .before in
@@ -51,15 +33,5 @@ pub encode-u16-spec : {M : Type 1} → statement M
 encode-u16-spec =
     tie.close
     (tie.spec
-    Inv-loop
-    μ-loop
-    loop-holds
-    mul-put-u16
-    mul-put-u16-2
-    shared-slice-read-put-u16
-    put-u16-requires
-    add-i
-    loop-less
-    loop-again
-    same-length
-    returns)
+    Inv-loop μ-loop loop-holds (λ c. omega arith) (λ c. omega arith) (λ c. omega arith) (λ c κs. search needs)
+    (λ c. omega arith) (λ c. omega arith) loop-again same-length returns)

@@ -19,18 +19,6 @@ abbrev μ-loop : tie.MeasureT-loop
 loop-holds : tie.Need-loop-holds Inv-loop μ-loop
 loop-holds c = (omega arith, λ e k h. absurd (omega arith))
 
-mul-hit : tie.Need-mul-hit Inv-loop μ-loop
-mul-hit c = search needs
-
-shared-slice-read-hit : tie.Need-shared-slice-read-hit Inv-loop μ-loop
-shared-slice-read-hit c = search needs
-
-add-i : tie.Need-add-i Inv-loop μ-loop
-add-i c = search needs
-
-loop-less : tie.Need-loop-less Inv-loop μ-loop
-loop-less c = search needs
-
 loop-again : tie.Need-loop-again Inv-loop μ-loop
 loop-again c =
     let l = c .before .before .loop in
@@ -44,12 +32,5 @@ pub any-f32-spec : {M : Type 1} → statement M
 any-f32-spec =
     tie.close
     (tie.spec
-    Inv-loop
-    μ-loop
-    loop-holds
-    mul-hit
-    shared-slice-read-hit
-    add-i
-    loop-less
-    loop-again
-    returns)
+    Inv-loop μ-loop loop-holds (λ c. search needs) (λ c. search needs) (λ c. search needs) (λ c. search needs)
+    loop-again returns)

@@ -21,29 +21,14 @@ inside c =
     part-in nan (a .w) (λ v. eq v (a .c)) (a .samples .now) (a .y) (a .from) (a .end) (c .tested .result)
     (c .tested .result + (a .end - a .from)) (s .pre .0) (s .pre .1) (c .before .if1 .taken) (c .tested .ensures) refl
 
-tested-requires : tie.Need-tested-requires
-tested-requires c κs = search needs
-
-sub-past : tie.Need-sub-past
-sub-past c = search needs
-
 add-past : tie.Need-add-past
 add-past c = omega (arith, inside c)
 
 mul-any-f32 : tie.Need-mul-any-f32
 mul-any-f32 c = omega (arith, inside c, c .before .before .before .before .good .0 .1)
 
-sub-any-f32 : tie.Need-sub-any-f32
-sub-any-f32 c = search needs
-
-part-any-f32-start : tie.Need-part-any-f32-start
-part-any-f32-start c = search needs
-
 part-any-f32-end : tie.Need-part-any-f32-end
 part-any-f32-end c = inside c
-
-any-f32-requires : tie.Need-any-f32-requires
-any-f32-requires c κs = search needs
 
 returns : tie.Need-returns
 returns c = λ e.
@@ -61,13 +46,5 @@ pub clear-f32-spec : {M : Type 1} → statement M
 clear-f32-spec =
     tie.close
     (tie.spec
-    tested-requires
-    sub-past
-    add-past
-    mul-any-f32
-    sub-any-f32
-    part-any-f32-start
-    part-any-f32-end
-    any-f32-requires
-    returns
-    returns-2)
+    (λ c κs. search needs) (λ c. search needs) add-past mul-any-f32 (λ c. search needs) (λ c. search needs)
+    part-any-f32-end (λ c κs. search needs) returns returns-2)

@@ -31,32 +31,14 @@ returns c = λ e x l h.
     bad-at 0 (a .w) (λ v. eqb v (a .c)) (a .samples .now) x (a .y) (omega (arith, h, s .pre .0 .edge))
     ∙ ne-eqb (getD (a .samples .now) at 0) (a .c) (λ q. omega (arith, q, c .if1 .taken, c .before .shared-slice-known .given at))
 
-tested-requires : tie.Need-tested-requires
-tested-requires c κs = search needs
-
-sub-past : tie.Need-sub-past
-sub-past c = search needs
-
 add-past : tie.Need-add-past
 add-past c = omega (arith, inside c)
 
 mul-any-u16 : tie.Need-mul-any-u16
 mul-any-u16 c = omega (arith, inside c, c .before .before .before .before .before .good .0 .1)
 
-sub-any-u16 : tie.Need-sub-any-u16
-sub-any-u16 c = search needs
-
-part-any-u16-start : tie.Need-part-any-u16-start
-part-any-u16-start c = search needs
-
 part-any-u16-end : tie.Need-part-any-u16-end
 part-any-u16-end c = inside c
-
-cast-any-u16 : tie.Need-cast-any-u16
-cast-any-u16 c = search needs
-
-any-u16-requires : tie.Need-any-u16-requires
-any-u16-requires c κs = search needs
 
 returns-2 : tie.Need-returns-2
 returns-2 c = λ e.
@@ -74,15 +56,5 @@ pub clear-u16-spec : {M : Type 1} → statement M
 clear-u16-spec =
     tie.close
     (tie.spec
-    returns
-    tested-requires
-    sub-past
-    add-past
-    mul-any-u16
-    sub-any-u16
-    part-any-u16-start
-    part-any-u16-end
-    cast-any-u16
-    any-u16-requires
-    returns-2
-    returns-3)
+    returns (λ c κs. search needs) (λ c. search needs) add-past mul-any-u16 (λ c. search needs) (λ c. search needs)
+    part-any-u16-end (λ c. search needs) (λ c κs. search needs) returns-2 returns-3)

@@ -69,9 +69,6 @@ cast-if1 c = omega (arith, c .shared-slice-known2 .given (c .before .tested .res
 position-requires : tie.Need-position-requires Inv-loop μ-loop
 position-requires c κs = pixel (turn (c .before .before))
 
-keep-requires : tie.Need-keep-requires Inv-loop μ-loop
-keep-requires c κs = search needs
-
 -- the read that led to a position that is kept, and what keeping it answers
 abbrev read : tie.After-keep Inv-loop μ-loop → tie.After-shared-slice-known2 Inv-loop μ-loop
 read c = c .before .before .before .before
@@ -87,9 +84,6 @@ add-held c =
     let k = c .before .before .before in
     let t = turn (read k) in
     omega (arith, answer k true (c .if2 .taken) .0, t .before .loop .inv .long, start t .good .1 .1 .1 .1 .1 .1 .0 .0)
-
-add-x : tie.Need-add-x Inv-loop μ-loop
-add-x c = search needs
 
 loop-less : tie.Need-loop-less Inv-loop μ-loop
 loop-less c = omega (arith, turn (read (c .before .before .before)) .loop-test .taken)
@@ -111,12 +105,6 @@ returns c =
     (seen (read k) true (eq-eqb _ _ (k .before .before .before .if1 .taken)))
     (answer k false (c .if2 .left))
 
-add-x-2 : tie.Need-add-x-2 Inv-loop μ-loop
-add-x-2 c = search needs
-
-loop-less-2 : tie.Need-loop-less-2 Inv-loop μ-loop
-loop-less-2 c = search needs
-
 loop-again-2 : tie.Need-loop-again-2 Inv-loop μ-loop
 loop-again-2 c =
     let r = c .before in
@@ -132,23 +120,6 @@ pub part-u16-spec : {M : Type 1} → statement M
 part-u16-spec =
     tie.close
     (tie.spec
-    Inv-loop
-    μ-loop
-    loop-holds
-    tested-requires
-    mul-if1
-    shared-slice-read-if1
-    cast-if1
-    position-requires
-    keep-requires
-    add-held
-    add-x
-    loop-less
-    loop-again
-    same-length
-    returns
-    add-x-2
-    loop-less-2
-    loop-again-2
-    same-length-2
-    returns-2)
+    Inv-loop μ-loop loop-holds tested-requires mul-if1 shared-slice-read-if1 cast-if1 position-requires
+    (λ c κs. search needs) add-held (λ c. search needs) loop-less loop-again same-length returns (λ c. search needs)
+    (λ c. search needs) loop-again-2 same-length-2 returns-2)

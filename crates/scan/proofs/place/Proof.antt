@@ -25,8 +25,6 @@ mul-result-2 c = omega (arith, small (c .before .before))
 add-result-2 : tie.Need-add-result-2
 add-result-2 c = omega (arith, small (c .before .before))
 
-returns : tie.Need-returns
-returns c = search needs
-
 pub place-spec : {M : Type 1} → statement M
-place-spec = tie.close (tie.spec mul-result add-result mul-result-2 add-result-2 returns)
+place-spec = tie.close (tie.spec
+    mul-result add-result mul-result-2 add-result-2 (λ c. search needs))

@@ -18,8 +18,6 @@ add-result c = omega (arith, small (c .before))
 cast-result : tie.Need-cast-result
 cast-result c = omega (arith, small (c .before))
 
-returns : tie.Need-returns
-returns c = search needs
-
 pub position-spec : {M : Type 1} → statement M
-position-spec = tie.close (tie.spec mul-result add-result cast-result returns)
+position-spec = tie.close (tie.spec
+    mul-result add-result cast-result (λ c. search needs))

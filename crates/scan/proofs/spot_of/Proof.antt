@@ -16,12 +16,6 @@ mark s = getD (s .args .marks .now) (s .args .i) 0
 small : (s : tie.Start) → mark s < 4294967296
 small s = lt-of-lt-of-le (s .pre .inside) (area (s .args .w) (s .pre .fits))
 
-mul-q : tie.Need-mul-q
-mul-q c = search needs
-
-shared-slice-read-q : tie.Need-shared-slice-read-q
-shared-slice-read-q c = search needs
-
 cast-q : tie.Need-cast-q
 cast-q c = omega (arith, small (c .before .before))
 
@@ -43,4 +37,5 @@ returns c =
 
 pub spot-of-spec : {M : Type 1} → statement M
 spot-of-spec =
-    tie.close (tie.spec mul-q shared-slice-read-q cast-q row-of-requires mul-x sub-x returns)
+    tie.close (tie.spec
+    (λ c. search needs) (λ c. search needs) cast-q row-of-requires mul-x sub-x returns)

@@ -21,15 +21,6 @@ from c = subst (λ (n : ℕ). gap c ≤ n * step c) (sym (c .steps-up .ensures))
 below : (c : tie.After-steps-up) → c .steps-up .result * step c < gap c + step c
 below c = subst (λ (n : ℕ). n * step c < gap c + step c) (sym (c .steps-up .ensures)) (up-below (gap c) (step c) (omega arith))
 
-larger-requires : tie.Need-larger-requires
-larger-requires c κs = search needs
-
-larger-requires-2 : tie.Need-larger-requires-2
-larger-requires-2 c κs = search needs
-
-sub-steps-up : tie.Need-sub-steps-up
-sub-steps-up c = search needs
-
 steps-up-requires : tie.Need-steps-up-requires
 steps-up-requires c κs = (omega arith, omega arith, omega arith)
 
@@ -52,11 +43,4 @@ pub first-column-spec : {M : Type 1} → statement M
 first-column-spec =
     tie.close
     (tie.spec
-    larger-requires
-    larger-requires-2
-    sub-steps-up
-    steps-up-requires
-    mul-t9
-    add-t10
-    sub-t11
-    returns)
+    (λ c κs. search needs) (λ c κs. search needs) (λ c. search needs) steps-up-requires mul-t9 add-t10 sub-t11 returns)

@@ -15,9 +15,6 @@ use Rattle.select.proofs.row_selected.Tie as tie
 selects-every : (lo hi pitch x : ℕ) → max pitch 1 ≡ 1 → lo ≤ x → x < hi → selects lo hi pitch x ≡ true
 selects-every lo hi pitch x e l h = selects-at lo hi pitch x (x - lo) (rw e (omega (arith, mul-one (x - lo)))) h
 
-larger-requires : tie.Need-larger-requires
-larger-requires c κs = search needs
-
 returns : tie.Need-returns
 returns c = sym (selects-low _ _ _ _ (c .if1 .taken))
 
@@ -31,13 +28,11 @@ returns-3 c =
     let one : max (at .args .pitch) 1 ≡ 1 = omega (arith, c .if3 .taken, step .ensures) in
     sym (selects-every (at .args .top) (at .args .bottom) (at .args .pitch) (at .args .y) one (c .before .before .if1 .left) (c .before .if2 .left))
 
-rem-result : tie.Need-rem-result
-rem-result c = search needs
-
 returns-4 : tie.Need-returns-4
 unfolding selects
 returns-4 c =
     simp (le-leb _ _ (c .before .before .if1 .left), lt-ltb _ _ (c .before .if2 .left), c .before .before .before .larger .ensures)
 
 pub row-selected-spec : {M : Type 1} → statement M
-row-selected-spec = tie.close (tie.spec larger-requires returns returns-2 returns-3 rem-result returns-4)
+row-selected-spec = tie.close (tie.spec
+    (λ c κs. search needs) returns returns-2 returns-3 (λ c. search needs) returns-4)

@@ -18,17 +18,12 @@ returns c =
 returns-2 : tie.Need-returns-2
 returns-2 c = sym (div-eq-of-lt (omega (arith, c .if2 .taken, c .before .before .pre .0)))
 
-sub-result : tie.Need-sub-result
-sub-result c = search needs
-
 add-result : tie.Need-add-result
 add-result c = omega (arith, c .before .before .pre .1, c .before .before .pre .2)
-
-div-result : tie.Need-div-result
-div-result c = search needs
 
 returns-3 : tie.Need-returns-3
 returns-3 c = refl
 
 pub steps-up-spec : {M : Type 1} → statement M
-steps-up-spec = tie.close (tie.spec returns returns-2 sub-result add-result div-result returns-3)
+steps-up-spec = tie.close (tie.spec
+    returns returns-2 (λ c. search needs) add-result (λ c. search needs) returns-3)

@@ -7,16 +7,10 @@ use Rattle.select.proofs.Sizes.{by-planes}
 use Rattle.select.proofs.stop_of.Statement.{statement}
 use Rattle.select.proofs.stop_of.Tie as tie
 
-less-requires : tie.Need-less-requires
-less-requires c κs = search needs
-
 mul-smaller : tie.Need-mul-smaller
 mul-smaller c =
     let w = c .before .before .pre in
     omega (arith, by-planes w (c .before .less .result), c .before .less .ensures, w .right32)
-
-smaller-requires : tie.Need-smaller-requires
-smaller-requires c κs = search needs
 
 returns : tie.Need-returns
 returns c =
@@ -24,4 +18,5 @@ returns c =
     c .smaller .ensures ∙ ap (λ (q : ℕ). min (s .args .n) (q * s .args .k .planes)) (c .before .before .less .ensures)
 
 pub stop-of-spec : {M : Type 1} → statement M
-stop-of-spec = tie.close (tie.spec less-requires mul-smaller smaller-requires returns)
+stop-of-spec = tie.close (tie.spec
+    (λ c κs. search needs) mul-smaller (λ c κs. search needs) returns)

@@ -4,12 +4,6 @@ use borrow.Author.Needs.{needs}
 use Rattle.settles.proofs.names_in.Statement.{statement}
 use Rattle.settles.proofs.names_in.Tie as tie
 
-skipped16-count-requires : tie.Need-skipped16-count-requires
-skipped16-count-requires c κs = search needs
-
-skipped-count-requires : tie.Need-skipped-count-requires
-skipped-count-requires c κs = search needs
-
 returns : tie.Need-returns
 returns c = named _ (c .before .if1 .taken) (c .skipped16-count .ensures)
 
@@ -18,4 +12,5 @@ returns-2 c = named _ (c .before .if1 .left) (c .skipped-count .ensures)
 
 pub names-in-spec : {M : Type 1} → statement M
 names-in-spec =
-    tie.close (tie.spec skipped16-count-requires skipped-count-requires returns returns-2)
+    tie.close (tie.spec
+    (λ c κs. search needs) (λ c κs. search needs) returns returns-2)

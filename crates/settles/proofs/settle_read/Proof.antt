@@ -5,14 +5,8 @@ use borrow.Author.Needs.{needs}
 use Rattle.settles.proofs.settle_read.Statement.{statement}
 use Rattle.settles.proofs.settle_read.Tie as tie
 
-takes-requires : tie.Need-takes-requires
-takes-requires c κs = search needs
-
 returns : tie.Need-returns
 returns c = not-taken _ _ _ _ (c .before .takes .ensures) (not-true _ (c .if1 .taken))
-
-names-in-requires : tie.Need-names-in-requires
-names-in-requires c κs = search needs
 
 returns-2 : tie.Need-returns-2
 returns-2 c =
@@ -26,4 +20,5 @@ returns-3 c =
 
 pub settle-read-spec : {M : Type 1} → statement M
 settle-read-spec =
-    tie.close (tie.spec takes-requires returns names-in-requires returns-2 returns-3)
+    tie.close (tie.spec
+    (λ c κs. search needs) returns (λ c κs. search needs) returns-2 returns-3)

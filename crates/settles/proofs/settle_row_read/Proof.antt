@@ -5,18 +5,13 @@ use borrow.Author.Needs.{needs}
 use Rattle.settles.proofs.settle_row_read.Statement.{statement}
 use Rattle.settles.proofs.settle_row_read.Tie as tie
 
-row-takes-requires : tie.Need-row-takes-requires
-row-takes-requires c κs = search needs
-
 returns : tie.Need-returns
 returns c = row-not-taken _ (c .before .row-takes .ensures) (not-true _ (c .if1 .taken))
-
-skipped-count-requires : tie.Need-skipped-count-requires
-skipped-count-requires c κs = search needs
 
 returns-2 : tie.Need-returns-2
 returns-2 c = row-goes _ (c .before .before .row-takes .ensures) (not-false _ (c .before .if1 .left)) (c .skipped-count .ensures)
 
 pub settle-row-read-spec : {M : Type 1} → statement M
 settle-row-read-spec =
-    tie.close (tie.spec row-takes-requires returns skipped-count-requires returns-2)
+    tie.close (tie.spec
+    (λ c κs. search needs) returns (λ c κs. search needs) returns-2)

@@ -4,9 +4,6 @@ use borrow.Author.Needs.{needs}
 use Rattle.settles.proofs.takes.Statement.{statement}
 use Rattle.settles.proofs.takes.Tie as tie
 
-u16-exact-requires : tie.Need-u16-exact-requires
-u16-exact-requires c κs = search needs
-
 returns : tie.Need-returns
 returns c = taken _ (c .before .if1 .taken) (c .u16-exact .ensures)
 
@@ -14,4 +11,5 @@ returns-2 : tie.Need-returns-2
 returns-2 c = taken-all _ (c .if1 .left)
 
 pub takes-spec : {M : Type 1} → statement M
-takes-spec = tie.close (tie.spec u16-exact-requires returns returns-2)
+takes-spec = tie.close (tie.spec
+    (λ c κs. search needs) returns returns-2)

@@ -27,12 +27,6 @@ any-axis (DeltaColumns n) h g v = tt
 any-axis (ScaleRows n) h g v = tt
 any-axis (ScaleColumns n) h g v = tt
 
-enum-known-t : tie.Need-enum-known-t
-enum-known-t c = search needs
-
-row-axis-requires : tie.Need-row-axis-requires
-row-axis-requires c κs = search needs
-
 returns : tie.Need-returns
 returns c =
     let u = c .before .before in
@@ -45,4 +39,5 @@ returns-2 c =
     any-axis (a .t) (c .match .keys2) (a .g) _
 
 pub axis-of-spec : {M : Type 1} → statement M
-axis-of-spec = tie.close (tie.spec enum-known-t row-axis-requires returns returns-2)
+axis-of-spec = tie.close (tie.spec
+    (λ c. search needs) (λ c κs. search needs) returns returns-2)

@@ -7,12 +7,6 @@ use Rattle.dng.specs.Value.{nought, nth, delta}
 use Rattle.steps.proofs.delta_columns.Statement.{statement}
 use Rattle.steps.proofs.delta_columns.Tie as tie
 
-add-columns-requires : tie.Need-add-columns-requires
-add-columns-requires c κs = search needs
-
-same-length : tie.Need-same-length
-same-length c = search needs
-
 returns : tie.Need-returns
 returns c =
     let s = c .before .before .before .before .before .before in
@@ -22,4 +16,5 @@ returns c =
     (s .pre .1 .left-is) (s .pre .1 .pitch-is)
 
 pub delta-columns-spec : {M : Type 1} → statement M
-delta-columns-spec = tie.close (tie.spec add-columns-requires same-length returns)
+delta-columns-spec = tie.close (tie.spec
+    (λ c κs. search needs) (λ c. search needs) returns)

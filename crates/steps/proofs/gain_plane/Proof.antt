@@ -7,9 +7,6 @@ use Rattle.steps.proofs.Fits.{gain-fits}
 use Rattle.steps.proofs.gain_plane.Statement.{statement}
 use Rattle.steps.proofs.gain_plane.Tie as tie
 
-map-plane-requires : tie.Need-map-plane-requires
-map-plane-requires c κs = search needs
-
 gain-row-requires : tie.Need-gain-row-requires
 gain-row-requires c κs =
     let m = c .before in
@@ -19,9 +16,6 @@ gain-row-requires c κs =
       gain-fits (a .points-v) (a .points-h) (a .grid) (a .map-planes) (a .k .plane) (a .r .plane) (s .pre .1) (m .map-plane .ensures),
       s .pre .2,
     )
-
-same-length : tie.Need-same-length
-same-length c = search needs
 
 returns : tie.Need-returns
 returns c =
@@ -33,4 +27,5 @@ returns c =
     (a .map-planes) (a .g .y) (m .map-plane .result) (a .k) (a .row .now) (m .map-plane .ensures)
 
 pub gain-plane-spec : {M : Type 1} → statement M
-gain-plane-spec = tie.close (tie.spec map-plane-requires gain-row-requires same-length returns)
+gain-plane-spec = tie.close (tie.spec
+    (λ c κs. search needs) gain-row-requires (λ c. search needs) returns)

@@ -51,23 +51,11 @@ module _ (k : Walk) (g : Place) (scale : Float) (r : Region) (b : List ℕ) (l :
   scale-taken (ScaleRows n) h e = ap (λ (z : Float). walked k (λ x p v. scaled z v) l) e
   scale-taken (ScaleColumns n) h e = absurd (miss (5 ∷ []) 6 tt h)
 
-enum-known-t : tie.Need-enum-known-t
-enum-known-t c = search needs
-
-table-plane-requires : tie.Need-table-plane-requires
-table-plane-requires c κs = search needs
-
-enum-known-t-2 : tie.Need-enum-known-t-2
-enum-known-t-2 c = search needs
-
 polynomial-row-requires : tie.Need-polynomial-row-requires
 polynomial-row-requires c κs =
     let u = c .before .before in
     let s = u .before .before .before .before in
     (s .pre .0, degree-fits _ (ap taskFits (sym (u .t2 .given .1)) ∙ s .pre .2))
-
-enum-known-t-3 : tie.Need-enum-known-t-3
-enum-known-t-3 c = search needs
 
 gain-plane-requires : tie.Need-gain-plane-requires
 gain-plane-requires c κs =
@@ -79,41 +67,11 @@ gain-plane-requires c κs =
       subst (λ (t : Task). AxisFor t (a .g) (a .v)) (u .t3 .given .1) (s .pre .3),
     )
 
-enum-told : tie.Need-enum-told
-enum-told c = search needs
-
-add-row-requires : tie.Need-add-row-requires
-add-row-requires c κs = search needs
-
-enum-known-t-4 : tie.Need-enum-known-t-4
-enum-known-t-4 c = search needs
-
-delta-columns-requires : tie.Need-delta-columns-requires
-delta-columns-requires c κs = search needs
-
-enum-told-2 : tie.Need-enum-told-2
-enum-told-2 c = search needs
-
-scale-row-requires : tie.Need-scale-row-requires
-scale-row-requires c κs = search needs
-
-enum-known-t-5 : tie.Need-enum-known-t-5
-enum-known-t-5 c = search needs
-
-scale-columns-requires : tie.Need-scale-columns-requires
-scale-columns-requires c κs = search needs
-
-same-length : tie.Need-same-length
-same-length c = search needs
-
 returns : tie.Need-returns
 returns c =
     let u = c .before .before .before .before .before in
     let a = u .before .before .before .before .args in
     c .before .before .table-plane .ensures ∙ taken (a .k) (a .g) (a .scale) (a .r) (a .body .now) (a .row .now) (u .t .given .1)
-
-same-length-2 : tie.Need-same-length-2
-same-length-2 c = search needs
 
 returns-2 : tie.Need-returns-2
 returns-2 c =
@@ -121,17 +79,11 @@ returns-2 c =
     let a = u .before .before .before .before .args in
     c .before .before .polynomial-row .ensures ∙ taken (a .k) (a .g) (a .scale) (a .r) (a .body .now) (a .row .now) (u .t2 .given .1)
 
-same-length-3 : tie.Need-same-length-3
-same-length-3 c = search needs
-
 returns-3 : tie.Need-returns-3
 returns-3 c =
     let u = c .before .before .before .before .before in
     let a = u .before .before .before .before .args in
     c .before .before .gain-plane .ensures (a .scale) ∙ taken (a .k) (a .g) (a .scale) (a .r) (a .body .now) (a .row .now) (u .t3 .given .1)
-
-same-length-4 : tie.Need-same-length-4
-same-length-4 c = search needs
 
 returns-4 : tie.Need-returns-4
 returns-4 c =
@@ -141,17 +93,11 @@ returns-4 c =
     c .before .before .add-row .ensures
     ∙ delta-taken (a .k) (a .g) (a .scale) (a .r) (a .body .now) (a .row .now) (a .d) (a .t) (m .match .keys4) (s .pre .4)
 
-same-length-5 : tie.Need-same-length-5
-same-length-5 c = search needs
-
 returns-5 : tie.Need-returns-5
 returns-5 c =
     let u = c .before .before .before .before .before in
     let a = u .before .before .before .before .args in
     c .before .before .delta-columns .ensures ∙ taken (a .k) (a .g) (a .scale) (a .r) (a .body .now) (a .row .now) (u .t4 .given .1)
-
-same-length-6 : tie.Need-same-length-6
-same-length-6 c = search needs
 
 returns-6 : tie.Need-returns-6
 returns-6 c =
@@ -160,9 +106,6 @@ returns-6 c =
     let a = s .args in
     c .before .before .scale-row .ensures
     ∙ scale-taken (a .k) (a .g) (a .scale) (a .r) (a .body .now) (a .row .now) (a .d) (a .t) (m .match .keys6) (s .pre .4)
-
-same-length-7 : tie.Need-same-length-7
-same-length-7 c = search needs
 
 returns-7 : tie.Need-returns-7
 returns-7 c =
@@ -174,31 +117,8 @@ pub one-plane-spec : {M : Type 1} → statement M
 one-plane-spec =
     tie.close
     (tie.spec
-    enum-known-t
-    table-plane-requires
-    enum-known-t-2
-    polynomial-row-requires
-    enum-known-t-3
-    gain-plane-requires
-    enum-told
-    add-row-requires
-    enum-known-t-4
-    delta-columns-requires
-    enum-told-2
-    scale-row-requires
-    enum-known-t-5
-    scale-columns-requires
-    same-length
-    returns
-    same-length-2
-    returns-2
-    same-length-3
-    returns-3
-    same-length-4
-    returns-4
-    same-length-5
-    returns-5
-    same-length-6
-    returns-6
-    same-length-7
-    returns-7)
+    (λ c. search needs) (λ c κs. search needs) (λ c. search needs) polynomial-row-requires (λ c. search needs)
+    gain-plane-requires (λ c. search needs) (λ c κs. search needs) (λ c. search needs) (λ c κs. search needs)
+    (λ c. search needs) (λ c κs. search needs) (λ c. search needs) (λ c κs. search needs) (λ c. search needs) returns
+    (λ c. search needs) returns-2 (λ c. search needs) returns-3 (λ c. search needs) returns-4 (λ c. search needs)
+    returns-5 (λ c. search needs) returns-6 (λ c. search needs) returns-7)

@@ -20,25 +20,10 @@ Inv-loop row₀ g r t start body scale end v d p₀ row p =
 abbrev μ-loop : tie.MeasureT-loop
 μ-loop row₀ g r t start body scale end v d p₀ row p = end - p
 
-planes-end-requires : tie.Need-planes-end-requires Inv-loop μ-loop
-planes-end-requires c κs = search needs
-
-axis-of-requires : tie.Need-axis-of-requires Inv-loop μ-loop
-axis-of-requires c κs = search needs
-
-value-of-requires : tie.Need-value-of-requires Inv-loop μ-loop
-value-of-requires c κs = search needs
-
-cast-p : tie.Need-cast-p Inv-loop μ-loop
-cast-p c = search needs
-
 loop-holds : tie.Need-loop-holds Inv-loop μ-loop
 loop-holds c =
     let a = c .before .before .before .before .before .before .args in
     (planes-begin (a .g) (a .r) _ (a .row .now), omega arith, omega arith, refl)
-
-walk-at-requires : tie.Need-walk-at-requires Inv-loop μ-loop
-walk-at-requires c κs = search needs
 
 one-plane-requires : tie.Need-one-plane-requires Inv-loop μ-loop
 one-plane-requires c κs =
@@ -93,17 +78,5 @@ pub region-planes-spec : {M : Type 1} → statement M
 region-planes-spec =
     tie.close
     (tie.spec
-    Inv-loop
-    μ-loop
-    planes-end-requires
-    axis-of-requires
-    value-of-requires
-    cast-p
-    loop-holds
-    walk-at-requires
-    one-plane-requires
-    add-p
-    loop-less
-    loop-again
-    same-length
-    returns)
+    Inv-loop μ-loop (λ c κs. search needs) (λ c κs. search needs) (λ c κs. search needs) (λ c. search needs) loop-holds
+    (λ c κs. search needs) one-plane-requires add-p loop-less loop-again same-length returns)

@@ -21,19 +21,10 @@ Inv-loop row₀ g r n start body end p₀ row p =
 abbrev μ-loop : tie.MeasureT-loop
 μ-loop row₀ g r n start body end p₀ row p = end - p
 
-planes-end-requires : tie.Need-planes-end-requires Inv-loop μ-loop
-planes-end-requires c κs = search needs
-
-cast-p : tie.Need-cast-p Inv-loop μ-loop
-cast-p c = search needs
-
 loop-holds : tie.Need-loop-holds Inv-loop μ-loop
 loop-holds c =
     let a = c .before .before .before .before .args in
     (planes-begin (a .g) (a .r) _ (a .row .now), omega arith, omega arith, refl)
-
-walk-at-requires : tie.Need-walk-at-requires Inv-loop μ-loop
-walk-at-requires c κs = search needs
 
 table-plane16-requires : tie.Need-table-plane16-requires Inv-loop μ-loop
 table-plane16-requires c κs =
@@ -81,15 +72,5 @@ pub region-planes16-spec : {M : Type 1} → statement M
 region-planes16-spec =
     tie.close
     (tie.spec
-    Inv-loop
-    μ-loop
-    planes-end-requires
-    cast-p
-    loop-holds
-    walk-at-requires
-    table-plane16-requires
-    add-p
-    loop-less
-    loop-again
-    same-length
-    returns)
+    Inv-loop μ-loop (λ c κs. search needs) (λ c. search needs) loop-holds (λ c κs. search needs) table-plane16-requires
+    add-p loop-less loop-again same-length returns)

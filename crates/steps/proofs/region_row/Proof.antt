@@ -7,15 +7,6 @@ use Rattle.steps.proofs.Planes.{row-in, row-untouched}
 use Rattle.steps.proofs.region_row.Statement.{statement}
 use Rattle.steps.proofs.region_row.Tie as tie
 
-touched-requires : tie.Need-touched-requires
-touched-requires c κs = search needs
-
-region-planes-requires : tie.Need-region-planes-requires
-region-planes-requires c κs = search needs
-
-same-length : tie.Need-same-length
-same-length c = search needs
-
 returns : tie.Need-returns
 returns c =
     let i = c .before .before .before .before in
@@ -34,8 +25,4 @@ pub region-row-spec : {M : Type 1} → statement M
 region-row-spec =
     tie.close
     (tie.spec
-    touched-requires
-    region-planes-requires
-    same-length
-    returns
-    returns-2)
+    (λ c κs. search needs) (λ c κs. search needs) (λ c. search needs) returns returns-2)

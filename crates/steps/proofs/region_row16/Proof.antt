@@ -8,15 +8,6 @@ use Rattle.steps.proofs.Planes.{row-in, row-untouched}
 use Rattle.steps.proofs.region_row16.Statement.{statement}
 use Rattle.steps.proofs.region_row16.Tie as tie
 
-touched-requires : tie.Need-touched-requires
-touched-requires c κs = search needs
-
-region-planes16-requires : tie.Need-region-planes16-requires
-region-planes16-requires c κs = search needs
-
-same-length : tie.Need-same-length
-same-length c = search needs
-
 returns : tie.Need-returns
 returns c =
     let i = c .before .before .before .before in
@@ -35,8 +26,4 @@ pub region-row16-spec : {M : Type 1} → statement M
 region-row16-spec =
     tie.close
     (tie.spec
-    touched-requires
-    region-planes16-requires
-    same-length
-    returns
-    returns-2)
+    (λ c κs. search needs) (λ c κs. search needs) (λ c. search needs) returns returns-2)

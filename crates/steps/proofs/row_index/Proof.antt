@@ -13,18 +13,6 @@ undivided n pitch h = sym (ap (λ (p : ℕ). n / p) (let e : max pitch 1 ≡ 1 =
 divided : (pitch : ℕ) → 1 < pitch → pitch ≡ max pitch 1
 divided pitch h = omega arith
 
-cast-less : tie.Need-cast-less
-cast-less c = search needs
-
-less-requires : tie.Need-less-requires
-less-requires c κs = search needs
-
-cast-result : tie.Need-cast-result
-cast-result c = search needs
-
-div-result : tie.Need-div-result
-div-result c = omega arith
-
 returns : tie.Need-returns
 returns c = c .before .before .less .ensures ∙ undivided _ _ (c .if1 .taken)
 
@@ -34,4 +22,5 @@ returns-2 c =
 
 pub row-index-spec : {M : Type 1} → statement M
 row-index-spec =
-    tie.close (tie.spec cast-less less-requires cast-result div-result returns returns-2)
+    tie.close (tie.spec
+    (λ c. search needs) (λ c κs. search needs) (λ c. search needs) (λ c. omega arith) returns returns-2)

@@ -7,12 +7,6 @@ use Rattle.dng.specs.Value.{one, nth, scaled}
 use Rattle.steps.proofs.scale_columns.Statement.{statement}
 use Rattle.steps.proofs.scale_columns.Tie as tie
 
-scale-columns-requires : tie.Need-scale-columns-requires
-scale-columns-requires c κs = search needs
-
-same-length : tie.Need-same-length
-same-length c = search needs
-
 returns : tie.Need-returns
 returns c =
     let s = c .before .before .before .before .before .before in
@@ -22,4 +16,5 @@ returns c =
     (s .pre .1 .left-is) (s .pre .1 .pitch-is)
 
 pub scale-columns-spec : {M : Type 1} → statement M
-scale-columns-spec = tie.close (tie.spec scale-columns-requires same-length returns)
+scale-columns-spec = tie.close (tie.spec
+    (λ c κs. search needs) (λ c. search needs) returns)

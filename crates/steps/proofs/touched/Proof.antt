@@ -20,24 +20,12 @@ no : (g : Place) (r : Region) (n : ℕ) → Untouched g r n
     → (false ≡ true → selects (r .top) (r .bottom) (r .«row_pitch») (g .y) ≡ true) × (false ≡ false → Untouched g r n)
 no g r n u = (λ e. cc, λ e. u)
 
-planes-end-requires : tie.Need-planes-end-requires
-planes-end-requires c κs = search needs
-
-cast-if1 : tie.Need-cast-if1
-cast-if1 c = search needs
-
 returns : tie.Need-returns
 returns c =
     let e = c .before .before in
     let s = e .before in
     no (s .args .g) (s .args .r) (s .args .len)
     (none-by-planes (s .args .g) (s .args .r) (s .args .len) (s .pre .0 .some) (omega (arith, c .if1 .taken, e .planes-end .ensures)))
-
-cast-if2 : tie.Need-cast-if2
-cast-if2 c = search needs
-
-cast-if2-2 : tie.Need-cast-if2-2
-cast-if2-2 c = search needs
 
 add-if2 : tie.Need-add-if2
 add-if2 c =
@@ -51,17 +39,11 @@ returns-2 c =
     no (s .args .g) (s .args .r) (s .args .len)
     (none-by-columns (s .args .g) (s .args .r) (s .pre .1) (s .args .len) (c .if2 .taken))
 
-cast-if3 : tie.Need-cast-if3
-cast-if3 c = search needs
-
 mul-if3 : tie.Need-mul-if3
 mul-if3 c =
     let k = c .before .before .before .before .before in
     let s = k .before .before .before .before in
     omega (arith, first-bound _ _ _ _ _ (s .pre .1), mul-le-mul-left (s .args .start .col) (s .pre .0 .few), k .struct-known2 .given)
-
-cast-if3-2 : tie.Need-cast-if3-2
-cast-if3-2 c = search needs
 
 add-if3 : tie.Need-add-if3
 add-if3 c =
@@ -75,12 +57,6 @@ returns-3 c =
     no (s .args .g) (s .args .r) (s .args .len)
     (none-by-length (s .args .g) (s .args .r) (s .pre .1) (s .args .len) (s .pre .0 .some) (c .if3 .taken))
 
-cast-row-selected : tie.Need-cast-row-selected
-cast-row-selected c = search needs
-
-row-selected-requires : tie.Need-row-selected-requires
-row-selected-requires c κs = search needs
-
 returns-4 : tie.Need-returns-4
 returns-4 c =
     let s = c .before .before .before .before .before .before .before .before .before .before .before .before .before in
@@ -91,18 +67,6 @@ pub touched-spec : {M : Type 1} → statement M
 touched-spec =
     tie.close
     (tie.spec
-    planes-end-requires
-    cast-if1
-    returns
-    cast-if2
-    cast-if2-2
-    add-if2
-    returns-2
-    cast-if3
-    mul-if3
-    cast-if3-2
-    add-if3
-    returns-3
-    cast-row-selected
-    row-selected-requires
+    (λ c κs. search needs) (λ c. search needs) returns (λ c. search needs) (λ c. search needs) add-if2 returns-2
+    (λ c. search needs) mul-if3 (λ c. search needs) add-if3 returns-3 (λ c. search needs) (λ c κs. search needs)
     returns-4)

@@ -29,24 +29,6 @@ any-value (DeltaColumns n) h r y b scale d = tt
 any-value (ScaleRows n) h r y b scale d = absurd (miss others 5 tt h)
 any-value (ScaleColumns n) h r y b scale d = tt
 
-enum-known-t : tie.Need-enum-known-t
-enum-known-t c = search needs
-
-row-index-requires : tie.Need-row-index-requires
-row-index-requires c κs = search needs
-
-row-delta-requires : tie.Need-row-delta-requires
-row-delta-requires c κs = search needs
-
-enum-known-t-2 : tie.Need-enum-known-t-2
-enum-known-t-2 c = search needs
-
-row-index-requires-2 : tie.Need-row-index-requires-2
-row-index-requires-2 c κs = search needs
-
-row-scale-requires : tie.Need-row-scale-requires
-row-scale-requires c κs = search needs
-
 returns : tie.Need-returns
 returns c =
     let i = c .before in
@@ -73,12 +55,5 @@ pub value-of-spec : {M : Type 1} → statement M
 value-of-spec =
     tie.close
     (tie.spec
-    enum-known-t
-    row-index-requires
-    row-delta-requires
-    enum-known-t-2
-    row-index-requires-2
-    row-scale-requires
-    returns
-    returns-2
-    returns-3)
+    (λ c. search needs) (λ c κs. search needs) (λ c κs. search needs) (λ c. search needs) (λ c κs. search needs)
+    (λ c κs. search needs) returns returns-2 returns-3)

@@ -5,24 +5,6 @@ use Rattle.steps.specs.Planes.{walkBy}
 use Rattle.steps.proofs.walk_at.Statement.{statement}
 use Rattle.steps.proofs.walk_at.Tie as tie
 
-cast-t5 : tie.Need-cast-t5
-cast-t5 c = search needs
-
-cast-t6 : tie.Need-cast-t6
-cast-t6 c = search needs
-
-cast-t7 : tie.Need-cast-t7
-cast-t7 c = search needs
-
-cast-t8 : tie.Need-cast-t8
-cast-t8 c = search needs
-
-cast-larger : tie.Need-cast-larger
-cast-larger c = search needs
-
-larger-requires : tie.Need-larger-requires
-larger-requires c κs = search needs
-
 returns : tie.Need-returns
 returns c =
     let a = c .before .before .before .before .before .before .args in
@@ -35,4 +17,6 @@ returns c =
 
 pub walk-at-spec : {M : Type 1} → statement M
 walk-at-spec =
-    tie.close (tie.spec cast-t5 cast-t6 cast-t7 cast-t8 cast-larger larger-requires returns)
+    tie.close (tie.spec
+    (λ c. search needs) (λ c. search needs) (λ c. search needs) (λ c. search needs) (λ c. search needs)
+    (λ c κs. search needs) returns)

@@ -8,8 +8,6 @@ use Rattle.turns.proofs.row_stride.Tie as tie
 mul-result : tie.Need-mul-result
 mul-result c = omega (arith, step-fits (c .before .args .w) (c .before .pre))
 
-returns : tie.Need-returns
-returns c = search needs
-
 pub row-stride-spec : {M : Type 1} → statement M
-row-stride-spec = tie.close (tie.spec mul-result returns)
+row-stride-spec = tie.close (tie.spec
+    mul-result (λ c. search needs))

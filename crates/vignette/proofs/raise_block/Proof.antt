@@ -9,37 +9,15 @@ raise-ones-requires c κs = rw (c .before .if1 .taken) at (c .before .before .be
 raise-triples-requires : tie.Need-raise-triples-requires
 raise-triples-requires c κs = rw (c .before .if2 .taken) at (c .before .before .before .before .before .pre)
 
-raise-several-requires : tie.Need-raise-several-requires
-raise-several-requires c κs = search needs
-
-same-length : tie.Need-same-length
-same-length c = search needs
-
 returns : tie.Need-returns
 returns c = rw (c .before .before .before .before .if1 .taken) (c .before .before .raise-ones .ensures)
 
-same-length-2 : tie.Need-same-length-2
-same-length-2 c = search needs
-
 returns-2 : tie.Need-returns-2
 returns-2 c = rw (c .before .before .before .before .if2 .taken) (c .before .before .raise-triples .ensures)
-
-same-length-3 : tie.Need-same-length-3
-same-length-3 c = search needs
-
-returns-3 : tie.Need-returns-3
-returns-3 c = search needs
 
 pub raise-block-spec : {M : Type 1} → statement M
 raise-block-spec =
     tie.close
     (tie.spec
-    raise-ones-requires
-    raise-triples-requires
-    raise-several-requires
-    same-length
-    returns
-    same-length-2
-    returns-2
-    same-length-3
-    returns-3)
+    raise-ones-requires raise-triples-requires (λ c κs. search needs) (λ c. search needs) returns (λ c. search needs)
+    returns-2 (λ c. search needs) (λ c. search needs))

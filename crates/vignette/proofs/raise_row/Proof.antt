@@ -57,9 +57,6 @@ loop-holds c = (row-begin, refl)
 sub-block-of : tie.Need-sub-block-of Inv-loop μ-loop
 sub-block-of c = c .before .loop .inv .0 .whole
 
-block-of-requires : tie.Need-block-of-requires Inv-loop μ-loop
-block-of-requires c κs = search needs
-
 array-borrow-prefix-gains : tie.Need-array-borrow-prefix-gains Inv-loop μ-loop
 array-borrow-prefix-gains c = omega (arith, c .block-of .ensures, c .before .before .loop .inv .1)
 
@@ -136,23 +133,7 @@ pub raise-row-spec : {M : Type 1} → statement M
 raise-row-spec =
     tie.close
     (tie.spec
-    Inv-loop
-    μ-loop
-    div-pixels
-    loop-holds
-    sub-block-of
-    block-of-requires
-    array-borrow-prefix-gains
-    slice-aggregate-wide-gains
-    cast-wide-gains
-    add-wide-gains
-    wide-gains-requires
-    mul-raise-block
-    array-share-prefix-gains
-    slice-aggregate-raise-block
-    raise-block-requires
-    add-done
-    loop-less
-    loop-again
-    same-length
+    Inv-loop μ-loop div-pixels loop-holds sub-block-of (λ c κs. search needs) array-borrow-prefix-gains
+    slice-aggregate-wide-gains cast-wide-gains add-wide-gains wide-gains-requires mul-raise-block
+    array-share-prefix-gains slice-aggregate-raise-block raise-block-requires add-done loop-less loop-again same-length
     returns)

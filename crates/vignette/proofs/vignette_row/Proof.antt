@@ -12,21 +12,6 @@ returns c =
     let v = c .before .before .args in
     λ scale. sym (row-below (frameAt scale (v .full-width) (v .full-height)) (v .q) (v .x0) (v .planes) (v .y) (v .row .now) (omega arith))
 
-f64-of-u32-requires : tie.Need-f64-of-u32-requires
-f64-of-u32-requires c κs = search needs
-
-f64-of-u32-requires-2 : tie.Need-f64-of-u32-requires-2
-f64-of-u32-requires-2 c κs = search needs
-
-f64-of-u32-requires-3 : tie.Need-f64-of-u32-requires-3
-f64-of-u32-requires-3 c κs = search needs
-
-raise-row-requires : tie.Need-raise-row-requires
-raise-row-requires c κs = search needs
-
-same-length : tie.Need-same-length
-same-length c = search needs
-
 returns-2 : tie.Need-returns-2
 returns-2 c =
     let at = c .before .before .before .before .before in
@@ -43,10 +28,5 @@ pub vignette-row-spec : {M : Type 1} → statement M
 vignette-row-spec =
     tie.close
     (tie.spec
-    returns
-    f64-of-u32-requires
-    f64-of-u32-requires-2
-    f64-of-u32-requires-3
-    raise-row-requires
-    same-length
-    returns-2)
+    returns (λ c κs. search needs) (λ c κs. search needs) (λ c κs. search needs) (λ c κs. search needs)
+    (λ c. search needs) returns-2)

@@ -57,9 +57,6 @@ float-to-bits-bits c =
     subst (λ (z : Float). T (not (isNan (add binary64 z half-up)))) (sym (kept-as j))
     (sum-of-kept-no-nan (s .args .last) (s .args .top) (s .args .x) (s .pre .0) (s .pre .1) (fit-top s) (fit s))
 
-cast-result : tie.Need-cast-result
-cast-result c = search needs
-
 returns : tie.Need-returns
 unfolding ofBits
 returns c =
@@ -69,4 +66,5 @@ returns c =
     ∙ kept-is (s .args .last) (s .args .top) (s .args .x) (s .pre .0) (s .pre .1) (fit-top s) (fit s)
 
 pub round-below-spec : {M : Type 1} → statement M
-round-below-spec = tie.close (tie.spec float-to-float-bits float-to-bits-bits cast-result returns)
+round-below-spec = tie.close (tie.spec
+    float-to-float-bits float-to-bits-bits (λ c. search needs) returns)

@@ -14,11 +14,6 @@ round-large-requires : tie.Need-round-large-requires
 unfolding ofBits
 round-large-requires c κs = c .if1 .left
 
-returns : tie.Need-returns
-returns c = search needs
-
-returns-2 : tie.Need-returns-2
-returns-2 c = search needs
-
 pub round-held-spec : {M : Type 1} → statement M
-round-held-spec = tie.close (tie.spec round-small-requires round-large-requires returns returns-2)
+round-held-spec = tie.close (tie.spec
+    round-small-requires round-large-requires (λ c. search needs) (λ c. search needs))

@@ -55,9 +55,6 @@ min-is c =
     ap (λ (z : Float). min (toBits binary64 (add binary64 z half-up) / 67108864 % 67108864) (s .args .last)) (from-zero-is (c .before))
     ∙ small-is (s .args .x) (held s) (s .pre) (s .args .last)
 
-cast-n : tie.Need-cast-n
-cast-n c = search needs
-
 returns : tie.Need-returns
 returns c = sym (min-eq-left (le-of-lt (c .if2 .taken))) ∙ min-is (c .before)
 
@@ -65,4 +62,5 @@ returns-2 : tie.Need-returns-2
 returns-2 c = sym (min-eq-right (c .if2 .left)) ∙ min-is (c .before)
 
 pub round-small-spec : {M : Type 1} → statement M
-round-small-spec = tie.close (tie.spec float-to-float-bits float-to-bits-bits cast-n returns returns-2)
+round-small-spec = tie.close (tie.spec
+    float-to-float-bits float-to-bits-bits (λ c. search needs) returns returns-2)

@@ -5,14 +5,9 @@ use Rattle.whole.proofs.Laws.{round-le}
 use Rattle.whole.proofs.round_u16.Statement.{statement}
 use Rattle.whole.proofs.round_u16.Tie as tie
 
-round-held-requires : tie.Need-round-held-requires
-round-held-requires c κs = search needs
-
 cast-result : tie.Need-cast-result
 cast-result c = record { fits = omega (arith, c .round-held .ensures, round-le 65535 (c .before .args .x)) }
 
-returns : tie.Need-returns
-returns c = search needs
-
 pub round-u16-spec : {M : Type 1} → statement M
-round-u16-spec = tie.close (tie.spec round-held-requires cast-result returns)
+round-u16-spec = tie.close (tie.spec
+    (λ c κs. search needs) cast-result (λ c. search needs))

@@ -21,12 +21,6 @@ abbrev μ-loop : tie.MeasureT-loop
 abbrev Args : tie.At-loop Inv-loop μ-loop → tie.Start Inv-loop μ-loop
 Args h = h .before .before .before .before .before
 
-row-width-requires : tie.Need-row-width-requires Inv-loop μ-loop
-row-width-requires c κs = search needs
-
-row-stride-requires : tie.Need-row-stride-requires Inv-loop μ-loop
-row-stride-requires c κs = search needs
-
 loop-holds : tie.Need-loop-holds Inv-loop μ-loop
 loop-holds c = rows-start _ _ _
 
@@ -48,9 +42,6 @@ add-smaller c =
       wide-fits (s .args .w) (s .pre .0),
       start-fits (s .args .w) _ _ (s .pre .0) (h .loop .inv .here) (h .loop .inv .near),
     )
-
-smaller-requires : tie.Need-smaller-requires Inv-loop μ-loop
-smaller-requires c κs = search needs
 
 mul-row-step : tie.Need-mul-row-step Inv-loop μ-loop
 mul-row-step c =
@@ -125,24 +116,6 @@ pub rows-spec : {M : Type 1} → statement M
 rows-spec =
     tie.close
     (tie.spec
-    Inv-loop
-    μ-loop
-    row-width-requires
-    row-stride-requires
-    loop-holds
-    same-length
-    returns
-    add-smaller
-    smaller-requires
-    mul-row-step
-    sub-row-step
-    part-row-step-start
-    part-row-step-end
-    place-at-requires
-    row-step-requires
-    add-at
-    add-y
-    loop-less
-    loop-again
-    same-length-2
-    returns-2)
+    Inv-loop μ-loop (λ c κs. search needs) (λ c κs. search needs) loop-holds same-length returns add-smaller
+    (λ c κs. search needs) mul-row-step sub-row-step part-row-step-start part-row-step-end place-at-requires
+    row-step-requires add-at add-y loop-less loop-again same-length-2 returns-2)

@@ -20,12 +20,6 @@ abbrev μ-loop : tie.MeasureT-loop
 abbrev Args : tie.At-loop Inv-loop μ-loop → tie.Start Inv-loop μ-loop
 Args h = h .before .before .before .before .before
 
-row-width-requires : tie.Need-row-width-requires Inv-loop μ-loop
-row-width-requires c κs = search needs
-
-row-stride-requires : tie.Need-row-stride-requires Inv-loop μ-loop
-row-stride-requires c κs = search needs
-
 loop-holds : tie.Need-loop-holds Inv-loop μ-loop
 loop-holds c = rows-start _ _ _
 
@@ -47,9 +41,6 @@ add-smaller c =
       wide-fits (s .args .w) (s .pre .0),
       start-fits (s .args .w) _ _ (s .pre .0) (h .loop .inv .here) (h .loop .inv .near),
     )
-
-smaller-requires : tie.Need-smaller-requires Inv-loop μ-loop
-smaller-requires c κs = search needs
 
 mul-row-step16 : tie.Need-mul-row-step16 Inv-loop μ-loop
 mul-row-step16 c =
@@ -123,24 +114,6 @@ pub rows16-spec : {M : Type 1} → statement M
 rows16-spec =
     tie.close
     (tie.spec
-    Inv-loop
-    μ-loop
-    row-width-requires
-    row-stride-requires
-    loop-holds
-    same-length
-    returns
-    add-smaller
-    smaller-requires
-    mul-row-step16
-    sub-row-step16
-    part-row-step16-start
-    part-row-step16-end
-    place-at-requires
-    row-step16-requires
-    add-at
-    add-y
-    loop-less
-    loop-again
-    same-length-2
-    returns-2)
+    Inv-loop μ-loop (λ c κs. search needs) (λ c κs. search needs) loop-holds same-length returns add-smaller
+    (λ c κs. search needs) mul-row-step16 sub-row-step16 part-row-step16-start part-row-step16-end place-at-requires
+    row-step16-requires add-at add-y loop-less loop-again same-length-2 returns-2)

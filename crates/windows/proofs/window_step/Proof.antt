@@ -10,14 +10,6 @@ returns c = unordered-width _ _ _ (c .if1 .taken)
 returns-2 : tie.Need-returns-2
 returns-2 c = unordered-stride _ _ _ (c .if2 .taken)
 
-by-kind-requires : tie.Need-by-kind-requires
-by-kind-requires c κs = search needs
-
-same-length : tie.Need-same-length
-same-length c = search needs
-
-returns-3 : tie.Need-returns-3
-returns-3 c = search needs
-
 pub window-step-spec : {M : Type 1} → statement M
-window-step-spec = tie.close (tie.spec returns returns-2 by-kind-requires same-length returns-3)
+window-step-spec = tie.close (tie.spec
+    returns returns-2 (λ c κs. search needs) (λ c. search needs) (λ c. search needs))

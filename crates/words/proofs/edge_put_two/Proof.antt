@@ -5,24 +5,6 @@ use Rattle.words.proofs.Laws.{put-one, put-next, put-past}
 use Rattle.words.proofs.edge_put_two.Statement.{statement}
 use Rattle.words.proofs.edge_put_two.Tie as tie
 
-cast-put-byte : tie.Need-cast-put-byte
-cast-put-byte c = search needs
-
-put-byte-requires : tie.Need-put-byte-requires
-put-byte-requires c κs = search needs
-
-add-put-byte : tie.Need-add-put-byte
-add-put-byte c = search needs
-
-cast-put-byte-2 : tie.Need-cast-put-byte-2
-cast-put-byte-2 c = search needs
-
-put-byte-requires-2 : tie.Need-put-byte-requires-2
-put-byte-requires-2 c κs = search needs
-
-same-length : tie.Need-same-length
-same-length c = search needs
-
 returns : tie.Need-returns
 returns c =
     let c₂ = c .before .before in
@@ -36,11 +18,5 @@ pub edge-put-two-spec : {M : Type 1} → statement M
 edge-put-two-spec =
     tie.close
     (tie.spec
-    cast-put-byte
-    put-byte-requires
-    add-put-byte
-    cast-put-byte-2
-    put-byte-requires-2
-    same-length
-    returns
-    returns-2)
+    (λ c. search needs) (λ c κs. search needs) (λ c. search needs) (λ c. search needs) (λ c κs. search needs)
+    (λ c. search needs) returns returns-2)

@@ -4,27 +4,6 @@ use Rattle.words.proofs.Laws.{join}
 use Rattle.words.proofs.eight.Statement.{statement}
 use Rattle.words.proofs.eight.Tie as tie
 
-four-requires : tie.Need-four-requires
-four-requires c κs = search needs
-
-cast-result : tie.Need-cast-result
-cast-result c = search needs
-
-mul-result : tie.Need-mul-result
-mul-result c = search needs
-
-add-four : tie.Need-add-four
-add-four c = search needs
-
-four-requires-2 : tie.Need-four-requires-2
-four-requires-2 c κs = search needs
-
-cast-result-2 : tie.Need-cast-result-2
-cast-result-2 c = search needs
-
-add-result : tie.Need-add-result
-add-result c = search needs
-
 returns : tie.Need-returns
 returns c = join 4 4 _ _ (c .before .four .ensures) (c .four2 .ensures)
 
@@ -32,11 +11,5 @@ pub eight-spec : {M : Type 1} → statement M
 eight-spec =
     tie.close
     (tie.spec
-    four-requires
-    cast-result
-    mul-result
-    add-four
-    four-requires-2
-    cast-result-2
-    add-result
-    returns)
+    (λ c κs. search needs) (λ c. search needs) (λ c. search needs) (λ c. search needs) (λ c κs. search needs)
+    (λ c. search needs) (λ c. search needs) returns)

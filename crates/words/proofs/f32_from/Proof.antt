@@ -5,14 +5,9 @@ use borrow.Author.Needs.{needs}
 use Rattle.words.proofs.f32_from.Statement.{statement}
 use Rattle.words.proofs.f32_from.Tie as tie
 
-u32-from-requires : tie.Need-u32-from-requires
-u32-from-requires c κs = search needs
-
-f32-of-requires : tie.Need-f32-of-requires
-f32-of-requires c κs = search needs
-
 returns : tie.Need-returns
 returns c = c .f32-of .ensures ∙ ap (ofBits binary32) (c .before .u32-from .ensures)
 
 pub f32-from-spec : {M : Type 1} → statement M
-f32-from-spec = tie.close (tie.spec u32-from-requires f32-of-requires returns)
+f32-from-spec = tie.close (tie.spec
+    (λ c κs. search needs) (λ c κs. search needs) returns)

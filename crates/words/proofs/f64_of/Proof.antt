@@ -5,18 +5,13 @@ use Rattle.words.proofs.Laws.{is-nan, no-nan}
 use Rattle.words.proofs.f64_of.Statement.{statement}
 use Rattle.words.proofs.f64_of.Tie as tie
 
-wrapping-add-u64-requires : tie.Need-wrapping-add-u64-requires
-wrapping-add-u64-requires c κs = search needs
-
 float-from-bits-result : tie.Need-float-from-bits-result
 float-from-bits-result c = no-nan binary64 _ (c .before .wrapping-add-u64 .ensures) (search needs)
 
 returns : tie.Need-returns
 returns c = is-nan binary64 _ (c .before .wrapping-add-u64 .ensures) (search needs)
 
-returns-2 : tie.Need-returns-2
-returns-2 c = search needs
-
 pub f64-of-spec : {M : Type 1} → statement M
 f64-of-spec =
-    tie.close (tie.spec wrapping-add-u64-requires float-from-bits-result returns returns-2)
+    tie.close (tie.spec
+    (λ c κs. search needs) float-from-bits-result returns (λ c. search needs))

@@ -5,17 +5,9 @@ use Rattle.words.specs.Words.{put}
 use Rattle.words.proofs.put_f32.Statement.{statement}
 use Rattle.words.proofs.put_f32.Tie as tie
 
-bits-of-requires : tie.Need-bits-of-requires
-bits-of-requires c κs = search needs
-
-put-u32-requires : tie.Need-put-u32-requires
-put-u32-requires c κs = search needs
-
-same-length : tie.Need-same-length
-same-length c = search needs
-
 returns : tie.Need-returns
 returns c = c .before .before .put-u32 .ensures ∙ ap (put 4 _ _) (c .before .before .before .bits-of .ensures)
 
 pub put-f32-spec : {M : Type 1} → statement M
-put-f32-spec = tie.close (tie.spec bits-of-requires put-u32-requires same-length returns)
+put-f32-spec = tie.close (tie.spec
+    (λ c κs. search needs) (λ c κs. search needs) (λ c. search needs) returns)

@@ -4,25 +4,12 @@ use Rattle.words.proofs.Laws.{little-first}
 use Rattle.words.proofs.u16_from.Statement.{statement}
 use Rattle.words.proofs.u16_from.Tie as tie
 
-less-requires : tie.Need-less-requires
-less-requires c κs = search needs
-
-two-low-requires : tie.Need-two-low-requires
-two-low-requires c κs = search needs
-
-edge-low-requires : tie.Need-edge-low-requires
-edge-low-requires c κs = search needs
-
-cast-result : tie.Need-cast-result
-cast-result c = search needs
-
-returns : tie.Need-returns
-returns c = search needs
-
 returns-2 : tie.Need-returns-2
 returns-2 c = little-first _ (λ i. c .before .before .before .shared-slice-known .given i .fits) 2 2 _ (c .edge-low .ensures)
 
 pub u16-from-spec : {M : Type 1} → statement M
 u16-from-spec =
     tie.close
-    (tie.spec less-requires two-low-requires edge-low-requires cast-result returns returns-2)
+    (tie.spec
+    (λ c κs. search needs) (λ c κs. search needs) (λ c κs. search needs) (λ c. search needs) (λ c. search needs)
+    returns-2)
