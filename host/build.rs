@@ -1,4 +1,4 @@
-// Links the archive that `rt staticlib exports` writes. ROLBHUNGA_LIB names the folder that holds libexports.a, where it is not the
+// Links the archive that `rt staticlib rolbhunga` writes. ROLBHUNGA_LIB names the folder that holds librolbhunga.a, where it is not the
 // repository's own target/staticlib.
 use std::env;
 use std::path::Path;
@@ -9,7 +9,7 @@ fn main() {
         Path::new(&own).join("../target/staticlib").display().to_string()
     });
     println!("cargo:rerun-if-env-changed=ROLBHUNGA_LIB");
-    println!("cargo:rerun-if-changed={dir}/libexports.a");
+    println!("cargo:rerun-if-changed={dir}/librolbhunga.a");
     println!("cargo:rustc-link-search=native={dir}");
-    println!("cargo:rustc-link-lib=static=exports");
+    println!("cargo:rustc-link-lib=static=rolbhunga");
 }

@@ -1,6 +1,6 @@
-// Prints what crates/leaves must print: the same sweeps, by Rust's own casts and functions.
+// Prints what crates/try_leaves must print: the same sweeps, by Rust's own casts and functions.
 //
-//     rustc -O compare/leaves/leaves.rs -o leaves && ./leaves > crates/leaves/stdout
+//     rustc -O compare/leaves/leaves.rs -o leaves && ./leaves > crates/try_leaves/stdout
 fn bits_of(x: f32) -> u64 {
     if x.is_nan() { 0x7fc0_0000 } else { x.to_bits() as u64 }
 }

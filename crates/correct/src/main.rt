@@ -5,10 +5,10 @@ use dng::Answer;
 use dng::Settings;
 use dng::Window;
 use libc::STDOUT_FILENO;
-use mend::Mended;
-use pgm::Frame;
-use pgm::Word;
-use report::Form;
+use run_stored::Mended;
+use say_pgm::Frame;
+use say_pgm::Word;
+use say_report::Form;
 
 fn say(line: &[u8]) {
     io::write_all(STDOUT_FILENO, line);
@@ -57,7 +57,7 @@ fn is_arg(i: usize, word: &[u8]) -> bool {
 fn number_arg(i: usize) -> usize {
     let mut text = [0u8; 16];
     let n = os::arg(i, &mut text);
-    match pgm::read_number(&text[..n]) {
+    match say_pgm::read_number(&text[..n]) {
         Word::Number { value } => value,
         Word::Other => 65537,
     }
@@ -149,8 +149,8 @@ fn join(path: &[u8], end: &[u8], out: &mut [u8]) -> usize {
     if 16 < end.len() {
         return 0;
     }
-    let n = texts::put(&mut *out, 0, path);
-    texts::put(&mut *out, n, end)
+    let n = num_text::put(&mut *out, 0, path);
+    num_text::put(&mut *out, n, end)
 }
 
 // Writes what stands before a raster, and the raster.
@@ -200,7 +200,7 @@ fn write_front(i: usize, head: &[u8; 66], n: usize, raster: &[u8]) -> bool {
 
 fn write_pgm(i: usize, width: usize, height: usize, maxval: usize, raster: &[u8]) -> bool {
     let mut head = [0u8; 66];
-    let n = pgm::write_header(&mut head, width, height, maxval);
+    let n = say_pgm::write_header(&mut head, width, height, maxval);
     write_front(i, &head, n, raster)
 }
 
@@ -228,7 +228,7 @@ fn print_text(text: &[u8; 512], n: usize) {
 
 fn print_answer(a: Answer, form: Form, names: &[u8], held: usize) {
     let mut text = [0u8; 512];
-    let n = report::write(&mut text, a, form, names, held as u64);
+    let n = say_report::write(&mut text, a, form, names, held as u64);
     print_text(&text, n);
 }
 
@@ -260,9 +260,14 @@ fn finish(
     raster: &mut [u8],
 ) {
     if is_done(a) {
-        let over = pgm::encode(samples, maxval, &mut *raster);
+        let over = say_pgm::encode(samples, maxval, &mut *raster);
         if write_pgm(out, width, height, maxval, raster) {
-            print_answer(a, form, names, mend::held_above(maxval, wide_held, over));
+            print_answer(
+                a,
+                form,
+                names,
+                run_stored::held_above(maxval, wide_held, over),
+            );
         }
     } else {
         print_answer(a, form, names, 0);
@@ -283,10 +288,10 @@ fn mend_raster(
     marks: &mut [u32],
     values: &mut [f32],
 ) {
-    pgm::decode(raster, maxval, &mut *samples);
+    say_pgm::decode(raster, maxval, &mut *samples);
     let w = window_of(width, height);
     let mut names = [0u8; 4096];
-    match mend::mend(
+    match run_stored::mend(
         list,
         &mut *samples,
         wide,
@@ -342,7 +347,7 @@ fn mend_file(
     marks: &mut [u32],
     values: &mut [f32],
 ) {
-    match pgm::read_frame(front(file, n), samples.len()) {
+    match say_pgm::read_frame(front(file, n), samples.len()) {
         Frame::Whole {
             width,
             height,
@@ -398,13 +403,13 @@ fn run_raw(
     marks: &mut [u32],
     values: &mut [f32],
 ) {
-    pgm::decode_f32(raster, &mut *samples);
+    say_pgm::decode_f32(raster, &mut *samples);
     let mut names = [0u8; 4096];
     let w = window_of(width, height);
     let set = Settings { period, scale: 1.0 };
-    let a = runs::run_f32(list, &mut *samples, w, set, marks, values, &mut names);
+    let a = run_window::run_f32(list, &mut *samples, w, set, marks, values, &mut names);
     if is_done(a) {
-        pgm::encode_f32(samples, &mut *raster);
+        say_pgm::encode_f32(samples, &mut *raster);
         if write_frame(out, b"", raster) {
             print_answer(a, Form::Float, &names, 0);
         }
@@ -425,7 +430,7 @@ fn run_raw_file(
     marks: &mut [u32],
     values: &mut [f32],
 ) {
-    let count = pgm::area(width, height);
+    let count = say_pgm::area(width, height);
     if 524288 < count {
         say(b"FRAME: too many samples");
         return;

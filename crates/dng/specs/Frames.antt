@@ -6,11 +6,11 @@ use mathlib.Core.List.{List, [], _∷_, _++_, map}
 use lib.Ieee.{Float, binary32, fin, nan, inf, ofInt, ofBits, round, mul, div, add, eq, units, odd, size, span, climb}
 use lib.IntN.{pos, negsuc}
 use lib.ListN.{length, replicate}
-use Rattle.words.specs.Words.{big}
-use Rattle.points.specs.Points.{each}
-use Rattle.points.specs.Select.{selects, onColumns}
-use Rattle.whole.specs.Whole.{roundHeld}
-use Rattle.convert.specs.Convert.{wholeIn}
+use Rattle.num_words.specs.Words.{big}
+use Rattle.pointwise.specs.Points.{each}
+use Rattle.pointwise.specs.Select.{selects, onColumns}
+use Rattle.num_round.specs.Whole.{roundHeld}
+use Rattle.num_convert.specs.Convert.{wholeIn}
 use Rattle.dng.specs.declared.Region.{Region}
 use Rattle.dng.specs.declared.Window.{Window}
 use Rattle.dng.specs.declared.Opcode.the-variants.{WarpRectilinear, FixBadPixelsList}

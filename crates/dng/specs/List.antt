@@ -7,7 +7,7 @@ use lib.Dec.{leb, eqb}
 use lib.Ieee.{Float, binary64, ofBits, fin}
 use lib.IntN.{negsuc}
 use lib.ListN.{length, take, drop}
-use Rattle.words.specs.Words.{big}
+use Rattle.num_words.specs.Words.{big}
 use Rattle.dng.specs.declared.Region.{Region}
 use Rattle.dng.specs.declared.Grid.{Grid}
 use Rattle.dng.specs.declared.Radial.{Radial}

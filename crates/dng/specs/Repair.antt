@@ -7,7 +7,7 @@ use lib.Dec.{leb, ltb, eqb}
 use lib.IntN.{ℤ, pos, negsuc}
 use lib.Ieee.{Float, binary32, add, div}
 use lib.ListN.{length, getD}
-use Rattle.convert.specs.Convert.{wholeIn}
+use Rattle.num_convert.specs.Convert.{wholeIn}
 use Rattle.dng.specs.declared.Window.{Window}
 use Rattle.dng.specs.declared.Opcode.{Opcode}
 use Rattle.dng.specs.declared.Opcode.the-variants.{WarpRectilinear, WarpFisheye, FixVignetteRadial, FixBadPixelsConstant, FixBadPixelsList, TrimBounds, MapTable, MapPolynomial, GainMap, DeltaPerRow, DeltaPerColumn, ScalePerRow, ScalePerColumn, Other}

@@ -6,9 +6,9 @@ use mathlib.Core.List.{List, [], _∷_}
 use lib.Dec.{leb, ltb, eqb}
 use lib.Ieee.{Float, binary32, nan, div, eq}
 use lib.ListN.{length}
-use Rattle.points.specs.Points.{each}
-use Rattle.whole.specs.Whole.{roundHeld}
-use Rattle.convert.specs.Convert.{wholeIn}
+use Rattle.pointwise.specs.Points.{each}
+use Rattle.num_round.specs.Whole.{roundHeld}
+use Rattle.num_convert.specs.Convert.{wholeIn}
 use Rattle.dng.specs.declared.Window.{Window}
 use Rattle.dng.specs.declared.Opcode.{Opcode}
 use Rattle.dng.specs.declared.Opcode.the-variants.{WarpRectilinear, WarpFisheye, FixVignetteRadial, FixBadPixelsConstant, FixBadPixelsList, TrimBounds, MapTable, MapPolynomial, GainMap, DeltaPerRow, DeltaPerColumn, ScalePerRow, ScalePerColumn, Other}

@@ -6,10 +6,10 @@ use mathlib.Core.List.{List}
 use lib.Dec.{ltb, eqb}
 use lib.IntN.{pos}
 use lib.Ieee.{Float, inf, fin, binary32, binary64, ofBits, add, sub, mul, div, lt}
-use Rattle.words.specs.Words.{big}
-use Rattle.narrow.specs.Narrow.{narrow}
-use Rattle.whole.specs.Whole.{roundHeld, floorOf, restOf}
-use Rattle.convert.specs.Convert.{wholeIn, heldTo}
+use Rattle.num_words.specs.Words.{big}
+use Rattle.num_narrow.specs.Narrow.{narrow}
+use Rattle.num_round.specs.Whole.{roundHeld, floorOf, restOf}
+use Rattle.num_convert.specs.Convert.{wholeIn, heldTo}
 use Rattle.dng.specs.declared.Region.{Region}
 use Rattle.dng.specs.declared.Grid.{Grid}
 use Rattle.dng.specs.declared.Radial.{Radial}

@@ -8,11 +8,11 @@ use lib.Ieee.{Float, binary32, binary64, fin, nan, inf, ofInt, ofBits, ofFields,
 use lib.Count.{trailingZeros}
 use lib.IntN.{pos, negsuc}
 use lib.ListN.{length}
-use Rattle.words.specs.Words.{big}
-use Rattle.points.specs.Select.{selects, onColumns}
-use Rattle.narrow.specs.Narrow.{narrow}
-use Rattle.whole.specs.Whole.{roundHeld}
-use Rattle.convert.specs.Convert.{wholeIn, heldTo}
+use Rattle.num_words.specs.Words.{big}
+use Rattle.pointwise.specs.Select.{selects, onColumns}
+use Rattle.num_narrow.specs.Narrow.{narrow}
+use Rattle.num_round.specs.Whole.{roundHeld}
+use Rattle.num_convert.specs.Convert.{wholeIn, heldTo}
 use Rattle.dng.specs.declared.Region.{Region}
 use Rattle.dng.specs.declared.Window.{Window}
 use Rattle.dng.specs.declared.Opcode.{Opcode}

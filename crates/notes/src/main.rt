@@ -7,6 +7,6 @@ fn main() {
     let mut input = [0u8; 65536];
     let n = io::read_full(STDIN_FILENO, &mut input);
     let mut text = [0u8; 1024];
-    let end = noted::note(&input[..n], &mut text);
+    let end = say_note::note(&input[..n], &mut text);
     io::write_all(STDOUT_FILENO, &text[..end]);
 }

@@ -1,0 +1,61 @@
+-- Where a mark lies: its row and column in the window, and what is said of these is said of the mark. Assumes nothing.
+use Prim.Native.Nat.{ℕ, _/_, _%_, _^_, _≤_, _<_}
+use mathlib.Core.Path.{_≡_, subst, ap₂}
+use mathlib.Core.Bool.{Bool, true}
+use mathlib.Core.List.{List}
+use native.Mathlib.Nat.{mod-lt, div-lt-iff-lt-mul, mul-comm}
+use native.Mathlib.Omega.{arith}
+use lib.ListN.{getD, take}
+use lib.Seq.{getD-take, length-take-le}
+use Rattle.dng.specs.declared.Window.{Window}
+use Rattle.dng.specs.Repair.{positions}
+use Rattle.fix_scratch.specs.Marks.{Fits}
+use Rattle.fix_constant.specs.Parts.{Finds}
+use Rattle.fix_near.specs.declared.Near.{Near}
+use Rattle.fix_near.specs.Looks.{Asks, Lone, nearOf, Lists}
+use Rattle.num_sorted.specs.Sorts.{occ, has}
+use Rattle.num_sorted.proofs.Occ.{occ-at, some-has}
+use Rattle.fix_fills.specs.Fills.{Marking, Told, nearAt}
+
+module _ (w : Window) (f : Fits w) (q : ℕ) (h : q < positions w) where
+  pub column-in : q % w .width < w .width
+  column-in = mod-lt q (f .wide)
+
+  pub row-in : q / w .width < w .height
+  row-in = div-lt-iff-lt-mul (f .wide) .1 (subst (λ (n : ℕ). q < n) (mul-comm (w .width) (w .height)) h)
+
+module _ (marks : List ℕ) (n : ℕ) (w : Window) (step : ℕ) (m : Marking marks n w step) (i : ℕ) (h : i < n) where
+  pub mark-has : has (take n marks) (getD marks i 0) ≡ true
+  mark-has =
+      some-has (take n marks) (getD marks i 0)
+      (subst (λ (q : ℕ). 1 ≤ occ (take n marks) q) (getD-take n marks i 0 h)
+      (occ-at (take n marks) i (omega (arith, length-take-le n marks (m .held)))))
+
+  pub mark-in : getD marks i 0 < positions w
+  mark-in = m .inside (getD marks i 0) mark-has
+
+  pub mark-asks : Asks marks n w step (getD marks i 0 % w .width) (getD marks i 0 / w .width)
+  mark-asks =
+      record {
+        fits = m .fits;
+        column = column-in w (m .fits) (getD marks i 0) mark-in;
+        row = row-in w (m .fits) (getD marks i 0) mark-in;
+        step = m .low;
+        far = m .far;
+        held = m .held;
+        rises = m .rises;
+      }
+
+  pub mark-finds : (part : ℕ) → part ≡ 2 ^ 32 / w .width → Finds marks i w part
+  mark-finds part e = record { fits = m .fits; held = omega (arith, m .held); inside = mark-in; part = e }
+
+-- (x, y) is the spot of position q
+module _ (w : Window) (step : ℕ) (bad : ℕ → Bool) (q x y : ℕ) (s : (x ≡ q % w .width) × (y ≡ q / w .width)) where
+  pub spot-asks : {marks : List ℕ} {n : ℕ} → Asks marks n w step (q % w .width) (q / w .width) → Asks marks n w step x y
+  spot-asks a = rw (s .0, s .1) a
+
+  pub spot-lone : (lone : Bool) → Told lone bad w step q → lone ≡ true → Lone bad w step x y
+  spot-lone lone t e = rw (s .0, s .1) (t e)
+
+  pub spot-near : (r : Near) → Lists r (nearOf w step bad x y) → Lists r (nearAt w step bad q)
+  spot-near r l = subst (λ (z : List ℕ). Lists r z) (ap₂ (λ (x y : ℕ). nearOf w step bad x y) (s .0) (s .1)) l

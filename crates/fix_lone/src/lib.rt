@@ -1,0 +1,73 @@
+// Whether a mark is lone, that is, none of its eight neighbours is marked: seen from the marks beside it, with no search.
+ghost use mathlib.Core.Path.{_≡_};
+ghost use mathlib.Core.Bool.{true};
+ghost use Prim.Native.Nat.{_+_, _-_, _*_, _/_, _%_, _≤_, _<_};
+ghost use lib.ListN.{getD};
+ghost use Rattle.fix_scratch.specs.Marks.{Fits};
+ghost use Rattle.fix_near.specs.Looks.{Asks, Lone, marked};
+ghost use Rattle.fix_places.specs.Beside.{Reached};
+use dng::Window;
+
+// How far apart two positions are that stand in one column, one step from each other.
+fn reach(w: Window, period: usize) -> usize
+    requires { ⌜ Fits w × (period ≤ 65536) ⌝ }
+    ensures { λ r. ⌜ (r ≡ period * w .width) × ((period ≤ r) × (r ≤ 4294967296)) ⌝ }
+{
+    period * w.width
+}
+
+// a - b, and 0 where that is below 0.
+fn less(a: usize, b: usize) -> usize
+    ensures { λ r. ⌜ r ≡ a - b ⌝ }
+{
+    if a < b { 0 } else { a - b }
+}
+
+// Where the neighbours of mark i in the row above would stand among the marks, sought from an earlier answer on. A hint: only speed depends on it.
+pub fn above_from(marks: &[u32], n: usize, w: Window, period: usize, i: usize, from: usize) -> usize
+    requires { ⌜ (i < n) × Asks (now marks) n w period (getD (now marks) i 0 % w .width) (getD (now marks) i 0 / w .width) ⌝ }
+    ensures { λ r. ⌜ Reached (now (marks .entry)) n from (getD (now (marks .entry)) i 0 - (period * w .width + period)) r ⌝ }
+{
+    let q = fix_places::mark(marks, i);
+    let lo = less(q, reach(w, period) + period);
+    fix_places::onward(marks, n, from, lo)
+}
+
+// The same of the row below.
+pub fn below_from(marks: &[u32], n: usize, w: Window, period: usize, i: usize, from: usize) -> usize
+    requires { ⌜ (i < n) × Asks (now marks) n w period (getD (now marks) i 0 % w .width) (getD (now marks) i 0 / w .width) ⌝ }
+    ensures { λ r. ⌜ Reached (now (marks .entry)) n from (getD (now (marks .entry)) i 0 + period * w .width - period) r ⌝ }
+{
+    let q = fix_places::mark(marks, i);
+    let lo = q + reach(w, period) - period;
+    fix_places::onward(marks, n, from, lo)
+}
+
+// Whether mark i is known to be lone. The places are hints: where they are not those of the rows above and below, the answer is no.
+pub fn alone(
+    marks: &[u32],
+    n: usize,
+    w: Window,
+    period: usize,
+    i: usize,
+    up: usize,
+    down: usize,
+) -> bool
+    requires { ⌜ (i < n) × Asks (now marks) n w period (getD (now marks) i 0 % w .width) (getD (now marks) i 0 / w .width) ⌝ }
+    ensures { λ r.
+        ⌜ (r ≡ true
+        → Lone (marked (now (marks .entry)) n) w period (getD (now (marks .entry)) i 0 % w .width) (getD (now (marks .entry)) i 0 / w .width)) ⌝ }
+{
+    let q = fix_places::mark(marks, i);
+    let far = reach(w, period);
+    if !fix_places::under(marks, n, i, less(q, period)) {
+        return false;
+    }
+    if !fix_places::over(marks, n, i + 1, q + period) {
+        return false;
+    }
+    if !fix_places::free(marks, n, up, less(q, far + period), less(q + period, far)) {
+        return false;
+    }
+    fix_places::free(marks, n, down, q + far - period, q + far + period)
+}

@@ -1,0 +1,38 @@
+-- `fix_repair::gather_f32` meets its contract: the marks by the opcode. Assumes nothing.
+use mathlib.Core.Path.{ap}
+use lib.Ieee.{Float, nan, binary32, eq, div}
+use Rattle.dng.specs.Repair.{positions}
+use Rattle.dng.specs.Run.{f32Kind}
+use Rattle.dng.specs.Answer.{frameOf}
+use Rattle.fix_repair.proofs.Gathering.{marks-constant, marks-list, marks-none}
+use borrow.Author.Needs.{needs}
+use Rattle.fix_repair.proofs.gather_f32.Statement.{statement}
+use Rattle.fix_repair.proofs.gather_f32.Tie as tie
+
+returns : tie.Need-returns
+returns c =
+    let a = c .before .before .before .before .before .before .before .before .before .before .before .args in
+    let v = c .before .before .before .before .before .before .op .given in
+    marks-constant nan (a .w) (f32Kind (frameOf (a .w) (a .scale)) .isBad) (a .op) (a .body .now) (a .samples .now) (positions (a .w)) (a .marks .now) _
+    (v .0 .0) (v .0 .1 .0) (λ u. eq u (div binary32 (c .before .before .before .before .f32-of-u32 .result) (a .scale))) (c .before .before .constant-marks-f32 .result) (v .1)
+    (ap (λ (x : Float). λ (u : Float). eq u (div binary32 x (a .scale))) (c .before .before .before .before .f32-of-u32 .ensures)) (c .before .before .constant-marks-f32 .ensures)
+
+returns-2 : tie.Need-returns-2
+returns-2 c =
+    let a = c .before .before .before .before .before .before .before .before .before .before .args in
+    let v = c .before .before .before .before .before .op2 .given in
+    marks-list nan (a .w) (f32Kind (frameOf (a .w) (a .scale)) .isBad) (a .op) (a .body .now) (a .samples .now) (positions (a .w)) (a .marks .now) _
+    (v .0 .0) (v .0 .1 .0) (v .0 .1 .1 .0) (c .before .before .list-marks .result) (v .1) (c .before .before .list-marks .ensures)
+
+returns-3 : tie.Need-returns-3
+returns-3 c =
+    let a = c .before .before .before .before .args in
+    marks-none nan (a .w) (f32Kind (frameOf (a .w) (a .scale)) .isBad) (a .op) (a .body .now) (a .samples .now) (positions (a .w)) (a .marks .now) (a .marks .now)
+    (c .match .keys3)
+
+pub gather-f32-spec : {M : Type 1} → statement M
+gather-f32-spec =
+    tie.close
+    (tie.spec
+    (λ c. search needs) (λ c κs. search needs) (λ c κs. search needs) (λ c. search needs) (λ c κs. search needs)
+    (λ c. search needs) returns (λ c. search needs) returns-2 returns-3)

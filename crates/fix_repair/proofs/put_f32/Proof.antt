@@ -1,0 +1,60 @@
+-- `fix_repair::put_f32` meets its contract: the samples of the planes before k are written. Assumes nothing.
+use Prim.Native.Nat.{_+_, _-_}
+use mathlib.Core.Path.{refl}
+use native.Mathlib.Omega.{arith}
+use lib.Ieee.{nan}
+use lib.ListN.{getD}
+use Rattle.fix_repair.proofs.Writing.{Putting, put-start, put-next, put-end}
+use Rattle.fix_repair.proofs.put_f32.Statement.{statement}
+use Rattle.fix_repair.proofs.put_f32.Tie as tie
+
+abbrev Inv-loop : tie.InvT-loop
+Inv-loop samples₀ from planes values at k₀ samples k =
+    Putting (λ v. v) planes samples₀ from values at samples k
+
+abbrev μ-loop : tie.MeasureT-loop
+μ-loop samples₀ from planes values at k₀ samples k = planes - k
+
+loop-holds : tie.Need-loop-holds Inv-loop μ-loop
+loop-holds c = put-start _ _ _ _ _ _
+
+add-samples : tie.Need-add-samples Inv-loop μ-loop
+add-samples c = let s = c .before .before in omega (arith, s .pre .1, s .good .1 .1 .1 .0 .1)
+
+mul-samples : tie.Need-mul-samples Inv-loop μ-loop
+mul-samples c = let s = c .before .before in omega (arith, s .pre .1, s .good .1 .1 .1 .0 .1)
+
+shared-slice-read-samples : tie.Need-shared-slice-read-samples Inv-loop μ-loop
+shared-slice-read-samples c = let s = c .before .before .before in omega (arith, s .pre .1)
+
+add-samples-2 : tie.Need-add-samples-2 Inv-loop μ-loop
+add-samples-2 c = let s = c .before .before .before in omega (arith, s .pre .0, s .good .0 .1)
+
+mul-samples-2 : tie.Need-mul-samples-2 Inv-loop μ-loop
+mul-samples-2 c = let s = c .before .before .before in omega (arith, s .pre .0, s .good .0 .1)
+
+slice-write-samples : tie.Need-slice-write-samples Inv-loop μ-loop
+slice-write-samples c = let s = c .before .before .before in omega (arith, s .pre .0, c .before .before .loop .inv .same)
+
+loop-again : tie.Need-loop-again Inv-loop μ-loop
+loop-again c =
+    let s = c .before .before .before in
+    let a = s .args in
+    let at = c .before .before .loop in
+    put-next (λ v. v) (a .planes) (a .samples .now) (a .from) (a .values .now) (a .at) (at .samples) (at .k) (getD (a .values .now) (a .at + at .k) nan) (at .inv) (c .before .loop-test .taken) (s .pre .0) refl
+
+same-length : tie.Need-same-length Inv-loop μ-loop
+same-length c = c .before .loop .inv .same
+
+returns : tie.Need-returns Inv-loop μ-loop
+returns c =
+    let a = c .before .before .args in
+    let at = c .before .loop in
+    put-end (λ v. v) (a .planes) (a .samples .now) (a .from) (a .values .now) (a .at) (at .samples) (at .k) (at .inv) (c .loop-test .left)
+
+pub put-f32-spec : {M : Type 1} → statement M
+put-f32-spec =
+    tie.close
+    (tie.spec
+    Inv-loop μ-loop loop-holds add-samples mul-samples shared-slice-read-samples add-samples-2 mul-samples-2
+    slice-write-samples (λ c. omega arith) (λ c. omega arith) loop-again same-length returns)

@@ -1,0 +1,169 @@
+-- The promises of specs/Promises, proved. Assumes nothing.
+use Prim.Native.Nat.{ℕ}
+use mathlib.Core.Bool.{true, false≢true}
+use mathlib.Core.List.{List}
+use lib.ListN.{length}
+use mathlib.Core.Logic.{_↔_}
+use mathlib.Core.Path.{_≡_, refl, sym, ap, subst, _∙_}
+use native.Mathlib.Omega.{arith}
+use borrow.Author.Tests.{eqb-true, eq-eqb}
+use Rattle.dng.specs.declared.Answer.{Answer}
+use Rattle.dng.specs.declared.Answer.the-variants as Ans
+use Rattle.dng.specs.List.{itemsOf}
+use Rattle.dng.specs.Run.{Progress, going, marksFull, valuesFull, skipped, namesOf}
+use Rattle.dng.specs.declared.RowAnswer.{RowAnswer}
+use Rattle.dng.specs.declared.RowAnswer.the-variants as Row
+use Rattle.dng.specs.Answer.{Out, finished, numbersOf, rowNumbersOf, wholeFrame, wholeRow}
+use Rattle.run_row.proofs.Laws.{determined as rows-determined, kept as rows-kept}
+use Rattle.law_promises.specs.Promises.{Forms, Determined, Call, End, outOf, Meets, skips, performed, Goes, When, RowWhen, MarksOver, ValuesOver, Exactly-when, Row-exactly-when, Keeps, Row-keeps, Numbered, Adds-up, Scratch, Row-calls, Whole-calls, Whole-calls-alike, Verdict, Row-verdict}
+use Rattle.law_promises.proofs.Answers.{named, goes-on, when, only, kept, row-when, row-only}
+use Rattle.law_promises.proofs.Stops.{shown, marks-stop, values-stop}
+use Rattle.law_promises.proofs.Answers as Answers
+use Rattle.law_promises.proofs.Sums as Sums
+use Rattle.law_promises.proofs.Rooms.{other-room}
+use Rattle.law_promises.proofs.Calls as Calls
+
+pub forms : Forms
+forms = record { f32 = λ w set room list s names. refl; u16 = λ w period room list s names. refl }
+
+-- ---- 1
+
+pub determined : Determined
+determined =
+    record {
+      run = λ A o room e e′ a b.
+          record {
+            answers = a .answered ∙ sym (b .answered);
+            samples = a .left ∙ sym (b .left);
+            names = a .named ∙ sym (b .named);
+            marks = a .marksClear ∙ sym (b .marksClear);
+            values = a .valuesClear ∙ sym (b .valuesClear);
+          };
+      row = λ o r r′ t t′ a b. let d = rows-determined a b in (d .answers, d .rows);
+      reading = λ list r r′ a b. a ∙ sym b;
+    }
+
+-- ---- 2
+
+module _ {A : Type 0} (c : Call A) (e : End A) (m : Meets (outOf c) (c .room) e) where
+  answers : (a : Answer) → (e .answer ≡ a) ↔ When c a
+  answers a = (λ p. subst (When c) (sym (m .answered) ∙ p) (when c), λ h. m .answered ∙ only c a h)
+
+  -- the samples are those that the opcodes came to
+  stopped : Goes c → (p : Progress A) → performed c (itemsOf (c .list)) ≡ p → e .samples ≡ finished (named c) (c .names) p .samples
+  stopped g p q =
+      m .left ∙ ap (λ (o : Out A). o .samples) (goes-on c g) ∙ ap (λ (x : Progress A). finished (named c) (c .names) x .samples) q
+
+  marks : (k : ℕ) → (e .answer ≡ Ans.Marks k) ↔ (Goes c × ((t : List A) × MarksOver c k t))
+  marks k = (
+    λ p. let h : When c (Ans.Marks k) = answers (Ans.Marks k) .0 p in (h .0, (h .1 .0, shown c (marksFull (h .1 .0) k) (h .1 .1))),
+    λ h. answers (Ans.Marks k) .1 (h .0, (h .1 .0, marks-stop c k (h .1 .0) (h .1 .1))),
+  )
+
+  values : (k : ℕ) → (e .answer ≡ Ans.Values k) ↔ (Goes c × ((t : List A) × ValuesOver c k t))
+  values k = (
+    λ p. let h : When c (Ans.Values k) = answers (Ans.Values k) .0 p in (h .0, (h .1 .0, shown c (valuesFull (h .1 .0) k) (h .1 .1))),
+    λ h. answers (Ans.Values k) .1 (h .0, (h .1 .0, values-stop c k (h .1 .0) (h .1 .1))),
+  )
+
+  marks-left : (k : ℕ) → e .answer ≡ Ans.Marks k → MarksOver c k (e .samples)
+  marks-left k p =
+      let h : When c (Ans.Marks k) = answers (Ans.Marks k) .0 p in
+      subst (λ (t : List A). MarksOver c k t) (sym (stopped (h .0) (marksFull (h .1 .0) k) (h .1 .1))) (shown c (marksFull (h .1 .0) k) (h .1 .1))
+
+  values-left : (k : ℕ) → e .answer ≡ Ans.Values k → ValuesOver c k (e .samples)
+  values-left k p =
+      let h : When c (Ans.Values k) = answers (Ans.Values k) .0 p in
+      subst (λ (t : List A). ValuesOver c k t) (sym (stopped (h .0) (valuesFull (h .1 .0) k) (h .1 .1))) (shown c (valuesFull (h .1 .0) k) (h .1 .1))
+
+  result : (n r l : ℕ) → e .answer ≡ Ans.Done n r l → performed c (itemsOf (c .list)) ≡ going (e .samples) r l
+  result n r l p =
+      let h : When c (Ans.Done n r l) = answers (Ans.Done n r l) .0 p in
+      h .2 .1 ∙ ap (λ (t : List A). going t r l) (sym (stopped (h .0) (going (h .2 .0) r l) (h .2 .1)))
+
+pub exactly-when : Exactly-when
+exactly-when A c e m =
+    record { answers = answers c e m; marks = marks c e m; values = values c e m; result = result c e m; marksStop = marks-left c e m; valuesStop = values-left c e m }
+
+pub row-exactly-when : Row-exactly-when
+row-exactly-when w scale y list row r t ran a = (
+  λ p. subst (RowWhen w y _ list) (sym (ran .answered) ∙ p) (row-when w scale y list row),
+  λ h. ran .answered ∙ row-only w scale y list row a h,
+)
+
+-- ---- 3
+
+pub keeps : Keeps
+keeps A c e m = kept c e m
+
+pub numbered : Numbered
+numbered = Answers.numbered
+
+pub row-keeps : Row-keeps
+row-keeps w scale y list row r t ran not = rows-kept w scale y list row ran not
+
+-- ---- 4
+
+pub adds-up : Adds-up
+adds-up A c e m n r l p =
+    let h : When c (Ans.Done n r l) = answers c e m (Ans.Done n r l) .0 p in
+    Sums.adds-up c (h .2 .0) r l (h .2 .1)
+
+pub scratch : Scratch
+scratch A c e m n r l p room = other-room c n r l (answers c e m (Ans.Done n r l) .0 p) room
+
+-- ---- 5
+
+pub row-calls : Row-calls
+row-calls = Calls.row-calls
+
+pub whole-calls : Whole-calls
+whole-calls = Calls.whole-calls
+
+pub whole-calls-alike : Whole-calls-alike
+whole-calls-alike = Calls.whole-calls-alike
+
+-- ---- 6
+
+pub verdict : Verdict
+verdict A c e m = (there (e .answer) (λ n r l. settled n r l), back (e .answer) (λ n r l. settled n r l))
+  where
+    settled : (n r l : ℕ) → e .answer ≡ Ans.Done n r l → n ≡ skips c
+    settled n r l p = let h : When c (Ans.Done n r l) = answers c e m (Ans.Done n r l) .0 p in h .1
+
+    -- any answer that is e's
+    there : (a : Answer) → ((n r l : ℕ) → a ≡ Ans.Done n r l → n ≡ skips c) → wholeFrame a ≡ true → (numbersOf a .number ≡ 0) × (skips c ≡ 0)
+    there (Ans.Done n r l) f h = (refl, sym (f n r l refl) ∙ eqb-true n 0 h)
+    there Ans.Range f h = absurd (false≢true h)
+    there (Ans.Malformed k) f h = absurd (false≢true h)
+    there Ans.NotTaken f h = absurd (false≢true h)
+    there Ans.Names f h = absurd (false≢true h)
+    there (Ans.Marks k) f h = absurd (false≢true h)
+    there (Ans.Values k) f h = absurd (false≢true h)
+
+    back : (a : Answer) → ((n r l : ℕ) → a ≡ Ans.Done n r l → n ≡ skips c) → (numbersOf a .number ≡ 0) × (skips c ≡ 0) → wholeFrame a ≡ true
+    back (Ans.Done n r l) f h = eq-eqb n 0 (f n r l refl ∙ h .1)
+    back Ans.Range f h = absurd (omega (arith, h .0))
+    back (Ans.Malformed k) f h = absurd (omega (arith, h .0))
+    back Ans.NotTaken f h = absurd (omega (arith, h .0))
+    back Ans.Names f h = absurd (omega (arith, h .0))
+    back (Ans.Marks k) f h = absurd (omega (arith, h .0))
+    back (Ans.Values k) f h = absurd (omega (arith, h .0))
+
+pub row-verdict : Row-verdict
+row-verdict w scale y list row r t ran = (there r counted, back r counted)
+  where
+    counted : (n : ℕ) → r ≡ Row.Done n → n ≡ length (namesOf skipped (itemsOf list))
+    counted n p = let h : RowWhen w y (length row) list (Row.Done n) = row-exactly-when w scale y list row r t ran (Row.Done n) .0 p in h .3
+
+    there : (a : RowAnswer) → ((n : ℕ) → a ≡ Row.Done n → n ≡ length (namesOf skipped (itemsOf list))) → wholeRow a ≡ true → (rowNumbersOf a .number ≡ 0) × (length (namesOf skipped (itemsOf list)) ≡ 0)
+    there (Row.Done n) f h = (refl, sym (f n refl) ∙ eqb-true n 0 h)
+    there Row.Range f h = absurd (false≢true h)
+    there (Row.Malformed k) f h = absurd (false≢true h)
+    there Row.NotTaken f h = absurd (false≢true h)
+
+    back : (a : RowAnswer) → ((n : ℕ) → a ≡ Row.Done n → n ≡ length (namesOf skipped (itemsOf list))) → (rowNumbersOf a .number ≡ 0) × (length (namesOf skipped (itemsOf list)) ≡ 0) → wholeRow a ≡ true
+    back (Row.Done n) f h = eq-eqb n 0 (f n refl ∙ h .1)
+    back Row.Range f h = absurd (omega (arith, h .0))
+    back (Row.Malformed k) f h = absurd (omega (arith, h .0))
+    back Row.NotTaken f h = absurd (omega (arith, h .0))

@@ -1,0 +1,317 @@
+-- What a caller may conclude from the contracts of the public calls alone: `Ran` of a run, `RowRan` of a row call, the equation of reading.
+-- Document 01, 'What comes back' and 'How a promise is judged'. Over any sample kind; proofs/Theorems proves each statement under its name in lower case:
+--     1 Determined   2 Exactly-when, Row-exactly-when   3 Keeps, Row-keeps, Numbered   4 Adds-up, Scratch
+--     5 Row-calls, Whole-calls, Whole-calls-alike   6 Verdict, Row-verdict
+use Prim.Native.Nat.{ℕ, suc, _+_, _*_, _≤_, _<_}
+use mathlib.Core.Bool.{Bool, true, false}
+use mathlib.Core.List.{List, [], _∷_}
+use mathlib.Core.Logic.{_↔_}
+use mathlib.Core.Path.{_≡_}
+use lib.Ieee.{Float}
+use lib.ListN.{length, take, drop, replicate}
+use Rattle.dng.specs.declared.Window.{Window}
+use Rattle.dng.specs.declared.RowWindow.{RowWindow}
+use Rattle.dng.specs.declared.Settings.{Settings}
+use Rattle.dng.specs.declared.Answer.{Answer}
+use Rattle.dng.specs.declared.Answer.the-variants as Ans
+use Rattle.dng.specs.declared.RowAnswer.{RowAnswer}
+use Rattle.dng.specs.declared.RowAnswer.the-variants as Row
+use Rattle.dng.specs.declared.Reading.{Reading}
+use Rattle.dng.specs.declared.Reading.the-variants as R
+use Rattle.dng.specs.List.{Item, readingOf, itemsOf, bodyOf}
+use Rattle.dng.specs.Value.{nought}
+use Rattle.dng.specs.Repair.{marksOf, markedIn, repairedIn, leftIn}
+use Rattle.dng.specs.Run.{Class, table, empty, local, repair, unapplied, classOf, Kind, f32Kind, u16Kind, skipped, skipped16, takes16, takesRows, namesOf, Progress, going, marksFull, valuesFull, Room, perform, performAll}
+use Rattle.dng.specs.Answer.{inRange, rowInRange, numbersOf, rowNumbersOf, readingNumbersOf, Out, runOut, takesAll, frameOf, f32Out, u16Out, Ran, RowOut, rowOut, wholeFrame, wholeRow}
+use Rattle.run_row.specs.Rows.{RowRan}
+use Rattle.law_rows.specs.RowForm.{rowPart, rowPut, rowWindowOf, RowForm·if}
+use Rattle.law_wholes.specs.WholeForm.{widened, narrowed, withoutTables, atOne, WholeForm·if}
+use Rattle.law_wholes.specs.Together.{renamed, Together·if}
+
+-- ---- a run: what it is lent, and what it leaves
+
+-- the form asked for (sample kind, lists taken, opcodes skipped), and everything that the run reads
+pub record Call (A : Type 0) : Type 1 where
+  pub kind : Kind A
+  pub takes : List Item → Bool
+  pub skip : Class → Bool
+  pub window : Window
+  pub period : ℕ
+  pub room : Room
+  pub list : List ℕ
+  pub samples : List A
+  pub names : List ℕ
+
+abbrev pub f32Call : Window → Settings → Room → List ℕ → List Float → List ℕ → Call Float
+f32Call w set room list s names =
+    record { kind = f32Kind (frameOf w (set .scale)); takes = takesAll; skip = skipped; window = w; period = set .period; room = room; list = list; samples = s; names = names }
+
+abbrev pub u16Call : Window → (period : ℕ) → Room → List ℕ → List ℕ → List ℕ → Call ℕ
+u16Call w period room list s names =
+    record { kind = u16Kind; takes = takes16; skip = skipped16; window = w; period = period; room = room; list = list; samples = s; names = names }
+
+-- the answer, and what every lent buffer holds afterwards
+pub record End (A : Type 0) : Type 0 where
+  pub answer : Answer
+  pub samples : List A
+  pub names : List ℕ
+  pub marks : List ℕ
+  pub values : List Float
+
+module _ {A : Type 0} where
+  abbrev pub outOf : Call A → Out A
+  outOf c = runOut (c .kind) (c .takes) (c .skip) (c .window) (c .period) (c .room) (c .list) (c .samples) (c .names)
+
+  -- the contract of a run
+  abbrev pub Meets : Out A → Room → End A → Type 0
+  Meets o room e = Ran o room (e .answer) (e .samples) (e .names) (e .marks) (e .values)
+
+-- the two public runs are such calls
+pub record Forms : Type 0 where
+  pub f32 : (w : Window) (set : Settings) (room : Room) (list : List ℕ) (s : List Float) (names : List ℕ)
+      → outOf (f32Call w set room list s names) ≡ f32Out w set room list s names
+  pub u16 : (w : Window) (period : ℕ) (room : Room) (list s names : List ℕ)
+      → outOf (u16Call w period room list s names) ≡ u16Out w period room list s names
+
+-- ---- 1. determined: for every input, refusals among them, two results that meet one contract are equal
+
+pub record Same {A : Type 0} (e e′ : End A) : Type 0 where
+  pub answers : e .answer ≡ e′ .answer
+  pub samples : e .samples ≡ e′ .samples
+  pub names : e .names ≡ e′ .names
+  pub marks : e .marks ≡ e′ .marks
+  pub values : e .values ≡ e′ .values
+
+pub record Determined : Type 1 where
+  pub run : (A : Type 0) (o : Out A) (room : Room) (e e′ : End A) → Meets o room e → Meets o room e′ → Same e e′
+  pub row : (o : RowOut) (r r′ : RowAnswer) (t t′ : List Float) → RowRan o r t → RowRan o r′ t′ → (r ≡ r′) × (t ≡ t′)
+  pub reading : (list : List ℕ) (r r′ : Reading) → r ≡ readingOf list → r′ ≡ readingOf list → r ≡ r′
+
+-- ---- 2. exactly when: the table of 'What comes back', in its order
+
+abbrev pub Whole : List ℕ → Type 0
+Whole list = (n : ℕ) × (readingOf list ≡ R.Whole n)
+
+module _ {A : Type 0} (c : Call A) where
+  -- as many names as are to be written
+  abbrev pub skips : ℕ
+  skips = length (namesOf (c .skip) (itemsOf (c .list)))
+
+  -- the run over the opcodes `is`, numbered from 0, from the lent samples
+  abbrev pub performed : List Item → Progress A
+  performed is = performAll (c .kind) (c .window) (c .period) (c .room) (c .list) 0 is (going (c .samples) 0 0)
+
+  -- none of 1 to 4
+  pub record Goes : Type 0 where
+    pub ranges : inRange (c .window) (c .period) ≡ true
+    pub whole : Whole (c .list)
+    pub taken : c .takes (itemsOf (c .list)) ≡ true
+    pub named : skips ≤ length (c .names)
+
+  abbrev pub When : Answer → Type 0
+  When (Ans.Done n r l) = Goes × (n ≡ skips) × ((t : List A) × (performed (itemsOf (c .list)) ≡ going t r l))
+  When Ans.Range = inRange (c .window) (c .period) ≡ false
+  When (Ans.Malformed k) = (inRange (c .window) (c .period) ≡ true) × (readingOf (c .list) ≡ R.Malformed k)
+  When Ans.NotTaken = (inRange (c .window) (c .period) ≡ true) × Whole (c .list) × (c .takes (itemsOf (c .list)) ≡ false)
+  When Ans.Names =
+      (inRange (c .window) (c .period) ≡ true) × Whole (c .list) × (c .takes (itemsOf (c .list)) ≡ true) × (length (c .names) < skips)
+  When (Ans.Marks k) = Goes × ((t : List A) × (performed (itemsOf (c .list)) ≡ marksFull t k))
+  When (Ans.Values k) = Goes × ((t : List A) × (performed (itemsOf (c .list)) ≡ valuesFull t k))
+
+  -- the marks of an item, on the samples t
+  abbrev pub marksOn : Item → List A → ℕ → Bool
+  marksOn i t = marksOf (c .kind .none) (c .window) (c .kind .isBad) (i .op) (bodyOf (c .list) (i .entry)) t
+
+  -- opcode k is a repair, and is reached: those before it have all run, and left the samples t
+  pub record Reached (k : ℕ) (t : List A) : Type 0 where
+    pub repaired : ℕ
+    pub left : ℕ
+    pub ran : performed (take k (itemsOf (c .list))) ≡ going t repaired left
+    pub item : Item
+    pub rest : List Item
+    pub stands : drop k (itemsOf (c .list)) ≡ item ∷ rest
+    pub repairs : classOf (item .op) ≡ repair
+
+  -- 5: it marks more distinct positions than the u32 scratch has entries
+  pub record MarksOver (k : ℕ) (t : List A) : Type 0 where
+    pub reached : Reached k t
+    pub over : c .room .marks < markedIn (c .window) (marksOn (reached .item) t)
+
+  -- 6: its marks fit, and the f32 scratch has fewer entries than its new values, one for each plane of a repaired position
+  pub record ValuesOver (k : ℕ) (t : List A) : Type 0 where
+    pub reached : Reached k t
+    pub fits : markedIn (c .window) (marksOn (reached .item) t) ≤ c .room .marks
+    pub over : c .room .values < c .window .planes * repairedIn (c .window) (c .period) (marksOn (reached .item) t)
+
+-- a run: by the table; 5 and 6 also by the repair that is named; and the samples, on 0 the result, on 5 and 6 those that the opcodes before that repair left
+pub record Exactly {A : Type 0} (c : Call A) (e : End A) : Type 0 where
+  pub answers : (a : Answer) → (e .answer ≡ a) ↔ When c a
+  pub marks : (k : ℕ) → (e .answer ≡ Ans.Marks k) ↔ (Goes c × ((t : List A) × MarksOver c k t))
+  pub values : (k : ℕ) → (e .answer ≡ Ans.Values k) ↔ (Goes c × ((t : List A) × ValuesOver c k t))
+  pub result : (n r l : ℕ) → e .answer ≡ Ans.Done n r l → performed c (itemsOf (c .list)) ≡ going (e .samples) r l
+  pub marksStop : (k : ℕ) → e .answer ≡ Ans.Marks k → MarksOver c k (e .samples)
+  pub valuesStop : (k : ℕ) → e .answer ≡ Ans.Values k → ValuesOver c k (e .samples)
+
+abbrev pub Exactly-when : Type 1
+Exactly-when = (A : Type 0) (c : Call A) (e : End A) → Meets (outOf c) (c .room) e → Exactly c e
+
+-- a row of n samples: 0, 1, 2 or 3
+abbrev pub RowWhen : RowWindow → (y n : ℕ) → List ℕ → RowAnswer → Type 0
+RowWhen w y n list (Row.Done m) =
+    (rowInRange w y n ≡ true) × Whole list × (takesRows (itemsOf list) ≡ true) × (m ≡ length (namesOf skipped (itemsOf list)))
+RowWhen w y n list Row.Range = rowInRange w y n ≡ false
+RowWhen w y n list (Row.Malformed k) = (rowInRange w y n ≡ true) × (readingOf list ≡ R.Malformed k)
+RowWhen w y n list Row.NotTaken = (rowInRange w y n ≡ true) × Whole list × (takesRows (itemsOf list) ≡ false)
+
+abbrev pub Row-exactly-when : Type 0
+Row-exactly-when =
+    (w : RowWindow) (scale : Float) (y : ℕ) (list : List ℕ) (row : List Float) (r : RowAnswer) (t : List Float)
+    → RowRan (rowOut w scale y list row) r t → (a : RowAnswer) → (r ≡ a) ↔ RowWhen w y (length row) list a
+
+-- ---- 3. kept: what is unchanged, and what is 0, by the answer's number
+
+pub record Kept {A : Type 0} (c : Call A) (e : End A) : Type 0 where
+  -- 1 to 4
+  pub samples : 1 ≤ numbersOf (e .answer) .number → numbersOf (e .answer) .number ≤ 4 → e .samples ≡ c .samples
+  -- any refusal
+  pub names : 1 ≤ numbersOf (e .answer) .number → e .names ≡ c .names
+  -- 0: one byte for each skipped opcode in front, and what stood after them
+  pub written : (n r l : ℕ) → e .answer ≡ Ans.Done n r l → take n (e .names) ≡ namesOf (c .skip) (itemsOf (c .list))
+  pub after : (n r l : ℕ) → e .answer ≡ Ans.Done n r l → drop n (e .names) ≡ drop n (c .names)
+  -- every return
+  pub marks : e .marks ≡ replicate (c .room .marks) 0
+  pub values : e .values ≡ replicate (c .room .values) nought
+
+abbrev pub Keeps : Type 1
+Keeps = (A : Type 0) (c : Call A) (e : End A) → Meets (outOf c) (c .room) e → Kept c e
+
+abbrev pub Row-keeps : Type 0
+Row-keeps =
+    (w : RowWindow) (scale : Float) (y : ℕ) (list : List ℕ) (row : List Float) (r : RowAnswer) (t : List Float)
+    → RowRan (rowOut w scale y list row) r t → ((n : ℕ) → r ≡ Row.Done n → ⊥) → t ≡ row
+
+-- the paper's numbers of every answer: names and totals 0 on a refusal, the entry's number 0 but in 2, the opcode's 0 but in 5 and 6
+pub record Numbered : Type 0 where
+  pub refused : (a : Answer) → 1 ≤ numbersOf a .number → (numbersOf a .names ≡ 0) × (numbersOf a .repaired ≡ 0) × (numbersOf a .left ≡ 0)
+  pub entry : (a : Answer) → (numbersOf a .number ≡ 2 → ⊥) → numbersOf a .entry ≡ 0
+  pub opcode : (a : Answer) → numbersOf a .number < 5 → numbersOf a .opcode ≡ 0
+  -- a row gives 0, 1, 2 or 3
+  pub row : (a : RowAnswer) → rowNumbersOf a .number ≤ 3
+  pub rowEntry : (a : RowAnswer) → (rowNumbersOf a .number ≡ 2 → ⊥) → rowNumbersOf a .entry ≡ 0
+  pub rowRest : (a : RowAnswer) → (rowNumbersOf a .opcode ≡ 0) × (rowNumbersOf a .names ≡ 0) × (rowNumbersOf a .repaired ≡ 0) × (rowNumbersOf a .left ≡ 0)
+  -- reading alone gives 0 or 2
+  pub reading : (a : Reading) → (readingNumbersOf a .number ≡ 2 → ⊥) → (readingNumbersOf a .number ≡ 0) × (readingNumbersOf a .entry ≡ 0)
+  pub readingRest : (a : Reading) → (readingNumbersOf a .opcode ≡ 0) × (readingNumbersOf a .names ≡ 0) × (readingNumbersOf a .repaired ≡ 0) × (readingNumbersOf a .left ≡ 0)
+
+-- ---- 4. totals: over a run that answers 0 they are sums over its repairs, and add up to the distinct marked positions of all of them
+
+module _ {A : Type 0} (c : Call A) (count : (ℕ → Bool) → ℕ) where
+  abbrev pub countOn : Class → Item → List A → ℕ
+  countOn table i t = 0
+  countOn empty i t = 0
+  countOn local i t = 0
+  countOn repair i t = count (marksOn c i t)
+  countOn unapplied i t = 0
+
+  abbrev pub countAt : Item → Progress A → ℕ
+  countAt i (going t r l) = countOn (classOf (i .op)) i t
+  countAt i (marksFull t k) = 0
+  countAt i (valuesFull t k) = 0
+
+  -- the count of each repair's marks, on the samples as they are by then, summed along the run from opcode k on
+  unfoldable pub sumFrom : ℕ → List Item → Progress A → ℕ
+  sumFrom k [] g = 0
+  sumFrom k (i ∷ is) g = countAt i g + sumFrom (suc k) is (perform (c .kind) (c .window) (c .period) (c .room) (c .list) i k g)
+
+  abbrev pub sumOver : ℕ
+  sumOver = sumFrom 0 (itemsOf (c .list)) (going (c .samples) 0 0)
+
+pub record Totals {A : Type 0} (c : Call A) (r l : ℕ) : Type 0 where
+  pub repaired : r ≡ sumOver c (repairedIn (c .window) (c .period))
+  pub left : l ≡ sumOver c (leftIn (c .window) (c .period))
+  pub marked : r + l ≡ sumOver c (markedIn (c .window))
+
+abbrev pub Adds-up : Type 1
+Adds-up =
+    (A : Type 0) (c : Call A) (e : End A) → Meets (outOf c) (c .room) e → (n r l : ℕ) → e .answer ≡ Ans.Done n r l → Totals c r l
+
+-- the call with other scratch
+abbrev pub withRoom : {A : Type 0} → Call A → Room → Call A
+withRoom c room =
+    record { kind = c .kind; takes = c .takes; skip = c .skip; window = c .window; period = c .period; room = room; list = c .list; samples = c .samples; names = c .names }
+
+-- So the totals say how much scratch is enough: a run that answers 0 answers the same, and leaves the same, with any scratch that holds as many marks as
+-- were repaired and left, and a value for each plane of those repaired.
+abbrev pub Scratch : Type 1
+Scratch =
+    (A : Type 0) (c : Call A) (e : End A) → Meets (outOf c) (c .room) e → (n r l : ℕ) → e .answer ≡ Ans.Done n r l
+    → (room : Room) → r + l ≤ room .marks → c .window .planes * r ≤ room .values → outOf (withRoom c room) ≡ outOf c
+
+-- ---- 5. demand 3, of the calls
+
+-- row calls on the rows ys of a window, one after another through one list of samples: what each answered, and the samples before and after.
+-- Of each call no more is known than its contract.
+pub data RowCalls (w : Window) (scale : Float) (list : List ℕ) : List ℕ → List RowAnswer → List Float → List Float → Type 0 where
+  done : {s : List Float} → RowCalls w scale list [] [] s s
+  call : {y : ℕ} {ys : List ℕ} {r : RowAnswer} {rs : List RowAnswer} {s row t : List Float}
+      → RowRan (rowOut (rowWindowOf w) scale (w .y0 + y) list (rowPart w y s)) r row
+      → RowCalls w scale list ys rs (rowPut w y row s) t
+      → RowCalls w scale list (y ∷ ys) (r ∷ rs) s t
+
+-- every row call answers 0, the run answers 0, and both leave the same samples
+pub record Rows-agree (list ys : List ℕ) (rs : List RowAnswer) (t : List Float) (e : End Float) : Type 0 where
+  pub calls : rs ≡ replicate (length ys) (Row.Done (length (namesOf skipped (itemsOf list))))
+  pub run : e .answer ≡ Ans.Done (length (namesOf skipped (itemsOf list))) 0 0
+  pub samples : t ≡ e .samples
+
+abbrev pub Row-calls : Type 0
+Row-calls =
+    (w : Window) (set : Settings) (room : Room) (list : List ℕ) (s : List Float) (names ys : List ℕ) (rs : List RowAnswer) (t : List Float) (e : End Float)
+    → RowForm·if w set list names ys → Meets (f32Out w set room list s names) room e → RowCalls w (set .scale) list ys rs s t
+    → Rows-agree list ys rs t e
+
+-- both runs answer 0 with the same totals, the samples are the f32 run's rounded once and held, and the names written are its names but for empty tables
+pub record Wholes-agree (e : End ℕ) (e′ : End Float) : Type 0 where
+  pub skips16 : ℕ
+  pub skips32 : ℕ
+  pub repaired : ℕ
+  pub left : ℕ
+  pub run16 : e .answer ≡ Ans.Done skips16 repaired left
+  pub run32 : e′ .answer ≡ Ans.Done skips32 repaired left
+  pub samples : e .samples ≡ narrowed (e′ .samples)
+  pub named : take skips16 (e .names) ≡ withoutTables (take skips32 (e′ .names))
+
+abbrev pub Whole-calls : Type 0
+Whole-calls =
+    (w : Window) (period : ℕ) (room room′ : Room) (list s names names′ : List ℕ) (e : End ℕ) (e′ : End Float)
+    → WholeForm·if w period room room′ list s names names′
+    → Meets (u16Out w period room list s names) room e → Meets (f32Out w (atOne period) room′ list (widened s) names′) room′ e′
+    → Wholes-agree e e′
+
+-- The same with one scratch for both, however short, and on 1, 2, 5 and 6 too: the f32 run answers what the whole-number form answers, but for the number
+-- of names.
+pub record Wholes-alike (list : List ℕ) (e : End ℕ) (e′ : End Float) : Type 0 where
+  pub answers : e′ .answer ≡ renamed (length (namesOf skipped (itemsOf list))) (e .answer)
+  pub samples : e .samples ≡ narrowed (e′ .samples)
+  pub named : (n r l : ℕ) → e .answer ≡ Ans.Done n r l
+      → take n (e .names) ≡ withoutTables (take (length (namesOf skipped (itemsOf list))) (e′ .names))
+
+abbrev pub Whole-calls-alike : Type 0
+Whole-calls-alike =
+    (w : Window) (period : ℕ) (room : Room) (list s names names′ : List ℕ) (e : End ℕ) (e′ : End Float) → Together·if list s names names′
+    → Meets (u16Out w period room list s names) room e → Meets (f32Out w (atOne period) room list (widened s) names′) room e′
+    → Wholes-alike list e e′
+
+-- ---- 6. the verdict: a frame is whole when a run answers 0 and skips nothing
+
+abbrev pub Verdict : Type 1
+Verdict =
+    (A : Type 0) (c : Call A) (e : End A) → Meets (outOf c) (c .room) e
+    → (wholeFrame (e .answer) ≡ true) ↔ ((numbersOf (e .answer) .number ≡ 0) × (skips c ≡ 0))
+
+-- a row call names nothing, and its answer carries the count
+abbrev pub Row-verdict : Type 0
+Row-verdict =
+    (w : RowWindow) (scale : Float) (y : ℕ) (list : List ℕ) (row : List Float) (r : RowAnswer) (t : List Float)
+    → RowRan (rowOut w scale y list row) r t
+    → (wholeRow r ≡ true) ↔ ((rowNumbersOf r .number ≡ 0) × (length (namesOf skipped (itemsOf list)) ≡ 0))

@@ -1,0 +1,131 @@
+-- The two answers that the row form's theorem compares: a row call and the run, both on a list that the row form takes.
+-- Each answers 0, and its samples are one rule, at each place of the row and of the window.
+use Prim.Native.Nat.{ℕ, _+_, _*_, _≤_, _<_}
+use mathlib.Core.Path.{_≡_, ap, ap₂, _∙_}
+use mathlib.Core.Bool.{Bool, true, _&&_, cond}
+use mathlib.Core.List.{List}
+use native.Mathlib.Omega.{arith}
+use borrow.Author.Tests.{leb-true, le-leb}
+use lib.Ieee.{Float}
+use lib.ListN.{length}
+use Rattle.pointwise.specs.Points.{each}
+use Rattle.dng.specs.declared.Window.{Window}
+use Rattle.dng.specs.declared.RowWindow.{RowWindow}
+use Rattle.dng.specs.declared.Settings.{Settings}
+use Rattle.dng.specs.declared.Answer.the-variants as Ans
+use Rattle.dng.specs.declared.RowAnswer.the-variants as Row
+use Rattle.dng.specs.declared.Reading.{Reading}
+use Rattle.dng.specs.declared.Reading.the-variants as R
+use Rattle.dng.specs.List.{readingOf, itemsOf}
+use Rattle.dng.specs.Select.{Rule, onWindow, onRow}
+use Rattle.dng.specs.Value.{ruleOf}
+use Rattle.dng.specs.Run.{Kind, Room, namesOf, skipped, takesRows, f32Kind, going, performAll, rowOn}
+use Rattle.dng.specs.Answer.{inRange, rowInRange, frameOf, rowFrameOf, RowOut, rowRead, rowOut}
+use Rattle.dng.specs.Answer.{Out, unchanged, written, finished, ranOn, readOut, runOut, takesAll, f32Out}
+use Rattle.law_rows.specs.RowForm.{rowWindowOf}
+use Rattle.law_rows.proofs.Fused.{allOf, both-true, perform-all, row-all, quiet}
+
+-- what a list does to a sample
+abbrev pub rulesOf : Window → (scale : Float) → List ℕ → Rule Float
+rulesOf w scale list = allOf (ruleOf (frameOf w scale)) list (itemsOf list)
+
+-- ---- the ranges
+
+-- what the ranges say, as numbers
+pub record Ranged (w : Window) (period : ℕ) : Type 0 where
+  pub widest : w .width ≤ 65536
+  pub highest : w .height ≤ 65536
+  pub farthest : w .stride ≤ 65536
+  pub some : 1 ≤ w .planes
+  pub most : w .planes ≤ 8
+  pub left : w .x0 ≤ 16777216
+  pub top : w .y0 ≤ 16777216
+  pub fullWide : w .«full_width» ≤ 16777216
+  pub fullHigh : w .«full_height» ≤ 16777216
+  pub longest : period ≤ 65536
+
+pub ranged : (w : Window) (period : ℕ) → inRange w period ≡ true → Ranged w period
+unfolding inRange
+ranged w period h0 =
+    let h1 = both-true _ _ h0 in
+    let h2 = both-true _ _ (h1 .1) in
+    let h3 = both-true _ _ (h2 .1) in
+    let h4 = both-true _ _ (h3 .1) in
+    let h5 = both-true _ _ (h4 .1) in
+    let h6 = both-true _ _ (h5 .1) in
+    let h7 = both-true _ _ (h6 .1) in
+    let h8 = both-true _ _ (h7 .1) in
+    let h9 = both-true _ _ (h8 .1) in
+    record {
+      widest = leb-true _ _ (h1 .0);
+      highest = leb-true _ _ (h2 .0);
+      farthest = leb-true _ _ (h3 .0);
+      some = leb-true _ _ (h4 .0);
+      most = leb-true _ _ (h5 .0);
+      left = leb-true _ _ (h6 .0);
+      top = leb-true _ _ (h7 .0);
+      fullWide = leb-true _ _ (h8 .0);
+      fullHigh = leb-true _ _ (h9 .0);
+      longest = leb-true _ _ (h9 .1);
+    }
+
+-- a row of a window within the ranges, no longer than the window is wide, is within the row's
+pub row-ranged : (w : Window) (period y n : ℕ) → Ranged w period → y < w .height → n ≤ w .width * w .planes
+    → rowInRange (rowWindowOf w) (w .y0 + y) n ≡ true
+unfolding rowInRange
+row-ranged w period y n g high fits =
+    ap₂ _&&_ (le-leb (w .width) 65536 (g .widest))
+    (ap₂ _&&_ (le-leb 1 (w .planes) (g .some))
+    (ap₂ _&&_ (le-leb (w .planes) 8 (g .most))
+    (ap₂ _&&_ (le-leb (w .x0) 16777216 (g .left))
+    (ap₂ _&&_ (le-leb (w .«full_width») 16777216 (g .fullWide))
+    (ap₂ _&&_ (le-leb (w .«full_height») 16777216 (g .fullHigh))
+    (ap₂ _&&_ (le-leb (w .y0 + y) 16842751 (omega arith)) (le-leb n (w .width * w .planes) fits)))))))
+
+-- ---- the answers
+
+-- a row call that is done, with what it leaves
+abbrev pub rowDone : List ℕ → List Float → RowOut
+rowDone list row = record { answer = Row.Done (length (namesOf skipped (itemsOf list))); row = row }
+
+-- a run that is done, with nothing repaired and nothing left
+abbrev pub runDone : List ℕ → (names : List ℕ) → List Float → Out Float
+runDone list names s =
+    record { answer = Ans.Done (length (namesOf skipped (itemsOf list))) 0 0; samples = s; names = written (namesOf skipped (itemsOf list)) names }
+
+-- a row call in range, on a list that is read whole and taken
+pub row-call : (rw : RowWindow) (scale : Float) (y : ℕ) (list : List ℕ) (row : List Float) (m : ℕ)
+    → rowInRange rw y (length row) ≡ true → readingOf list ≡ R.Whole m → takesRows (itemsOf list) ≡ true
+    → rowOut rw scale y list row
+    ≡ rowDone list (each (onRow (rw .x0) (rw .planes) y (length row) (allOf (ruleOf (rowFrameOf rw scale)) list (itemsOf list))) row)
+unfolding rowOut
+row-call rw scale y list row m ranges whole taken =
+    ap (λ (b : Bool). cond b (rowRead rw scale y list row (readingOf list)) (record { answer = Row.Range; row = row })) ranges
+    ∙ ap (rowRead rw scale y list row) whole
+    ∙ ap (λ (b : Bool). cond b did (record { answer = Row.NotTaken; row = row })) taken
+    ∙ ap (rowDone list) (row-all (rowFrameOf rw scale) (rw .x0) (rw .planes) y list (itemsOf list) row)
+  where
+    did : RowOut
+    did = rowDone list (rowOn (rowFrameOf rw scale) (rw .x0) (rw .planes) y list (itemsOf list) row)
+
+-- the run in range, on a list that is read whole and taken by the row form, with room for the names
+pub window-call : (w : Window) (set : Settings) (room : Room) (list : List ℕ) (s : List Float) (names : List ℕ) (m : ℕ)
+    → inRange w (set .period) ≡ true → readingOf list ≡ R.Whole m → takesRows (itemsOf list) ≡ true
+    → length (namesOf skipped (itemsOf list)) ≤ length names
+    → f32Out w set room list s names ≡ runDone list names (each (onWindow w (length s) (rulesOf w (set .scale) list)) s)
+unfolding runOut ranOn
+window-call w set room list s names m ranges whole taken roomy =
+    ap (λ (b : Bool). cond b (read (readingOf list)) (unchanged Ans.Range s names)) ranges
+    ∙ ap read whole
+    ∙ ap (λ (b : Bool). cond b did (unchanged Ans.Names s names)) (le-leb _ _ roomy)
+    ∙ ap (finished (namesOf skipped (itemsOf list)) names)
+    (perform-all kind w (set .period) room list (quiet (frameOf w (set .scale))) (itemsOf list) 0 s 0 0 taken)
+  where
+    kind : Kind Float
+    kind = f32Kind (frameOf w (set .scale))
+
+    read : Reading → Out Float
+    read r = readOut kind takesAll skipped w (set .period) room list s names r
+
+    did : Out Float
+    did = finished (namesOf skipped (itemsOf list)) names (performAll kind w (set .period) room list 0 (itemsOf list) (going s 0 0))

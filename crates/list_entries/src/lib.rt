@@ -1,0 +1,78 @@
+// The entries of an opcode list, one header after another, each with its body as a part of the lent list.
+// Positions count from the list's first byte, and every function takes any position.
+use dng::Cursor;
+use dng::Entry;
+use dng::Next;
+ghost use mathlib.Core.Path.{_≡_};
+ghost use Prim.Native.Nat.{_+_, _≤_};
+ghost use lib.ListN.{length};
+ghost use Rattle.dng.specs.List.{headerAt, nextAt, bodyOf};
+ghost use Rattle.list_entries.specs.Flags.{optionalOf, previewOf};
+
+// The four words of a header, as they stand, with where the body lies.
+fn header(list: &[u8], at: usize) -> Entry
+    requires { ⌜ at + 16 ≤ length (now list) ⌝ }
+    ensures { λ r. ⌜ r ≡ headerAt (now (list .entry)) at ⌝ }
+{
+    Entry {
+        id: num_words::u32_at(list, at),
+        version: num_words::u32_at(list, at + 4),
+        flags: num_words::u32_at(list, at + 8),
+        at: at + 16,
+        len: num_words::u32_at(list, at + 12) as usize,
+    }
+}
+
+// The entry at a cursor. Its body is compared with what the list has left, so that no sum can wrap.
+pub fn next(list: &[u8], c: Cursor) -> Next
+    ensures { λ r. ⌜ r ≡ nextAt (now (list .entry)) c ⌝ }
+{
+    let at = c.at;
+    let n = list.len();
+    if n < 16 {
+        return Next::Malformed;
+    }
+    if n - 16 < at {
+        return Next::Malformed;
+    }
+    let e = header(list, at);
+    let len = e.len;
+    if n - 16 - at < len {
+        return Next::Malformed;
+    }
+    Next::Found {
+        entry: e,
+        next: Cursor { at: at + 16 + len },
+    }
+}
+
+// The body of an entry: the caller's own part, cut where the list ends.
+pub fn body(list: &[u8], e: Entry) -> &[u8]
+    ensures { λ r. ⌜ now r ≡ bodyOf (now (list .entry)) e ⌝ }
+{
+    let at = e.at;
+    let len = e.len;
+    let n = list.len();
+    if n <= at {
+        return &list[n..];
+    }
+    if n - at < len {
+        return &list[at..];
+    }
+    let end = at + len;
+    &list[at..end]
+}
+
+// Flag bit 0: a reader that does not know the opcode may pass it over.
+pub fn optional(e: Entry) -> bool
+    ensures { λ r. ⌜ r ≡ optionalOf e ⌝ }
+{
+    e.flags % 2 == 1
+}
+
+// Flag bit 1: the opcode may be left out for a preview.
+pub fn skip_for_preview(e: Entry) -> bool
+    ensures { λ r. ⌜ r ≡ previewOf e ⌝ }
+{
+    e.flags / 2 % 2 == 1
+}

@@ -1,0 +1,13 @@
+-- `scale_steps` meets its contract: a step of 1 is the dense run. Assumes nothing.
+use borrow.Author.Needs.{needs}
+use Rattle.row_deltas.proofs.scale_steps.Statement.{statement}
+use Rattle.row_deltas.proofs.scale_steps.Tie as tie
+
+returns : tie.Need-returns
+returns c = rw (c .before .before .before .before .if1 .taken) (c .before .before .scale-dense .ensures)
+
+pub scale-steps-spec : {M : Type 1} → statement M
+scale-steps-spec =
+    tie.close
+    (tie.spec
+    (λ c κs. search needs) (λ c κs. search needs) (λ c. search needs) returns (λ c. search needs) (λ c. search needs))

@@ -1,0 +1,107 @@
+// Which rows, columns and planes a region selects: the first column worked out once an opcode, the rest once a row, handed to the steps as a walk.
+// The numbers are those of a region as the list has them: a pitch of 0 counts as 1.
+ghost use mathlib.Core.Path.{_≡_};
+ghost use Prim.Native.Nat.{_+_, _-_, _*_, _/_, _≤_, _<_, min, max};
+ghost use Rattle.pointwise.specs.Select.{selects, First};
+ghost use Rattle.row_select.specs.Walks.{Walks};
+
+// The selected samples of one plane of a row: the row starts at image column x0 and has `planes` samples to a pixel; the columns left..right are
+// selected, `pitch` apart; the first of them at or after x0 is x0 + col, the `nth` counted from left.
+pub struct Walk {
+    pub x0: usize,
+    pub planes: usize,
+    pub left: usize,
+    pub right: usize,
+    pub pitch: usize,
+    pub plane: usize,
+    pub col: usize,
+    pub nth: usize,
+}
+
+// The first selected column at or after x0: x0 + col, the `nth` counted from left.
+pub struct Start {
+    pub col: usize,
+    pub nth: usize,
+}
+
+pub fn larger(a: usize, b: usize) -> usize
+    ensures { λ r. ⌜ r ≡ max a b ⌝ }
+{
+    if a < b { b } else { a }
+}
+
+pub fn smaller(a: usize, b: usize) -> usize
+    ensures { λ r. ⌜ r ≡ min a b ⌝ }
+{
+    if a < b { a } else { b }
+}
+
+// a − b, or 0 where b is larger.
+pub fn less(a: usize, b: usize) -> usize
+    ensures { λ r. ⌜ r ≡ a - b ⌝ }
+{
+    if b < a { a - b } else { 0 }
+}
+
+// A distance in steps, rounded up. Nothing is divided where the step is 1, or where there is no distance.
+fn steps_up(n: usize, step: usize) -> usize
+    requires { ⌜ (1 ≤ step) × (n < 4294967296) × (step < 4294967296) ⌝ }
+    ensures { λ r. ⌜ r ≡ (n + (step - 1)) / step ⌝ }
+{
+    if step < 2 {
+        return n;
+    }
+    if n == 0 {
+        return 0;
+    }
+    (n + (step - 1)) / step
+}
+
+// The distance from left, rounded up to whole steps.
+pub fn first_column(left: u32, pitch: u32, x0: u32) -> Start
+    ensures { λ r. ⌜ First left pitch x0 (r .col) (r .nth) ⌝ }
+{
+    let lo = left as usize;
+    let at = x0 as usize;
+    let step = larger(pitch as usize, 1);
+    let start = larger(lo, at);
+    let nth = steps_up(start - lo, step);
+    Start {
+        col: lo + nth * step - at,
+        nth,
+    }
+}
+
+// Whether a region from top to bottom selects the image row y.
+pub fn row_selected(top: u32, bottom: u32, pitch: u32, y: usize) -> bool
+    ensures { λ r. ⌜ r ≡ selects top bottom pitch y ⌝ }
+{
+    let lo = top as usize;
+    let hi = bottom as usize;
+    let step = larger(pitch as usize, 1);
+    if y < lo {
+        return false;
+    }
+    if hi <= y {
+        return false;
+    }
+    if step < 2 {
+        return true;
+    }
+    (y - lo) % step == 0
+}
+
+// Past the last plane that a region selects of a window's planes.
+pub fn plane_end(plane: u32, planes: u32, window: usize) -> usize
+    ensures { λ r. ⌜ r ≡ min (plane + planes) window ⌝ }
+{
+    smaller(plane as usize + planes as usize, window)
+}
+
+// Past the last sample of a row of n that a walk may touch.
+pub fn stop_of(k: Walk, n: usize) -> usize
+    requires { ⌜ Walks k n ⌝ }
+    ensures { λ r. ⌜ r ≡ min n ((k .right - k .x0) * k .planes) ⌝ }
+{
+    smaller(n, less(k.right, k.x0) * k.planes)
+}

@@ -1,0 +1,53 @@
+-- The refusals 1 to 4 as one value: which of them a call is given, or how many names a run that goes on will write. Document 01, 'What comes back'.
+-- Over which lists a form takes and which opcodes it skips. proofs/Laws says that it is what the definitions of a run and of a row answer.
+use Prim.Native.Nat.{ℕ}
+use mathlib.Core.Bool.{Bool, true, false, cond}
+use mathlib.Core.List.{List}
+use lib.Dec.{leb}
+use lib.ListN.{length}
+use Rattle.dng.specs.declared.Window.{Window}
+use Rattle.dng.specs.declared.RowWindow.{RowWindow}
+use Rattle.dng.specs.declared.Answer.the-variants as Ans
+use Rattle.dng.specs.declared.RowAnswer.the-variants as Row
+use Rattle.dng.specs.declared.Reading.{Reading}
+use Rattle.dng.specs.declared.Reading.the-variants as R
+use Rattle.dng.specs.List.{Item, readingOf, itemsOf}
+use Rattle.dng.specs.Run.{Class, skipped, takes16, takesRows, namesOf}
+use Rattle.dng.specs.Answer.{inRange, rowInRange, takesAll}
+use Rattle.run_refuse.specs.declared.Plan.{Plan}
+use Rattle.run_refuse.specs.declared.Plan.the-variants as P
+use Rattle.run_refuse.specs.declared.RowPlan.{RowPlan}
+use Rattle.run_refuse.specs.declared.RowPlan.the-variants as RP
+
+-- which lists a form takes: the whole-number form's, or the f32 run's
+abbrev pub takesIn : (whole : Bool) → List Item → Bool
+takesIn true = takes16
+takesIn false = takesAll
+
+module _ (takes : List Item → Bool) (skip : Class → Bool) where
+  -- a list that is read whole: 3, then 4
+  unfoldable pub planOn : List ℕ → (room : ℕ) → Plan
+  planOn list room =
+      cond (takes (itemsOf list))
+      (cond (leb (length (namesOf skip (itemsOf list))) room) (P.Go (length (namesOf skip (itemsOf list)))) (P.Refuse Ans.Names))
+      (P.Refuse Ans.NotTaken)
+
+  abbrev pub planRead : List ℕ → (room : ℕ) → Reading → Plan
+  planRead list room (R.Whole n) = planOn list room
+  planRead list room (R.Malformed k) = P.Refuse (Ans.Malformed k)
+
+  -- 1 before 2; room is the length of the skip buffer
+  unfoldable pub planOf : List ℕ → Window → (period room : ℕ) → Plan
+  planOf list w period room = cond (inRange w period) (planRead list room (readingOf list)) (P.Refuse Ans.Range)
+
+-- a row: 1, 2, 3
+unfoldable pub rowPlanOn : List ℕ → RowPlan
+rowPlanOn list =
+    cond (takesRows (itemsOf list)) (RP.Go (length (namesOf skipped (itemsOf list)))) (RP.Refuse Row.NotTaken)
+
+abbrev pub rowPlanRead : List ℕ → Reading → RowPlan
+rowPlanRead list (R.Whole n) = rowPlanOn list
+rowPlanRead list (R.Malformed k) = RP.Refuse (Row.Malformed k)
+
+unfoldable pub rowPlanOf : List ℕ → RowWindow → (y n : ℕ) → RowPlan
+rowPlanOf list w y n = cond (rowInRange w y n) (rowPlanRead list (readingOf list)) (RP.Refuse Row.Range)

@@ -1,0 +1,39 @@
+-- `say_pgm::read_frame` meets its contract. Assumes nothing.
+use mathlib.Core.Path.{sym, ap, _∙_}
+use borrow.Author.Needs.{needs}
+use lib.ListN.{length}
+use Rattle.say_pgm.specs.Pgm.{frameOn, frameOf}
+use Rattle.say_pgm.proofs.Laws.{in-sizes}
+use Rattle.say_pgm.proofs.read_frame.Statement.{statement}
+use Rattle.say_pgm.proofs.read_frame.Tie as tie
+
+header-requires : tie.Need-header-requires
+header-requires c κs = search needs
+
+enum-known-width : tie.Need-enum-known-width
+enum-known-width c = search needs
+
+sized-requires : tie.Need-sized-requires
+sized-requires c κs = in-sizes _ _ _ _ _ (sym (c .before .before .before .header .ensures) ∙ c .before .width .given .1)
+
+enum-told : tie.Need-enum-told
+enum-told c = search needs
+
+returns : tie.Need-returns
+unfolding frameOf
+returns c =
+    let h = c .before .before .before .before in
+    let a = h .before .before .args in
+    c .sized .ensures ∙ ap (frameOn (a .most) (length (a .bytes .now))) (sym (c .before .before .width .given .1) ∙ h .header .ensures)
+
+returns-2 : tie.Need-returns-2
+unfolding frameOf
+returns-2 c =
+    let h = c .before .before in
+    let a = h .before .before .args in
+    ap (frameOn (a .most) (length (a .bytes .now))) (sym (c .enum-told .given .1) ∙ h .header .ensures)
+
+pub read-frame-spec : {M : Type 1} → statement M
+read-frame-spec =
+    tie.close
+    (tie.spec header-requires enum-known-width sized-requires enum-told returns returns-2)

@@ -1,0 +1,68 @@
+-- What a run answered, as text. The number in front is document 01's, 'What comes back'.
+use Prim.Native.Nat.{ℕ, _+_, _≤_, min}
+use mathlib.Core.Bool.{Bool, true, false, cond}
+use mathlib.Core.List.{List, [], _∷_, _++_}
+use lib.Dec.{eqb}
+use lib.ListN.{length, take}
+use Rattle.num_text.specs.Text.{text, decimal}
+use Rattle.num_text.specs.Appended.{Appended}
+use Rattle.dng.specs.declared.Answer.{Answer}
+use Rattle.dng.specs.declared.Answer.the-variants as Ans
+use Rattle.say_report.specs.declared.Form.{Form}
+use Rattle.say_report.specs.declared.Form.the-variants.{Whole, Rounded, Float}
+
+-- how often k stands in a list
+unfoldable pub occurs : ℕ → List ℕ → ℕ
+occurs k [] = 0
+occurs k (b ∷ s) = cond (eqb b k) 1 0 + occurs k s
+
+-- a label, a number and a newline
+unfoldable pub line : List ℕ → ℕ → List ℕ
+line label n = (label ++ decimal n) ++ (10 ∷ [])
+
+unfoldable pub lineIf : List ℕ → ℕ → List ℕ
+lineIf label n = cond (eqb n 0) [] (line label n)
+
+-- a line for each kind of opcode that was skipped, by the bytes that name them
+unfoldable pub skippedText : List ℕ → List ℕ
+skippedText b =
+    (((lineIf (text "skipped WarpRectilinear: ") (occurs 1 b) ++ lineIf (text "skipped WarpFisheye: ") (occurs 2 b))
+    ++ lineIf (text "skipped TrimBounds: ") (occurs 6 b)) ++ lineIf (text "skipped empty MapTable: ") (occurs 7 b))
+    ++ lineIf (text "skipped unknown opcode: ") (occurs 0 b)
+
+-- the end of a line of text
+abbrev pub ended : List ℕ → List ℕ
+ended l = l ++ (10 ∷ [])
+
+abbrev pub formText : Form → List ℕ
+formText Whole = ended (text "0: done in whole numbers")
+formText Rounded = ended (text "0: done in f32, rounded back")
+formText Float = ended (text "0: done in f32")
+
+abbrev pub verdictText : Bool → List ℕ
+verdictText true = ended (text "the frame is whole")
+verdictText false = ended (text "the frame is not whole")
+
+-- p is put behind the text of the buffer b, in at most k bytes
+pub record Within (k : ℕ) (b : List ℕ) (at : ℕ) (p : List ℕ) (r : ℕ) (o : List ℕ) : Type 0 where
+  pub appended : Appended b at p r o
+  pub short : r ≤ at + k
+
+-- the first n bytes of a buffer, all where it has fewer
+abbrev pub first : ℕ → List ℕ → List ℕ
+first n b = take (min n (length b)) b
+
+-- b: the skip buffer; n: how many names it holds
+unfoldable pub doneText : Form → List ℕ → (n repaired left held : ℕ) → List ℕ
+doneText form b n repaired left held =
+    ((((formText form ++ skippedText (first n b)) ++ line (text "repaired: ") repaired) ++ line (text "left: ") left)
+    ++ lineIf (text "held to the largest value: ") held) ++ verdictText (eqb n 0)
+
+abbrev pub textOf : Answer → Form → List ℕ → (held : ℕ) → List ℕ
+textOf (Ans.Done n r l) form b held = doneText form b n r l held
+textOf Ans.Range form b held = ended (text "1: a number is outside its range")
+textOf (Ans.Malformed k) form b held = line (text "2: the list is malformed; whole entries before: ") k
+textOf Ans.NotTaken form b held = ended (text "3: the form does not take the list")
+textOf Ans.Names form b held = ended (text "4: more skipped opcodes than names fit")
+textOf (Ans.Marks k) form b held = line (text "5: more bad pixels than the scratch holds, at opcode ") k
+textOf (Ans.Values k) form b held = line (text "6: more new values than the scratch holds, at opcode ") k

@@ -1,0 +1,119 @@
+-- `rows16` meets its contract: the rows before y are done, and row y starts at `at`. Assumes nothing.
+use Prim.Native.Nat.{_-_}
+use mathlib.Core.Path.{refl, sym, subst}
+use native.Mathlib.Omega.{arith}
+use borrow.Author.Needs.{needs}
+use Rattle.dng.specs.Value.{rule16Of}
+use Rattle.row_opcode.specs.declared.Place.{Place}
+use Rattle.row_opcode.specs.Ready.{Ready}
+use Rattle.win_rows.proofs.Turns.{wide-fits, step-fits, start-fits, Rows, rows-start, part-fits, rows-turn, rows-all, rows-short}
+use Rattle.win_opcode.proofs.rows16.Statement.{statement}
+use Rattle.win_opcode.proofs.rows16.Tie as tie
+
+abbrev Inv-loop : tie.InvT-loop
+Inv-loop samples₀ w op ready body n width step y₀ at₀ samples y at = Rows w (rule16Of op body) samples₀ samples y at
+
+abbrev μ-loop : tie.MeasureT-loop
+μ-loop samples₀ w op ready body n width step y₀ at₀ samples y at = w .height - y
+
+-- where the loop starts from
+abbrev Args : tie.At-loop Inv-loop μ-loop → tie.Start Inv-loop μ-loop
+Args h = h .before .before .before .before .before
+
+loop-holds : tie.Need-loop-holds Inv-loop μ-loop
+loop-holds c = rows-start _ _ _
+
+same-length : tie.Need-same-length Inv-loop μ-loop
+same-length c = c .before .before .before .loop .inv .same
+
+returns : tie.Need-returns Inv-loop μ-loop
+returns c =
+    let h = c .before .before .before in
+    rows-short _ _ _ (h .loop .inv) (c .if2 .taken)
+
+add-smaller : tie.Need-add-smaller Inv-loop μ-loop
+add-smaller c =
+    let h = c .before .before .before in
+    let s = Args h in
+    omega (
+      arith,
+      h .before .before .row-width .ensures,
+      wide-fits (s .args .w) (s .pre .0),
+      start-fits (s .args .w) _ _ (s .pre .0) (h .loop .inv .here) (h .loop .inv .near),
+    )
+
+mul-row-step16 : tie.Need-mul-row-step16 Inv-loop μ-loop
+mul-row-step16 c =
+    let h = c .before .before .before .before in
+    let s = Args h in
+    omega (arith, start-fits (s .args .w) _ _ (s .pre .0) (h .loop .inv .here) (h .loop .inv .near))
+
+sub-row-step16 : tie.Need-sub-row-step16 Inv-loop μ-loop
+sub-row-step16 c = omega (arith, c .smaller .ensures, c .before .if2 .left)
+
+part-row-step16-start : tie.Need-part-row-step16-start Inv-loop μ-loop
+part-row-step16-start c = omega (arith, c .smaller .ensures, c .before .if2 .left)
+
+part-row-step16-end : tie.Need-part-row-step16-end Inv-loop μ-loop
+part-row-step16-end c = omega (arith, c .smaller .ensures, c .before .before .before .before .loop .inv .same)
+
+place-at-requires : tie.Need-place-at-requires Inv-loop μ-loop
+place-at-requires c κs =
+    let i = c .before .before .before in
+    (Args (i .before .before) .pre .0, i .if1 .taken)
+
+row-step16-requires : tie.Need-row-step16-requires Inv-loop μ-loop
+row-step16-requires c κs =
+    let e = c .before .before in
+    let i = e .before .before in
+    let h = i .before .before in
+    let s = Args h in (
+      part-fits _ _ _ (s .pre .0) (h .loop .inv) (i .if1 .taken) (h .before .before .row-width .ensures) (e .smaller .ensures)
+          (c .place-at .ensures),
+      subst (λ (g : Place). Ready (s .args .op) (g .x0) (g .«full_width») (g .«full_height») (s .args .ready)) (sym (c .place-at .ensures)) (s .pre .2),
+    )
+
+add-at : tie.Need-add-at Inv-loop μ-loop
+add-at c =
+    let h = c .before .before .before .before .before .before .before .before .before in
+    let s = Args h in
+    omega (
+      arith,
+      h .before .row-stride .ensures,
+      step-fits (s .args .w) (s .pre .0),
+      start-fits (s .args .w) _ _ (s .pre .0) (h .loop .inv .here) (h .loop .inv .near),
+    )
+
+add-y : tie.Need-add-y Inv-loop μ-loop
+add-y c =
+    let i = c .before .before .before .before .before .before .before in
+    omega (arith, i .if1 .taken, Args (i .before .before) .pre .0 .highest)
+
+loop-less : tie.Need-loop-less Inv-loop μ-loop
+loop-less c = omega (arith, c .before .before .before .before .before .before .before .if1 .taken)
+
+loop-again : tie.Need-loop-again Inv-loop μ-loop
+loop-again c =
+    let p = c .before .before .before in
+    let e = p .before .before in
+    let i = e .before .before in
+    let h = i .before .before in
+    let s = Args h in
+    let a = s .args in
+    rows-turn (a .w) _ _ (s .pre .0) (s .pre .1) (h .loop .inv) (i .if1 .taken) (h .before .before .row-width .ensures)
+    (h .before .row-stride .ensures) (e .smaller .ensures) (omega (arith, e .before .if2 .left))
+    (λ g. rule16Of (a .op) (a .body .now)) refl (p .place-at .ensures) (c .before .before .row-step16 .ensures)
+
+same-length-2 : tie.Need-same-length-2 Inv-loop μ-loop
+same-length-2 c = c .before .before .loop .inv .same
+
+returns-2 : tie.Need-returns-2 Inv-loop μ-loop
+returns-2 c = rows-all _ _ _ (c .before .before .loop .inv) (c .if1 .left)
+
+pub rows16-spec : {M : Type 1} → statement M
+rows16-spec =
+    tie.close
+    (tie.spec
+    Inv-loop μ-loop (λ c κs. search needs) (λ c κs. search needs) loop-holds same-length returns add-smaller
+    (λ c κs. search needs) mul-row-step16 sub-row-step16 part-row-step16-start part-row-step16-end place-at-requires
+    row-step16-requires add-at add-y loop-less loop-again same-length-2 returns-2)
