@@ -38,12 +38,12 @@ words (n ∷ ns) = word n ++ words ns
 abbrev pub entry : ℕ → List ℕ → List ℕ
 entry id body = words (id ∷ 16973824 ∷ 0 ∷ length body ∷ []) ++ body
 
-abbrev constant : ℕ → List ℕ
+abbrev pub constant : ℕ → List ℕ
 constant c = entry 4 (words (c ∷ 0 ∷ []))
 
 -- ---- windows at 0, 0 of an image as large
 
-abbrev frame : (width height : ℕ) → Window
+abbrev pub frame : (width height : ℕ) → Window
 frame w h = record { width = w; height = h; planes = 1; stride = w; x0 = 0; y0 = 0; «full_width» = w; «full_height» = h }
 
 -- the columns and planes of P3 and P4: 1 where a sample is touched
@@ -60,7 +60,7 @@ abbrev pixel : Window
 pixel = record { width = 1; height = 1; planes = 3; stride = 1; x0 = 0; y0 = 0; «full_width» = 1; «full_height» = 1 }
 
 -- room for eight marks and eight values
-abbrev room : Room
+abbrev pub room : Room
 room = record { marks = 8; values = 8 }
 
 abbrev pub whole : ℕ → Float
@@ -74,15 +74,15 @@ table halves n = entry 7 (words (0 ∷ 0 ∷ 1 ∷ 3 ∷ 0 ∷ 1 ∷ 1 ∷ 1 ∷
 abbrev polynomial : (d n : ℕ) → List ℕ
 polynomial d n = entry 8 (words (0 ∷ 0 ∷ 1 ∷ 1 ∷ 0 ∷ 1 ∷ 1 ∷ 1 ∷ d ∷ []) ++ replicate n 0)
 
-abbrev joined : List (List ℕ) → List ℕ
+abbrev pub joined : List (List ℕ) → List ℕ
 joined [] = []
 joined (e ∷ es) = e ++ joined es
 
-abbrev listOf : List (List ℕ) → List ℕ
+abbrev pub listOf : List (List ℕ) → List ℕ
 listOf es = word (length es) ++ joined es
 
 -- the answer, the samples and the skip bytes of a run
-abbrev out : {A : Type 0} → Answer → List A → List ℕ → Out A
+abbrev pub out : {A : Type 0} → Answer → List A → List ℕ → Out A
 out a s n = record { answer = a; samples = s; names = n }
 
 pub record Bench : Type 0 where

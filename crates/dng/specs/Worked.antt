@@ -3,12 +3,13 @@ use Prim.Native.Nat.{ℕ, zero, suc, _+_, _*_, _/_, _%_, _^_}
 use mathlib.Core.Path.{_≡_, refl}
 use mathlib.Core.Bool.{Bool, true, false, _&&_, cond}
 use lib.Dec.{eqb}
-use mathlib.Core.List.{List, [], _∷_, _++_}
+use mathlib.Core.List.{List, [], _∷_, _++_, map}
 use lib.Ieee.{Float, binary32, binary64, fin, nan, inf, ofInt, ofBits, ofFields, round, mul, div, add, sub, neg, sum, eq, lt, units, odd, size, span, climb, toUnsigned}
 use lib.Count.{trailingZeros}
 use lib.IntN.{pos, negsuc}
 use lib.ListN.{length}
 use Rattle.num_words.specs.Words.{big}
+use Rattle.pointwise.specs.Points.{each}
 use Rattle.pointwise.specs.Select.{selects, onColumns}
 use Rattle.num_narrow.specs.Narrow.{narrow}
 use Rattle.num_round.specs.Whole.{roundHeld}
@@ -17,14 +18,17 @@ use Rattle.dng.specs.declared.Region.{Region}
 use Rattle.dng.specs.declared.Window.{Window}
 use Rattle.dng.specs.declared.Opcode.{Opcode}
 use Rattle.dng.specs.declared.Opcode.the-variants.{WarpRectilinear, FixVignetteRadial, FixBadPixelsConstant, FixBadPixelsList, TrimBounds, MapTable, MapPolynomial, GainMap, DeltaPerRow, DeltaPerColumn, ScalePerRow, ScalePerColumn, Other}
+use Rattle.dng.specs.declared.Entry.{Entry}
+use Rattle.dng.specs.declared.Answer.the-variants as Ans
 use Rattle.dng.specs.declared.Parsed.{Parsed}
 use Rattle.dng.specs.declared.Parsed.the-variants as P
-use Rattle.dng.specs.List.{parsedAt, warpAt, badListAt, countedAt, polynomialAt, gainAt}
-use Rattle.dng.specs.Select.{onRegion, active}
+use Rattle.dng.specs.List.{Item, itemsOf, readingOf, counted, readFrom, stepAt, nextAt, parsedAt, warpAt, badListAt, countedAt, polynomialAt, gainAt}
+use Rattle.dng.specs.Select.{onRegion, inWindow, active}
 use Rattle.dng.specs.Value.{Frame, mapTable, mapPolynomial, horner, nth, delta, scaled, position, mix, lineAt, gainOf, gained, ruleOf}
-use Rattle.dng.specs.Repair.{complete, pointAt, rectAt, moved, sound, tallyOn, tallyAt}
-use Rattle.dng.specs.Run.{f32Kind}
-use Rattle.dng.specs.Frames.{words, whole}
+use Rattle.dng.specs.Repair.{countBelow, complete, pointAt, rectAt, badValue, marksOf, moved, sound, tallyOn, tallyAt, repairAt, soundOn, markedIn, repairedIn, leftIn}
+use Rattle.dng.specs.Run.{f32Kind, namesOf, takes16On, takes16From, repairOn, performAll, Room}
+use Rattle.dng.specs.Answer.{inRange, ranOn, runOut, u16Out}
+use Rattle.dng.specs.Frames.{words, whole, frame, room, constant, entry, listOf, out}
 
 -- the bytes of f64 and of f32 values 1, 2, 3, 4, and of u16 entries
 abbrev doubles : List ℕ
@@ -83,6 +87,9 @@ plain = record { scale = whole 1; fullWidth = 2; fullHeight = 2 }
 abbrev doubled : Frame
 doubled = record { scale = whole 2; fullWidth = 2; fullHeight = 2 }
 
+abbrev sevenfold : Frame
+sevenfold = record { scale = whole 7; fullWidth = 2; fullHeight = 2 }
+
 -- a table of 10, 11, 12, 13 after the region and n
 abbrev table4 : List ℕ
 table4 = area ++ (words (4 ∷ []) ++ (0 ∷ 10 ∷ 0 ∷ 11 ∷ 0 ∷ 12 ∷ 0 ∷ 13 ∷ []))
@@ -117,6 +124,8 @@ pub record Values : Type 0 where
   pub delta-missing : ruleOf plain (DeltaPerRow second 2) line2 true 6 0 1 (fin true 0 (pos 0)) ≡ fin false 0 (pos 0)
   -- 1 + (2 · 65535) / 2
   pub delta-scale : ruleOf doubled (DeltaPerRow second 2) line2 true 4 0 1 (whole 1) ≡ fin false 1 (pos 16)
+  -- 1 + (2 · 65535) / 7, 18725.28515625: with 2 / 7 rounded first it would be 18725.287109375
+  pub delta-times-first : ruleOf sevenfold (DeltaPerRow second 2) line2 true 4 0 1 (whole 1) ≡ fin false 4793673 (negsuc 7)
   pub delta-outside : ruleOf plain (DeltaPerRow second 2) line2 true 3 0 1 (whole 1) ≡ fin false 1 (pos 0)
   -- the planes are counted from the region's first, and end with the map's last
   pub gain-first : gained plain point2 second 1 1 (record { «spacing_v» = double 0; «spacing_h» = double 0; «origin_v» = double 0; «origin_h» = double 0 }) 2 3 0 1 (whole 5) ≡ fin false 5 (pos 0)
@@ -128,7 +137,7 @@ pub record Values : Type 0 where
 pub values : Values
 unfolding big selects onColumns onRegion narrow roundHeld heldTo mapTable mapPolynomial horner nth delta scaled position mix lineAt gainOf gained ofBits ofFields odd trailingZeros ofInt round units size span climb mul div add sub neg sum lt toUnsigned
 values =
-    record { table-half = refl; table-last = refl; table-nan = refl; table-scale = refl; polynomial = refl; delta-second = refl; delta-missing = refl; delta-scale = refl; delta-outside = refl; gain-first = refl; gain-second = refl; gain-last = refl; gain-between = refl }
+    record { table-half = refl; table-last = refl; table-nan = refl; table-scale = refl; polynomial = refl; delta-second = refl; delta-missing = refl; delta-scale = refl; delta-times-first = refl; delta-outside = refl; gain-first = refl; gain-second = refl; gain-last = refl; gain-between = refl }
 
 -- ---- repairs: three by three, the middle marked; the order of the neighbours shows where a sum is rounded
 
@@ -172,3 +181,41 @@ pub repairs : Repairs
 unfolding big complete pointAt rectAt moved sound tallyOn ofInt round units odd trailingZeros size span climb add sum div eq active
 repairs =
     record { complete-tight = refl; complete-short = refl; complete-never = refl; constant-scale = refl; constant-unscaled = refl; constant-rounded = refl; left-first = refl; up-right-last = refl; up-left-fifth = refl; point = refl; point-turned = refl; rect-in = refl; rect-bottom = refl; rect-right = refl }
+
+-- ---- entries: the header words as they stand. Version 1.3.0.0 and the flags optional, skip for preview, and both
+
+abbrev flagged : ℕ → List ℕ
+flagged f = words (2 ∷ 16973824 ∷ f ∷ 0 ∷ [])
+
+abbrev flaggedAt : (f at : ℕ) → Entry
+flaggedAt f at = record { id = 2; version = 16973824; flags = f; at = at; len = 0 }
+
+pub record Entries : Type 0 where
+  pub flags : map (λ (i : Item). i .entry) (itemsOf (listOf (flagged 1 ∷ flagged 2 ∷ flagged 3 ∷ []))) ≡ flaggedAt 1 20 ∷ flaggedAt 2 36 ∷ flaggedAt 3 52 ∷ []
+
+pub entries : Entries
+unfolding big itemsOf counted readFrom stepAt nextAt parsedAt
+entries = record { flags = refl }
+
+-- ---- runs
+
+-- room for so many marks
+abbrev marks : ℕ → Room
+marks n = record { marks = n; values = 8 }
+
+-- samples of which two side by side are marked by the constant 0
+abbrev pair : List ℕ
+pair = 10 ∷ 0 ∷ 0 ∷ 19 ∷ []
+
+pub record Runs : Type 0 where
+  -- a marked neighbour is not in the mean: 10 and 19 alone
+  pub side-by-side : u16Out (frame 4 1) 1 room (listOf (constant 0 ∷ [])) pair [] ≡ out (Ans.Done 0 2 0) (10 ∷ 10 ∷ 19 ∷ 19 ∷ []) []
+  -- a period of 0 counts as 1
+  pub period-none : u16Out (frame 3 1) 0 room (listOf (constant 0 ∷ [])) (10 ∷ 0 ∷ 19 ∷ []) [] ≡ out (Ans.Done 0 1 0) (10 ∷ 15 ∷ 19 ∷ []) []
+  -- as many entries as marks are room enough; with one less it is 5 of that opcode, and the skip buffer stays
+  pub marks-tight : u16Out (frame 4 1) 1 (marks 2) (listOf (entry 2 [] ∷ constant 0 ∷ [])) pair (9 ∷ []) ≡ out (Ans.Done 1 2 0) (10 ∷ 10 ∷ 19 ∷ 19 ∷ []) (2 ∷ [])
+  pub marks-short : u16Out (frame 4 1) 1 (marks 1) (listOf (entry 2 [] ∷ constant 0 ∷ [])) pair (9 ∷ []) ≡ out (Ans.Marks 1) pair (9 ∷ [])
+
+pub runs : Runs
+unfolding big each roundHeld readingOf itemsOf counted readFrom stepAt nextAt parsedAt inWindow active countBelow complete badValue marksOf moved sound tallyOn repairAt soundOn markedIn repairedIn leftIn namesOf takes16On takes16From repairOn performAll inRange ranOn runOut ofInt round units odd trailingZeros size span climb add sum div
+runs = record { side-by-side = refl; period-none = refl; marks-tight = refl; marks-short = refl }
