@@ -1,8 +1,8 @@
-// What an opcode is to the forms of a run, whether a form skips it, and the byte that names it.
+// What an opcode is to the forms of a run, and the byte that names it.
 use dng::Opcode;
 ghost use mathlib.Core.Path.{_≡_};
-ghost use Rattle.dng.specs.Run.{classOf, nameOf, skipped, skipped16};
-ghost use Rattle.list_classes.specs.Classes.{classIs};
+ghost use Rattle.dng.specs.Run.{classOf, nameOf};
+ghost use Rattle.list_classes.specs.Classes.{classIs, factsOf};
 
 // A table with entries, a table with none, another row-local pixel opcode, a repair, and what is never applied.
 pub enum Class {
@@ -56,28 +56,57 @@ pub fn name_of(op: Opcode) -> u8
     }
 }
 
-// Whether the f32 run skips an opcode, and names it.
-pub fn skipped(op: Opcode) -> bool
-    ensures { λ r. ⌜ r ≡ skipped (classOf op) ⌝ }
-{
-    match class_of(op) {
-        Class::Table => false,
-        Class::Empty => true,
-        Class::Local => false,
-        Class::Repair => false,
-        Class::Unapplied => true,
-    }
+// What one opcode is to the forms: a pixel opcode that no whole-number form has, a repair, taken by the row form, skipped by the f32 run, and
+// skipped by the whole-number run, where an empty table has no name.
+pub struct Facts {
+    pub local: bool,
+    pub repair: bool,
+    pub by_row: bool,
+    pub skipped: bool,
+    pub skipped16: bool,
 }
 
-// The same of the whole-number run, where an empty table has no name.
-pub fn skipped16(op: Opcode) -> bool
-    ensures { λ r. ⌜ r ≡ skipped16 (classOf op) ⌝ }
+pub fn facts_of(op: Opcode) -> Facts
+    ensures { λ r. ⌜ r ≡ factsOf (classOf op) ⌝ }
 {
     match class_of(op) {
-        Class::Table => false,
-        Class::Empty => false,
-        Class::Local => false,
-        Class::Repair => false,
-        Class::Unapplied => true,
+        Class::Table => Facts {
+            local: false,
+            repair: false,
+            by_row: true,
+            skipped: false,
+            skipped16: false,
+        },
+        // By rows it would have to be named.
+        Class::Empty => Facts {
+            local: false,
+            repair: false,
+            by_row: false,
+            skipped: true,
+            skipped16: false,
+        },
+        // Its values need not be whole.
+        Class::Local => Facts {
+            local: true,
+            repair: false,
+            by_row: true,
+            skipped: false,
+            skipped16: false,
+        },
+        // It looks at other rows.
+        Class::Repair => Facts {
+            local: false,
+            repair: true,
+            by_row: false,
+            skipped: false,
+            skipped16: false,
+        },
+        Class::Unapplied => Facts {
+            local: false,
+            repair: false,
+            by_row: true,
+            skipped: true,
+            skipped16: true,
+        },
     }
 }

@@ -1,12 +1,10 @@
--- What one item more means to the names: their number, and the buffer that holds them. Over what is skipped. Assumes nothing.
+-- What one item more means to the buffer that holds the names. Over what is skipped. Assumes nothing.
 use mathlib.Core.Path.{_≡_, refl, sym, ap, ap₂, _∙_}
 use mathlib.Core.Bool.{Bool, true, false, cond}
 use mathlib.Core.List.{List, [], _∷_, _++_}
-use Prim.Native.Nat.{ℕ, _+_, _≤_, _<_}
+use Prim.Native.Nat.{ℕ, _+_, _≤_}
 use native.Mathlib.Nat.{add-zero, zero-add}
-use native.Mathlib.Numerals.{add-one, one-add}
-use borrow.Author.Tests.{le-leb, lt-leb}
-use lib.Dec.{leb}
+use native.Mathlib.Numerals.{add-one}
 use lib.ListN.{length, set, drop}
 use lib.Seq.{sets, sets-eq, set-out}
 use Rattle.dng.specs.declared.Entry.{Entry}
@@ -14,7 +12,6 @@ use Rattle.dng.specs.declared.Opcode.{Opcode}
 use Rattle.dng.specs.List.{Item}
 use Rattle.dng.specs.Run.{Class, classOf, nameOf, namesOf}
 use Rattle.dng.specs.Answer.{written}
-use Rattle.list_names.specs.Names.{writtenIn}
 
 -- ---- one store, made or not
 
@@ -37,19 +34,8 @@ by :
 by true names j x r = ap (λ (i : ℕ). sets (set names j x) i r) (add-one j)
 by false names j x r = ap (λ (i : ℕ). sets names i r) (add-zero j)
 
-one : (k : Bool) (x : ℕ) (r : List ℕ) → cond k 1 0 + length r ≡ length (cond k (x ∷ r) r)
-one true x r = one-add (length r)
-one false x r = zero-add (length r)
-
 module _ (skip : Class → Bool) (e : Entry) (op : Opcode) {is rest : List Item} (more : is ≡ record { entry = e; op = op } ∷ rest)
     {b : Bool} {d : ℕ} (h : b ≡ skip (classOf op)) (i : d ≡ cond b 1 0) where
-  pub count-more : d + length (namesOf skip rest) ≡ length (namesOf skip is)
-  unfolding namesOf
-  count-more =
-      ap (λ (n : ℕ). n + length (namesOf skip rest)) (i ∙ ap (λ (k : Bool). cond k 1 0) h)
-      ∙ one (skip (classOf op)) (nameOf op) (namesOf skip rest)
-      ∙ sym (ap (λ (l : List Item). length (namesOf skip l)) more)
-
   pub put-more :
       (names : List ℕ) (j : ℕ) {names' : List ℕ} → names' ≡ cond (skip (classOf op)) (set names j (nameOf op)) names
       → sets names' (j + d) (namesOf skip rest) ≡ sets names j (namesOf skip is)
@@ -65,18 +51,7 @@ pub none : (skip : Class → Bool) {is : List Item} → is ≡ [] → namesOf sk
 unfolding namesOf
 none skip e = ap (namesOf skip) e
 
--- ---- all names, with room for them and without
+-- ---- all names, for a caller who has asked for room
 
-module _ (l b : List ℕ) where
-  pub room : length l ≤ length b → sets b 0 l ≡ writtenIn l b
-  unfolding writtenIn
-  room h = sets-eq l b 0 (rw zero-add h) ∙ simp (le-leb _ _ h, zero-add)
-
-  -- the same for a caller, who has asked for room
-  pub with-room : length l ≤ length b → writtenIn l b ≡ written l b
-  unfolding writtenIn
-  with-room h = simp (le-leb _ _ h)
-
-  pub no-names : length b < length l → b ≡ writtenIn l b
-  unfolding writtenIn
-  no-names h = simp (lt-leb _ _ h)
+pub with-room : (l b : List ℕ) → length l ≤ length b → sets b 0 l ≡ written l b
+with-room l b h = sets-eq l b 0 (rw zero-add h) ∙ simp zero-add

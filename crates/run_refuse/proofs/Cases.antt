@@ -1,10 +1,9 @@
 -- The plan at each way out of the code, from what its tests and calls have shown. Assumes nothing.
-use mathlib.Core.Path.{_≡_, sym, _∙_}
+use mathlib.Core.Path.{_≡_, sym, ap, _∙_}
 use mathlib.Core.Bool.{Bool, true, false}
 use mathlib.Core.List.{List}
 use Prim.Native.Nat.{ℕ, _≤_, _<_}
 use borrow.Author.Tests.{le-leb, lt-leb}
-use lib.ListN.{length}
 use Rattle.dng.specs.declared.Window.{Window}
 use Rattle.dng.specs.declared.RowWindow.{RowWindow}
 use Rattle.dng.specs.declared.Answer.the-variants as Ans
@@ -12,39 +11,64 @@ use Rattle.dng.specs.declared.RowAnswer.the-variants as Row
 use Rattle.dng.specs.declared.Reading.{Reading}
 use Rattle.dng.specs.declared.Reading.the-variants as R
 use Rattle.dng.specs.List.{Item, readingOf, itemsOf}
-use Rattle.dng.specs.Run.{Class, skipped, takes16, takesRows, namesOf}
+use Rattle.dng.specs.Run.{Class}
 use Rattle.dng.specs.Answer.{inRange, rowInRange}
 use Rattle.list_names.specs.Names.{skippedIn}
+use Rattle.list_survey.specs.declared.Survey.{Survey}
+use Rattle.list_survey.specs.declared.Surveyed.{Surveyed}
+use Rattle.list_survey.specs.Survey.{surveyOn, surveyOf}
 use Rattle.run_refuse.specs.declared.Plan.{Plan}
 use Rattle.run_refuse.specs.declared.Plan.the-variants as P
 use Rattle.run_refuse.specs.declared.RowPlan.{RowPlan}
 use Rattle.run_refuse.specs.declared.RowPlan.the-variants as RP
-use Rattle.run_refuse.specs.Plans.{takesIn, planOn, planOf, rowPlanOn, rowPlanOf}
+use Rattle.run_refuse.specs.Plans.{takesIn, planFor, formPlan, planOn, planOf, rowPlanFor, rowPlanOn, rowPlanOf}
 
-pub taken : {whole r : Bool} (is : List Item) → whole ≡ true → r ≡ takes16 is → r ≡ takesIn whole is
-taken is t e = simp t e
+-- ---- 3 and 4
 
-pub taken-all : {whole : Bool} (is : List Item) → whole ≡ false → true ≡ takesIn whole is
-taken-all is f = simp f
+module _ {taken : Bool} (names room : ℕ) where
+  pub not-taken : taken ≡ false → P.Refuse Ans.NotTaken ≡ planFor taken names room
+  unfolding planFor
+  not-taken f = simp f
 
-pub named :
-    {whole v : Bool} {n : ℕ} (is : List Item) → whole ≡ v → n ≡ length (namesOf (skippedIn v) is)
-    → n ≡ length (namesOf (skippedIn whole) is)
-named is t e = rw t e
+  pub no-room : taken ≡ true → room < names → P.Refuse Ans.Names ≡ planFor taken names room
+  unfolding planFor
+  no-room t l = simp (t, lt-leb _ _ l)
 
-module _ (takes : List Item → Bool) (skip : Class → Bool) (list : List ℕ) (room : ℕ) {b : Bool} (h : b ≡ takes (itemsOf list)) where
-  pub not-taken : b ≡ false → P.Refuse Ans.NotTaken ≡ planOn takes skip list room
-  unfolding planOn
-  not-taken f = simp (sym h ∙ f)
+  pub goes : taken ≡ true → names ≤ room → P.Go names ≡ planFor taken names room
+  unfolding planFor
+  goes t l = simp (t, le-leb _ _ l)
 
-  module _ (t : b ≡ true) {n : ℕ} (e : n ≡ length (namesOf skip (itemsOf list))) where
-    pub no-room : room < n → P.Refuse Ans.Names ≡ planOn takes skip list room
-    unfolding planOn
-    no-room l = simp (sym h ∙ t, sym e, lt-leb _ _ l)
+module _ {whole : Bool} (s : Survey) (room : ℕ) {p : Plan} where
+  pub wholes : whole ≡ true → p ≡ planFor (s .takes16) (s .skips16) room → p ≡ formPlan whole s room
+  unfolding formPlan
+  wholes t e = e ∙ simp t
 
-    pub goes : n ≤ room → P.Go n ≡ planOn takes skip list room
-    unfolding planOn
-    goes l = simp (sym h ∙ t, sym e, le-leb _ _ l)
+  pub floats : whole ≡ false → p ≡ planFor true (s .skips) room → p ≡ formPlan whole s room
+  unfolding formPlan
+  floats f e = e ∙ simp f
+
+-- ---- what was found of a list
+
+module _ (list : List ℕ) {v : Surveyed} (e : v ≡ surveyOf list) where
+  pub reading-is : v .reading ≡ readingOf list
+  unfolding surveyOf
+  reading-is = ap (λ (u : Surveyed). u .reading) e
+
+  survey-is : v .survey ≡ surveyOn (itemsOf list)
+  unfolding surveyOf
+  survey-is = ap (λ (u : Surveyed). u .survey) e
+
+  pub form-plan :
+      (whole : Bool) (room : ℕ) {p : Plan} → p ≡ formPlan whole (v .survey) room → p ≡ planOn (takesIn whole) (skippedIn whole) list room
+  unfolding surveyOn formPlan
+  form-plan true room h = h ∙ ap (λ (s : Survey). formPlan true s room) survey-is
+  form-plan false room h = h ∙ ap (λ (s : Survey). formPlan false s room) survey-is
+
+  pub row-plan : {p : RowPlan} → p ≡ rowPlanFor (v .survey .«takes_rows») (v .survey .skips) → p ≡ rowPlanOn list
+  unfolding surveyOn
+  row-plan h = h ∙ ap (λ (s : Survey). rowPlanFor (s .«takes_rows») (s .skips)) survey-is
+
+-- ---- 1 and 2
 
 module _ (takes : List Item → Bool) (skip : Class → Bool) (list : List ℕ) (w : Window) (period room : ℕ)
     {b : Bool} (h : b ≡ inRange w period) where
@@ -63,14 +87,14 @@ module _ (takes : List Item → Bool) (skip : Class → Bool) (list : List ℕ) 
 
 -- ---- a row
 
-module _ (list : List ℕ) {b : Bool} (h : b ≡ takesRows (itemsOf list)) where
-  pub row-not-taken : b ≡ false → RP.Refuse Row.NotTaken ≡ rowPlanOn list
-  unfolding rowPlanOn
-  row-not-taken f = simp (sym h ∙ f)
+module _ {taken : Bool} (names : ℕ) where
+  pub row-not-taken : taken ≡ false → RP.Refuse Row.NotTaken ≡ rowPlanFor taken names
+  unfolding rowPlanFor
+  row-not-taken f = simp f
 
-  pub row-goes : b ≡ true → {n : ℕ} → n ≡ length (namesOf skipped (itemsOf list)) → RP.Go n ≡ rowPlanOn list
-  unfolding rowPlanOn
-  row-goes t e = simp (sym h ∙ t, sym e)
+  pub row-goes : taken ≡ true → RP.Go names ≡ rowPlanFor taken names
+  unfolding rowPlanFor
+  row-goes t = simp t
 
 module _ (list : List ℕ) (w : RowWindow) (y n : ℕ) {b : Bool} (h : b ≡ rowInRange w y n) where
   pub row-out-of-range : b ≡ false → RP.Refuse Row.Range ≡ rowPlanOf list w y n

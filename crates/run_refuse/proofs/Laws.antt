@@ -26,7 +26,7 @@ use Rattle.run_refuse.specs.declared.Plan.{Plan}
 use Rattle.run_refuse.specs.declared.Plan.the-variants as P
 use Rattle.run_refuse.specs.declared.RowPlan.{RowPlan}
 use Rattle.run_refuse.specs.declared.RowPlan.the-variants as RP
-use Rattle.run_refuse.specs.Plans.{planOn, planRead, planOf, rowPlanOn, rowPlanRead, rowPlanOf}
+use Rattle.run_refuse.specs.Plans.{planFor, planOn, planRead, planOf, rowPlanFor, rowPlanOn, rowPlanRead, rowPlanOf}
 
 counted-whole : (list : List ℕ) {n : ℕ} → readingOf list ≡ R.Whole n → readingOf list ≡ R.Whole (countOf list)
 counted-whole list e = e ∙ ap R.Whole (accepted list e .1)
@@ -43,7 +43,7 @@ module _ {A : Type 0} (kind : Kind A) (takes : List Item → Bool) (skip : Class
   planned (P.Go n) = performed
 
   ran-planned : ranOn kind takes skip w period room list s names ≡ planned (planOn takes skip list (length names))
-  unfolding ranOn planOn
+  unfolding ranOn planFor
   ran-planned = go (takes (itemsOf list)) (leb (length (namesOf skip (itemsOf list))) (length names))
     where
       go :
@@ -95,7 +95,7 @@ module _ (takes : List Item → Bool) (skip : Class → Bool) (list : List ℕ) 
   settled-on :
       inRange w period ≡ true → readingOf list ≡ R.Whole (countOf list) → planOn takes skip list room ≡ P.Go n
       → Settled takes skip list w period room n
-  unfolding planOn
+  unfolding planFor
   settled-on i r = go (takes (itemsOf list)) (leb (length (namesOf skip (itemsOf list))) room) refl (λ l. leb-true _ _ l)
     where
       go :
@@ -128,7 +128,7 @@ module _ (w : RowWindow) (scale : Float) (y : ℕ) (list : List ℕ) (row : List
       record { answer = Row.Done n; row = rowOn (rowFrameOf w scale) (w .x0) (w .planes) y list (itemsOf list) row }
 
   row-planned : rowOut w scale y list row ≡ rowPlanned (rowPlanOf list w y (length row))
-  unfolding rowOut rowPlanOf rowPlanOn
+  unfolding rowOut rowPlanOf rowPlanFor
   row-planned = go (rowInRange w y (length row)) (readingOf list)
     where
       taken :
@@ -174,7 +174,7 @@ row-refused e = let z : _≡_ {A = ℕ} 0 1 = cc in omega arith
 module _ (list : List ℕ) (w : RowWindow) (y m : ℕ) {n : ℕ} where
   row-settled-on :
       rowInRange w y m ≡ true → readingOf list ≡ R.Whole (countOf list) → rowPlanOn list ≡ RP.Go n → RowSettled list w y m n
-  unfolding rowPlanOn
+  unfolding rowPlanFor
   row-settled-on i r = go (takesRows (itemsOf list)) refl
     where
       go :

@@ -14,6 +14,7 @@ use Rattle.dng.specs.declared.Reading.the-variants as R
 use Rattle.dng.specs.List.{Item, readingOf, itemsOf}
 use Rattle.dng.specs.Run.{Class, skipped, takes16, takesRows, namesOf}
 use Rattle.dng.specs.Answer.{inRange, rowInRange, takesAll}
+use Rattle.list_survey.specs.declared.Survey.{Survey}
 use Rattle.run_refuse.specs.declared.Plan.{Plan}
 use Rattle.run_refuse.specs.declared.Plan.the-variants as P
 use Rattle.run_refuse.specs.declared.RowPlan.{RowPlan}
@@ -24,13 +25,19 @@ abbrev pub takesIn : (whole : Bool) → List Item → Bool
 takesIn true = takes16
 takesIn false = takesAll
 
+-- a list that is read whole: 3, then 4
+unfoldable pub planFor : (taken : Bool) → (names room : ℕ) → Plan
+planFor taken names room =
+    cond taken (cond (leb names room) (P.Go names) (P.Refuse Ans.Names)) (P.Refuse Ans.NotTaken)
+
+-- the same by what was found of the list
+unfoldable pub formPlan : (whole : Bool) → Survey → (room : ℕ) → Plan
+formPlan true s room = planFor (s .takes16) (s .skips16) room
+formPlan false s room = planFor true (s .skips) room
+
 module _ (takes : List Item → Bool) (skip : Class → Bool) where
-  -- a list that is read whole: 3, then 4
-  unfoldable pub planOn : List ℕ → (room : ℕ) → Plan
-  planOn list room =
-      cond (takes (itemsOf list))
-      (cond (leb (length (namesOf skip (itemsOf list))) room) (P.Go (length (namesOf skip (itemsOf list)))) (P.Refuse Ans.Names))
-      (P.Refuse Ans.NotTaken)
+  abbrev pub planOn : List ℕ → (room : ℕ) → Plan
+  planOn list room = planFor (takes (itemsOf list)) (length (namesOf skip (itemsOf list))) room
 
   abbrev pub planRead : List ℕ → (room : ℕ) → Reading → Plan
   planRead list room (R.Whole n) = planOn list room
@@ -41,9 +48,11 @@ module _ (takes : List Item → Bool) (skip : Class → Bool) where
   planOf list w period room = cond (inRange w period) (planRead list room (readingOf list)) (P.Refuse Ans.Range)
 
 -- a row: 1, 2, 3
-unfoldable pub rowPlanOn : List ℕ → RowPlan
-rowPlanOn list =
-    cond (takesRows (itemsOf list)) (RP.Go (length (namesOf skipped (itemsOf list)))) (RP.Refuse Row.NotTaken)
+unfoldable pub rowPlanFor : (taken : Bool) → (names : ℕ) → RowPlan
+rowPlanFor taken names = cond taken (RP.Go names) (RP.Refuse Row.NotTaken)
+
+abbrev pub rowPlanOn : List ℕ → RowPlan
+rowPlanOn list = rowPlanFor (takesRows (itemsOf list)) (length (namesOf skipped (itemsOf list)))
 
 abbrev pub rowPlanRead : List ℕ → Reading → RowPlan
 rowPlanRead list (R.Whole n) = rowPlanOn list

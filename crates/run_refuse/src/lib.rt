@@ -4,13 +4,12 @@ use dng::Reading;
 use dng::RowAnswer;
 use dng::RowWindow;
 use dng::Window;
+use list_survey::Survey;
 ghost use mathlib.Core.Path.{_≡_};
-ghost use lib.ListN.{length};
-ghost use Rattle.dng.specs.List.{itemsOf};
-ghost use Rattle.dng.specs.Run.{takes16, skipped, skipped16, namesOf};
+ghost use Rattle.dng.specs.Run.{takes16, skipped, skipped16};
 ghost use Rattle.dng.specs.Answer.{takesAll};
 ghost use Rattle.list_names.specs.Names.{skippedIn};
-ghost use Rattle.run_refuse.specs.Plans.{takesIn, planOn, planOf, rowPlanOn, rowPlanOf};
+ghost use Rattle.run_refuse.specs.Plans.{takesIn, planFor, formPlan, planOf, rowPlanFor, rowPlanOf};
 
 // What a run is to do: answer so and leave everything, or go on, with so many names to write at its end.
 pub enum Plan {
@@ -24,44 +23,32 @@ pub enum RowPlan {
     Go { skipped: usize },
 }
 
-// Which lists a form takes: the f32 run every one. `whole` asks for the whole-number form.
-fn takes(list: &[u8], whole: bool) -> bool
-    ensures { λ r. ⌜ r ≡ takesIn whole (itemsOf (now (list .entry))) ⌝ }
+// 3 and 4, of a list that is read whole and has so many names.
+fn settle_read(taken: bool, names: usize, room: usize) -> Plan
+    ensures { λ r. ⌜ r ≡ planFor taken names room ⌝ }
 {
-    if whole {
-        list_takes::u16_exact(list)
-    } else {
-        true
-    }
-}
-
-// How many names a form writes.
-fn names_in(list: &[u8], whole: bool) -> usize
-    ensures { λ r. ⌜ r ≡ length (namesOf (skippedIn whole) (itemsOf (now (list .entry)))) ⌝ }
-{
-    if whole {
-        list_names::skipped16_count(list)
-    } else {
-        list_names::skipped_count(list)
-    }
-}
-
-// 3 and 4, of a list that is read whole.
-fn settle_read(list: &[u8], room: usize, whole: bool) -> Plan
-    ensures { λ r. ⌜ r ≡ planOn (takesIn whole) (skippedIn whole) (now (list .entry)) room ⌝ }
-{
-    if !takes(list, whole) {
+    if !taken {
         return Plan::Refuse {
             answer: Answer::NotTaken,
         };
     }
-    let n = names_in(list, whole);
-    if room < n {
+    if room < names {
         return Plan::Refuse {
             answer: Answer::Names,
         };
     }
-    Plan::Go { names: n }
+    Plan::Go { names }
+}
+
+// `whole` asks for the whole-number form; the f32 run takes every list.
+fn settle_form(s: Survey, room: usize, whole: bool) -> Plan
+    ensures { λ r. ⌜ r ≡ formPlan whole s room ⌝ }
+{
+    if whole {
+        settle_read(s.takes16, s.skips16, room)
+    } else {
+        settle_read(true, s.skips, room)
+    }
 }
 
 // The ranges come before the list is looked at.
@@ -73,8 +60,11 @@ fn settle(list: &[u8], w: Window, period: usize, room: usize, whole: bool) -> Pl
             answer: Answer::Range,
         };
     }
-    match list_read::read(list) {
-        Reading::Whole { opcodes: _ } => settle_read(list, room, whole),
+    let found = list_survey::read(list);
+    let survey = found.survey;
+    let reading = found.reading;
+    match reading {
+        Reading::Whole { opcodes: _ } => settle_form(survey, room, whole),
         Reading::Malformed { after } => Plan::Refuse {
             answer: Answer::Malformed { entry: after },
         },
@@ -96,17 +86,15 @@ pub fn settle_u16(list: &[u8], w: Window, period: usize, room: usize) -> Plan
 }
 
 // A row of a list that is read whole: 3 alone is left.
-fn settle_row_read(list: &[u8]) -> RowPlan
-    ensures { λ r. ⌜ r ≡ rowPlanOn (now (list .entry)) ⌝ }
+fn settle_row_read(s: Survey) -> RowPlan
+    ensures { λ r. ⌜ r ≡ rowPlanFor (s .«takes_rows») (s .skips) ⌝ }
 {
-    if !list_takes::row_takes(list) {
+    if !s.takes_rows {
         return RowPlan::Refuse {
             answer: RowAnswer::NotTaken,
         };
     }
-    RowPlan::Go {
-        skipped: list_names::skipped_count(list),
-    }
+    RowPlan::Go { skipped: s.skips }
 }
 
 // A lent row of n samples, the row y of the image.
@@ -118,8 +106,11 @@ pub fn settle_row(list: &[u8], w: RowWindow, y: usize, n: usize) -> RowPlan
             answer: RowAnswer::Range,
         };
     }
-    match list_read::read(list) {
-        Reading::Whole { opcodes: _ } => settle_row_read(list),
+    let found = list_survey::read(list);
+    let survey = found.survey;
+    let reading = found.reading;
+    match reading {
+        Reading::Whole { opcodes: _ } => settle_row_read(survey),
         Reading::Malformed { after } => RowPlan::Refuse {
             answer: RowAnswer::Malformed { entry: after },
         },

@@ -5,12 +5,13 @@ use mathlib.Core.List.{List}
 use Prim.Native.Nat.{ℕ, _≤_}
 use lib.Ieee.{Float}
 use lib.ListN.{length}
+use lib.Seq.{sets}
 use Rattle.dng.specs.declared.Window.{Window}
 use Rattle.dng.specs.declared.Answer.{Answer}
 use Rattle.dng.specs.List.{Item, itemsOf}
 use Rattle.dng.specs.Run.{Kind, Class, namesOf, going, Room, performAll}
 use Rattle.dng.specs.Answer.{inRange, Out, finished, runOut, Ran}
-use Rattle.list_names.specs.Names.{skippedIn, writtenIn}
+use Rattle.list_names.specs.Names.{skippedIn}
 use Rattle.list_names.proofs.Laws.{with-room}
 use Rattle.run_refuse.specs.declared.Plan.{Plan}
 use Rattle.run_refuse.specs.declared.Plan.the-variants as Go
@@ -33,11 +34,11 @@ is p e =
 -- written once all is performed, by the form that was told
 pub when-done :
     (list names : List ℕ) {done whole b : Bool} {names′ : List ℕ} → done ≡ true → whole ≡ b
-    → names′ ≡ writtenIn (namesOf (skippedIn b) (itemsOf list)) names
-    → names′ ≡ cond done (writtenIn (namesOf (skippedIn whole) (itemsOf list)) names) names
+    → names′ ≡ sets names 0 (namesOf (skippedIn b) (itemsOf list))
+    → names′ ≡ cond done (sets names 0 (namesOf (skippedIn whole) (itemsOf list))) names
 when-done list names d e h =
     h
-    ∙ sym (ap₂ (λ (k f : Bool). cond k (writtenIn (namesOf (skippedIn f) (itemsOf list)) names) names) d e)
+    ∙ sym (ap₂ (λ (k f : Bool). cond k (sets names 0 (namesOf (skippedIn f) (itemsOf list))) names) d e)
 
 module _ {A : Type 0} (kind : Kind A) (takes : List Item → Bool) (skip : Class → Bool) (w : Window) (period : ℕ) (room : Room)
     (list : List ℕ) (s : List A) (names : List ℕ) {p : Plan} (plan : p ≡ planOf takes skip list w period (length names)) where
@@ -56,11 +57,11 @@ module _ {A : Type 0} (kind : Kind A) (takes : List Item → Bool) (skip : Class
     pub ended :
         (d : Performed) {done : Bool} {r : Answer} {s′ : List A} {names′ : List ℕ}
         → progressOf d s′ ≡ performAll kind w period room list 0 (itemsOf list) (going s 0 0)
-        → done ≡ isDone d → names′ ≡ cond done (writtenIn (namesOf skip (itemsOf list)) names) names → r ≡ answerOf d n
+        → done ≡ isDone d → names′ ≡ cond done (sets names 0 (namesOf skip (itemsOf list))) names → r ≡ answerOf d n
         → Is (runOut kind takes skip w period room list s names) r s′ names′
     ended d {s′ = s′} {names′} e b h a =
         go d (performs kind takes skip w period room list s names (sym plan ∙ q) ∙ ap (finished (namesOf skip (itemsOf list)) names) (sym e))
-        (h ∙ ap (λ (k : Bool). cond k (writtenIn (namesOf skip (itemsOf list)) names) names) b) a
+        (h ∙ ap (λ (k : Bool). cond k (sets names 0 (namesOf skip (itemsOf list))) names) b) a
       where
         fits : length (namesOf skip (itemsOf list)) ≤ length names
         fits = rw (sym (known .many)) (known .fits)
@@ -68,7 +69,7 @@ module _ {A : Type 0} (kind : Kind A) (takes : List Item → Bool) (skip : Class
         go :
             (d : Performed) {r : Answer}
             → runOut kind takes skip w period room list s names ≡ finished (namesOf skip (itemsOf list)) names (progressOf d s′)
-            → names′ ≡ cond (isDone d) (writtenIn (namesOf skip (itemsOf list)) names) names → r ≡ answerOf d n
+            → names′ ≡ cond (isDone d) (sets names 0 (namesOf skip (itemsOf list))) names → r ≡ answerOf d n
             → Is (runOut kind takes skip w period room list s names) r s′ names′
         go (P.All x y) o h a =
             let i = is _ o in

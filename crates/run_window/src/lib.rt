@@ -7,10 +7,11 @@ use run_refuse::Plan;
 ghost use mathlib.Core.Path.{_≡_};
 ghost use mathlib.Core.Bool.{cond};
 ghost use lib.ListN.{length};
+ghost use lib.Seq.{sets};
 ghost use Rattle.dng.specs.List.{itemsOf};
 ghost use Rattle.dng.specs.Run.{namesOf};
 ghost use Rattle.dng.specs.Answer.{f32Out, u16Out, Ran};
-ghost use Rattle.list_names.specs.Names.{skippedIn, writtenIn};
+ghost use Rattle.list_names.specs.Names.{skippedIn};
 ghost use Rattle.run_window.specs.Runs.{isDone, answerOf, Is, Clear};
 
 // ---- the end of a run
@@ -45,7 +46,7 @@ fn answer_of(p: Performed, n: usize) -> Answer
 fn name(list: &[u8], names: &mut [u8], done: bool, whole: bool)
     ensures { λ _.
         ⌜ now (names .exit)
-        ≡ cond done (writtenIn (namesOf (skippedIn whole) (itemsOf (now (list .entry)))) (now (names .entry))) (now (names .entry)) ⌝ }
+        ≡ cond done (sets (now (names .entry)) 0 (namesOf (skippedIn whole) (itemsOf (now (list .entry))))) (now (names .entry)) ⌝ }
 {
     if done {
         if whole {

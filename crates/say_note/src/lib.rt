@@ -42,7 +42,10 @@ fn is_in(part: Part, op: Opcode) -> bool
 {
     match part {
         Part::Pixel => is_pixel(op),
-        Part::Skipped => list_classes::skipped(op),
+        Part::Skipped => {
+            let f = list_classes::facts_of(op);
+            f.skipped
+        }
         Part::Every => true,
     }
 }

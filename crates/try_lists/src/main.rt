@@ -46,11 +46,14 @@ fn print_taken(text: &[u8], taken: bool) {
 
 fn print(text: &[u8], list: &[u8]) {
     io::write_all(STDOUT_FILENO, text);
-    print_reading(list_read::read(list));
-    number(b"; skipped ", list_names::skipped_count(list));
-    number(b", ", list_names::skipped16_count(list));
-    print_taken(b"; whole-number form ", list_takes::u16_exact(list));
-    print_taken(b", row form ", list_takes::row_takes(list));
+    let found = list_survey::read(list);
+    let survey = found.survey;
+    let reading = found.reading;
+    print_reading(reading);
+    number(b"; skipped ", survey.skips);
+    number(b", ", survey.skips16);
+    print_taken(b"; whole-number form ", survey.takes16);
+    print_taken(b", row form ", survey.takes_rows);
     io::write_all(STDOUT_FILENO, b"\n");
 }
 

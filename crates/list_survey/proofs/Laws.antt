@@ -1,0 +1,155 @@
+-- What the pass over a list has counted is what the definitions say of its entries: fact by fact over any entries, and at each way out.
+-- Assumes nothing.
+use Prim.Native.Nat.{ℕ, _+_, _≤_}
+use mathlib.Core.Path.{_≡_, refl, sym, ap, ap₂, _∙_}
+use mathlib.Core.Bool.{Bool, true, false, not, _&&_, _||_, cond}
+use mathlib.Core.List.{List, [], _∷_}
+use native.Mathlib.Nat.{le-trans}
+use native.Mathlib.Omega.{arith}
+use lib.ListN.{length}
+use Rattle.dng.specs.declared.Entry.{Entry}
+use Rattle.dng.specs.declared.Opcode.{Opcode}
+use Rattle.dng.specs.declared.Reading.{Reading}
+use Rattle.dng.specs.declared.Reading.the-variants as R
+use Rattle.dng.specs.List.{Item, itemsOf, readingOf}
+use Rattle.dng.specs.Run.{Class, table, empty, local, repair, unapplied, classOf, nameOf, skipped, skipped16, takes16On, takes16From, takes16, rowTakes, takesRows, namesOf}
+use Rattle.list_classes.specs.declared.Facts.{Facts}
+use Rattle.list_classes.specs.Classes.{isLocal, isRepair, factsOf}
+use Rattle.list_read.proofs.Fold.{items-bound, refused}
+use Rattle.list_survey.specs.declared.Surveyed.{Surveyed}
+use Rattle.list_survey.specs.declared.Tally.{Tally}
+use Rattle.list_survey.specs.Survey.{turnOn, surveyOn, surveyOf, surveyedBy}
+
+abbrev pub begun : Tally
+begun = record { free = true; takes16 = true; «takes_rows» = true; skips = 0; skips16 = 0 }
+
+-- one turn, from what was asked of the opcode
+pub turned :
+    (t : Tally) (k : Class) {f : Facts} {a b : ℕ} → f ≡ factsOf k → a ≡ cond (f .skipped) 1 0 → b ≡ cond (f .skipped16) 1 0
+    → record {
+      free = t .free && not (f .repair);
+      takes16 = t .takes16 && (not (f .local) && (t .free || not (f .repair)));
+      «takes_rows» = t .«takes_rows» && f .«by_row»;
+      skips = t .skips + a;
+      skips16 = t .skips16 + b;
+    } ≡ turnOn (factsOf k) t
+unfolding turnOn
+turned t k e p q = simp (p, q) (ap (λ (g : Facts). turnOn g t) e)
+
+-- ---- the turns one after another
+
+unfoldable pub tallyFrom : Tally → List Item → Tally
+tallyFrom t [] = t
+tallyFrom t (i ∷ is) = tallyFrom (turnOn (factsOf (classOf (i .op))) t) is
+
+one : (k : Bool) (x : ℕ) (r : List ℕ) (m : ℕ) → m + cond k 1 0 + length r ≡ m + length (cond k (x ∷ r) r)
+one true x r m = omega arith
+one false x r m = omega arith
+
+pub skips-all : (t : Tally) (is : List Item) → tallyFrom t is .skips ≡ t .skips + length (namesOf skipped is)
+unfolding tallyFrom turnOn namesOf
+skips-all t [] = omega arith
+skips-all t (i ∷ is) =
+    skips-all (turnOn (factsOf (classOf (i .op))) t) is ∙ one (skipped (classOf (i .op))) (nameOf (i .op)) (namesOf skipped is) (t .skips)
+
+pub skips16-all : (t : Tally) (is : List Item) → tallyFrom t is .skips16 ≡ t .skips16 + length (namesOf skipped16 is)
+unfolding tallyFrom turnOn namesOf
+skips16-all t [] = omega arith
+skips16-all t (i ∷ is) =
+    skips16-all (turnOn (factsOf (classOf (i .op))) t) is
+    ∙ one (skipped16 (classOf (i .op))) (nameOf (i .op)) (namesOf skipped16 is) (t .skips16)
+
+and-true : (a : Bool) → a ≡ (a && true)
+and-true true = refl
+and-true false = refl
+
+and-and : (a b c : Bool) → ((a && b) && c) ≡ (a && (b && c))
+and-and true b c = refl
+and-and false b c = refl
+
+pub rows-all : (t : Tally) (is : List Item) → tallyFrom t is .«takes_rows» ≡ (t .«takes_rows» && takesRows is)
+unfolding tallyFrom turnOn takesRows
+rows-all t [] = and-true (t .«takes_rows»)
+rows-all t (i ∷ is) =
+    rows-all (turnOn (factsOf (classOf (i .op))) t) is ∙ and-and (t .«takes_rows») (rowTakes (classOf (i .op))) (takesRows is)
+
+-- one opcode's part in what the whole-number form takes
+on16 :
+    (k : Class) (w free : Bool) (rest : Bool → Bool)
+    → ((w && (not (isLocal k) && (free || not (isRepair k)))) && rest (free && not (isRepair k))) ≡ (w && takes16On k free rest)
+unfolding takes16On
+on16 table true true rest = refl
+on16 table true false rest = refl
+on16 empty true true rest = refl
+on16 empty true false rest = refl
+on16 local true free rest = refl
+on16 repair true true rest = refl
+on16 repair true false rest = refl
+on16 unapplied true true rest = refl
+on16 unapplied true false rest = refl
+on16 k false free rest = refl
+
+pub takes-all : (t : Tally) (is : List Item) → tallyFrom t is .takes16 ≡ (t .takes16 && takes16From (t .free) is)
+unfolding tallyFrom turnOn takes16From
+takes-all t [] = and-true (t .takes16)
+takes-all t (i ∷ is) =
+    takes-all (turnOn (factsOf (classOf (i .op))) t) is
+    ∙ on16 (classOf (i .op)) (t .takes16) (t .free) (λ (f : Bool). takes16From f is)
+
+-- ---- the loop: one entry more, no entry more, and that no count wraps
+
+pub more :
+    (t : Tally) {u : Tally} {is rest : List Item} {e : Entry} {op : Opcode} → is ≡ record { entry = e; op = op } ∷ rest
+    → u ≡ turnOn (factsOf (classOf op)) t → tallyFrom u rest ≡ tallyFrom t is
+unfolding tallyFrom
+more t {rest = rest} p q = ap (λ (v : Tally). tallyFrom v rest) q ∙ sym (ap (tallyFrom t) p)
+
+pub no-more : (t : Tally) {is : List Item} → is ≡ [] → t ≡ tallyFrom t is
+unfolding tallyFrom
+no-more t p = sym (ap (tallyFrom t) p)
+
+names-bound : (skip : Class → Bool) (is : List Item) → length (namesOf skip is) ≤ length is
+unfolding namesOf
+names-bound skip [] = omega arith
+names-bound skip (i ∷ is) = go (skip (classOf (i .op))) (names-bound skip is)
+  where
+    go : (b : Bool) → length (namesOf skip is) ≤ length is → length (cond b (nameOf (i .op) ∷ namesOf skip is) (namesOf skip is)) ≤ length (i ∷ is)
+    go true h = omega arith
+    go false h = omega arith
+
+pub small :
+    (s : List ℕ) (t : Tally) (is : List Item) → tallyFrom t is ≡ tallyFrom begun (itemsOf s) → (t .skips ≤ 4096) × (t .skips16 ≤ 4096)
+small s t is e =
+    let a = ap (λ (u : Tally). u .skips) e ∙ skips-all begun (itemsOf s) in
+    let b = ap (λ (u : Tally). u .skips16) e ∙ skips16-all begun (itemsOf s) in (
+      omega (arith, a, skips-all t is, names-bound skipped (itemsOf s), items-bound s),
+      omega (arith, b, skips16-all t is, names-bound skipped16 (itemsOf s), items-bound s),
+    )
+
+-- ---- the ways out
+
+zero-plus : (n : ℕ) → 0 + n ≡ n
+zero-plus n = omega arith
+
+pub known :
+    (s : List ℕ) (t : Tally) {v : Surveyed} {r : Reading} {n : ℕ} → v ≡ surveyedBy r n t → r ≡ readingOf s → n ≡ length (itemsOf s)
+    → t ≡ tallyFrom begun (itemsOf s) → v ≡ surveyOf s
+unfolding surveyOf surveyOn
+known s t {r = r} {n = n} h p q e =
+    h
+    ∙ ap (λ (u : Tally). surveyedBy r n u) e
+    ∙ simp (
+      p,
+      q,
+      takes-all begun (itemsOf s),
+      rows-all begun (itemsOf s),
+      skips-all begun (itemsOf s) ∙ zero-plus _,
+      skips16-all begun (itemsOf s) ∙ zero-plus _,
+    )
+
+pub none : (s : List ℕ) → R.Malformed 0 ≡ readingOf s → (0 ≡ length (itemsOf s)) × (begun ≡ tallyFrom begun (itemsOf s))
+none s e = let z = refused s (sym e) in (sym z, no-more begun (empty-list (itemsOf s) z))
+  where
+    empty-list : (is : List Item) → length is ≡ 0 → is ≡ []
+    empty-list [] h = refl
+    empty-list (i ∷ is) h = absurd (omega (arith, h))
