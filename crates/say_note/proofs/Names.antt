@@ -12,47 +12,9 @@ use lib.Seq.{take-suc, drop-cons}
 use Rattle.num_text.specs.Text.{text, decimal}
 use Rattle.num_text.specs.Appended.{Appended}
 use Rattle.num_text.proofs.Laws.{appended-as}
-use Rattle.say_note.specs.Note.{nameTexts, nameText, occurs, item, firsts, behind, joined, names, about, malformedAfter}
+use Rattle.say_name.specs.Name.{nameText}
+use Rattle.say_note.specs.Note.{occurs, item, firsts, behind, joined, names, about, malformedAfter}
 use Rattle.say_note.specs.Parts.{pieceAt}
-
--- ---- one name
-
--- a name put down, by the code that it was found by
-pub named : {b p o : List ℕ} {at r : ℕ} {code : ℕ} (k : ℕ) → code ≡ k → p ≡ nameText k → Appended b at p r o → Appended b at (nameText code) r o
-named k e t a = appended-as (t ∙ ap nameText (sym e)) a
-
-pub named-fits : (code at l k : ℕ) → code ≡ k → at + length (nameText code) ≤ l → at + length (nameText k) ≤ l
-named-fits code at l k e h = rw (sym e) h
-
--- none of the k codes from a on
-abbrev pub None : (code a k : ℕ) → Type 0
-None code a zero = Unit
-None code a (suc k) = None code a k × (code ≡ a + k → ⊥)
-
-past : (code a k : ℕ) → None code a k → a ≤ code → a + k ≤ code
-past code a zero n h = omega arith
-past code a (suc k) n h = let l = past code a k (n .0) h in let e = n .1 in omega (arith, l, e)
-
-pub low-other : (code : ℕ) → code < 7 → None code 1 6 → 0 < code → 14 ≤ code
-low-other code h n i = omega (arith, h, past code 1 6 n i)
-
-pub high-other : (code : ℕ) → 7 ≤ code → None code 7 7 → 0 < code → 14 ≤ code
-high-other code h n i = past code 7 7 n h
-
-module _ (code : ℕ) (h : 0 < code → 14 ≤ code) where
-  other : nameText code ≡ text "Other"
-  unfolding nameText
-  other = go code h
-    where
-      go : (n : ℕ) → (0 < n → 14 ≤ n) → getD nameTexts n (text "Other") ≡ text "Other"
-      go zero h = refl
-      go (suc n) h = List·getD-eq-default nameTexts (text "Other") (h (omega arith))
-
-  pub named-other : {b o : List ℕ} {at r : ℕ} → Appended b at (text "Other") r o → Appended b at (nameText code) r o
-  named-other a = appended-as (sym other) a
-
-  pub other-fits : (at l : ℕ) → at + length (nameText code) ≤ l → at + 5 ≤ l
-  other-fits at l i = omega (arith, i, ap length other)
 
 -- ---- a name and how often it occurs
 

@@ -17,7 +17,8 @@ use Rattle.dng.specs.declared.Reading.the-variants as R
 use Rattle.dng.specs.List.{Item, readingOf, itemsOf}
 use Rattle.dng.specs.Run.{Class, classOf, nameOf, namesOf, skipped}
 use Rattle.list_read.proofs.Fold.{items-bound, refused}
-use Rattle.say_note.specs.Note.{nameTexts, nameText, occurs, item, firsts, behind, joined, names, about, pixel, every, applied, notApplied, lines, linesOf, malformedAfter, noteOn, noteOf}
+use Rattle.say_name.specs.Name.{nameTexts, nameText}
+use Rattle.say_note.specs.Note.{occurs, item, firsts, behind, joined, names, about, pixel, every, applied, notApplied, lines, linesOf, malformedAfter, noteOn, noteOf}
 use Rattle.say_note.proofs.Parts.{occurs-append}
 use Rattle.say_note.proofs.Names.{malformed-length}
 

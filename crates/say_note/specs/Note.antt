@@ -3,25 +3,15 @@ use Prim.Native.Nat.{ℕ, _+_}
 use mathlib.Core.Bool.{Bool, true, false, cond}
 use mathlib.Core.List.{List, [], _∷_, _++_, map}
 use lib.Dec.{eqb, ltb}
-use lib.ListN.{length, getD}
+use lib.ListN.{length}
 use Rattle.num_text.specs.Text.{text, decimal}
+use Rattle.say_name.specs.Name.{nameText}
 use Rattle.dng.specs.declared.Reading.{Reading}
 use Rattle.dng.specs.declared.Reading.the-variants as R
 use Rattle.dng.specs.List.{Item, readingOf, itemsOf}
 use Rattle.dng.specs.Run.{Class, table, empty, local, repair, unapplied, namesOf, skipped}
 
 -- ---- names
-
--- The names of the opcodes, by id; `Other`, whatever its id, is named by 0 (dng/specs/Run, nameOf). So opcodes have one name where they have one
--- kind, and all ids of no opcode count as one name, as in the Rust (000, `Opcode::name`).
-abbrev pub nameTexts : List (List ℕ)
-nameTexts =
-    text "Other" ∷ text "WarpRectilinear" ∷ text "WarpFisheye" ∷ text "FixVignetteRadial" ∷ text "FixBadPixelsConstant"
-    ∷ text "FixBadPixelsList" ∷ text "TrimBounds" ∷ text "MapTable" ∷ text "MapPolynomial" ∷ text "GainMap" ∷ text "DeltaPerRow"
-    ∷ text "DeltaPerColumn" ∷ text "ScalePerRow" ∷ text "ScalePerColumn" ∷ []
-
-unfoldable pub nameText : ℕ → List ℕ
-nameText id = getD nameTexts id (text "Other")
 
 -- how often a name occurs
 unfoldable pub occurs : ℕ → List ℕ → ℕ

@@ -7,7 +7,8 @@ use Rattle.num_text.specs.Text.{text, decimal, digitsIn}
 use Rattle.dng.specs.List.{readingOf, itemsOf, counted, readFrom, stepAt, nextAt, parsedAt, warpAt, polynomialAt, countedAt, gainAt, badListAt}
 use Rattle.dng.specs.Run.{namesOf}
 use Rattle.dng.specs.Frames.{word, words, entry}
-use Rattle.say_note.specs.Note.{nameText, occurs, item, firsts, behind, joined, names, about, lines, malformedAfter, noteOn, noteOf}
+use Rattle.say_name.specs.Name.{nameText}
+use Rattle.say_note.specs.Note.{occurs, item, firsts, behind, joined, names, about, lines, malformedAfter, noteOn, noteOf}
 
 abbrev pub fisheye : List ℕ
 fisheye = entry 2 []

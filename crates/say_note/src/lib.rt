@@ -13,7 +13,7 @@ ghost use lib.ListN.{length, getD, take};
 ghost use Rattle.num_text.specs.Appended.{Appended};
 ghost use Rattle.dng.specs.List.{itemsOf};
 ghost use Rattle.dng.specs.Run.{classOf, nameOf, namesOf};
-ghost use Rattle.say_note.specs.Note.{pixel, nameText, occurs, item, names, about, linesOf, malformedAfter, noteOf};
+ghost use Rattle.say_note.specs.Note.{pixel, occurs, item, names, about, linesOf, malformedAfter, noteOf};
 ghost use Rattle.say_note.specs.Parts.{partOf, pieceAt, Noted};
 
 // Which opcodes a line is about: the pixel opcodes, those that the f32 run skips, or all.
@@ -86,62 +86,13 @@ fn collect(list: &[u8], part: Part, codes: &mut [u8]) -> usize
 
 // ---- names
 
-// The names of ids below 7. They are in two functions because a function with all of them takes long to prove.
-fn put_low_name(out: &mut [u8], at: usize, code: u8) -> usize
-    requires { ⌜ (code < 7) × (at + length (nameText code) ≤ length (now out)) ⌝ }
-    ensures { λ r. ⌜ Appended (now (out .entry)) at (nameText code) r (now (out .exit)) ⌝ }
-{
-    match code {
-        1 => num_text::put(&mut *out, at, b"WarpRectilinear"),
-        2 => num_text::put(&mut *out, at, b"WarpFisheye"),
-        3 => num_text::put(&mut *out, at, b"FixVignetteRadial"),
-        4 => num_text::put(&mut *out, at, b"FixBadPixelsConstant"),
-        5 => num_text::put(&mut *out, at, b"FixBadPixelsList"),
-        6 => num_text::put(&mut *out, at, b"TrimBounds"),
-        _ => num_text::put(&mut *out, at, b"Other"),
-    }
-}
-
-fn put_high_name(out: &mut [u8], at: usize, code: u8) -> usize
-    requires { ⌜ (7 ≤ code) × (at + length (nameText code) ≤ length (now out)) ⌝ }
-    ensures { λ r. ⌜ Appended (now (out .entry)) at (nameText code) r (now (out .exit)) ⌝ }
-{
-    match code {
-        7 => num_text::put(&mut *out, at, b"MapTable"),
-        8 => num_text::put(&mut *out, at, b"MapPolynomial"),
-        9 => num_text::put(&mut *out, at, b"GainMap"),
-        10 => num_text::put(&mut *out, at, b"DeltaPerRow"),
-        11 => num_text::put(&mut *out, at, b"DeltaPerColumn"),
-        12 => num_text::put(&mut *out, at, b"ScalePerRow"),
-        13 => num_text::put(&mut *out, at, b"ScalePerColumn"),
-        _ => num_text::put(&mut *out, at, b"Other"),
-    }
-}
-
-fn put_name(out: &mut [u8], at: usize, code: u8) -> usize
-    requires { ⌜ at + length (nameText code) ≤ length (now out) ⌝ }
-    ensures { λ r. ⌜ Appended (now (out .entry)) at (nameText code) r (now (out .exit)) ⌝ }
-{
-    if code < 7 {
-        put_low_name(&mut *out, at, code)
-    } else {
-        put_high_name(&mut *out, at, code)
-    }
-}
-
-fn one_if(b: bool) -> usize
-    ensures { λ r. ⌜ (r ≡ cond b 1 0) × (r ≤ 1) ⌝ }
-{
-    if b { 1 } else { 0 }
-}
-
 fn count(codes: &[u8], code: u8) -> usize
     ensures { λ r. ⌜ r ≡ occurs code (now (codes .entry)) ⌝ }
 {
     let mut m: usize = 0;
     let mut i: usize = 0;
     while i < codes.len() {
-        m += one_if(codes[i] == code);
+        m += num_small::one_if(codes[i] == code);
         i += 1;
     }
     m
@@ -152,7 +103,7 @@ fn put_item(out: &mut [u8], at: usize, codes: &[u8], code: u8) -> usize
     requires { ⌜ at + length (item (now codes) code) ≤ length (now out) ⌝ }
     ensures { λ r. ⌜ Appended (now (out .entry)) at (item (now (codes .entry)) code) r (now (out .exit)) ⌝ }
 {
-    let end = put_name(&mut *out, at, code);
+    let end = say_name::put_name(&mut *out, at, code);
     let times = count(codes, code);
     if 1 < times {
         let x = num_text::put(&mut *out, end, b" x");
