@@ -39,19 +39,19 @@ pub fn name_of(op: Opcode) -> u8
     ensures { λ r. ⌜ r ≡ nameOf op ⌝ }
 {
     match op {
-        Opcode::WarpRectilinear { .. } => 1,
-        Opcode::WarpFisheye => 2,
-        Opcode::FixVignetteRadial { .. } => 3,
-        Opcode::FixBadPixelsConstant { .. } => 4,
-        Opcode::FixBadPixelsList { .. } => 5,
-        Opcode::TrimBounds { .. } => 6,
-        Opcode::MapTable { .. } => 7,
-        Opcode::MapPolynomial { .. } => 8,
-        Opcode::GainMap { .. } => 9,
-        Opcode::DeltaPerRow { .. } => 10,
-        Opcode::DeltaPerColumn { .. } => 11,
-        Opcode::ScalePerRow { .. } => 12,
-        Opcode::ScalePerColumn { .. } => 13,
+        Opcode::WarpRectilinear { .. } => Opcode::WARP_RECTILINEAR as u8,
+        Opcode::WarpFisheye => Opcode::WARP_FISHEYE as u8,
+        Opcode::FixVignetteRadial { .. } => Opcode::FIX_VIGNETTE_RADIAL as u8,
+        Opcode::FixBadPixelsConstant { .. } => Opcode::FIX_BAD_PIXELS_CONSTANT as u8,
+        Opcode::FixBadPixelsList { .. } => Opcode::FIX_BAD_PIXELS_LIST as u8,
+        Opcode::TrimBounds { .. } => Opcode::TRIM_BOUNDS as u8,
+        Opcode::MapTable { .. } => Opcode::MAP_TABLE as u8,
+        Opcode::MapPolynomial { .. } => Opcode::MAP_POLYNOMIAL as u8,
+        Opcode::GainMap { .. } => Opcode::GAIN_MAP as u8,
+        Opcode::DeltaPerRow { .. } => Opcode::DELTA_PER_ROW as u8,
+        Opcode::DeltaPerColumn { .. } => Opcode::DELTA_PER_COLUMN as u8,
+        Opcode::ScalePerRow { .. } => Opcode::SCALE_PER_ROW as u8,
+        Opcode::ScalePerColumn { .. } => Opcode::SCALE_PER_COLUMN as u8,
         Opcode::Other { .. } => 0,
     }
 }
