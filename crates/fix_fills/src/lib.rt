@@ -51,34 +51,34 @@ fn first(marks: &[u32], i: usize, w: Window, m: usize) -> usize
 // ---- its samples
 
 // The means of the first n pixels, none of which is the one at `from`, plane by plane into the samples from `from` on.
-fn pixel_f32(samples: &mut [f32], first: &[usize; 8], n: usize, planes: usize, from: usize)
-    requires { ⌜ Sees (length (now samples)) (now first) n planes
-        × ((from + planes ≤ length (now samples)) × Apart (now first) n planes from) ⌝ }
+fn pixel_f32(samples: &mut [f32], at: &[usize; 8], n: usize, planes: usize, from: usize)
+    requires { ⌜ Sees (length (now samples)) (now at) n planes
+        × ((from + planes ≤ length (now samples)) × Apart (now at) n planes from) ⌝ }
     ensures { λ r.
         ⌜ now (samples .exit)
-        ≡ each (between from (from + planes) (λ j v. meanOver (λ a. getD (now (samples .entry)) (a + (j - from)) nan) (take n (now (first .entry)))))
+        ≡ each (between from (from + planes) (λ j v. meanOver (λ a. getD (now (samples .entry)) (a + (j - from)) nan) (take n (now (at .entry)))))
         (now (samples .entry)) ⌝ }
 {
     let mut k = 0;
     while k < planes {
-        samples[from + k] = fix_means::mean_f32(samples, first, n, k);
+        samples[from + k] = fix_means::mean_f32(samples, at, n, k);
         k += 1;
     }
 }
 
 // The same, rounded to whole and held to 0..65535.
-fn pixel_u16(samples: &mut [u16], first: &[usize; 8], n: usize, planes: usize, from: usize)
-    requires { ⌜ Sees (length (now samples)) (now first) n planes
-        × ((from + planes ≤ length (now samples)) × Apart (now first) n planes from) ⌝ }
+fn pixel_u16(samples: &mut [u16], at: &[usize; 8], n: usize, planes: usize, from: usize)
+    requires { ⌜ Sees (length (now samples)) (now at) n planes
+        × ((from + planes ≤ length (now samples)) × Apart (now at) n planes from) ⌝ }
     ensures { λ r.
         ⌜ now (samples .exit)
         ≡ each (between from (from + planes) (λ j v. roundHeld 65535
-        (meanOver (λ a. wholeIn binary32 (getD (now (samples .entry)) (a + (j - from)) 0)) (take n (now (first .entry))))))
+        (meanOver (λ a. wholeIn binary32 (getD (now (samples .entry)) (a + (j - from)) 0)) (take n (now (at .entry))))))
         (now (samples .entry)) ⌝ }
 {
     let mut k = 0;
     while k < planes {
-        samples[from + k] = num_round::round_u16(fix_means::mean_u16(samples, first, n, k));
+        samples[from + k] = num_round::round_u16(fix_means::mean_u16(samples, at, n, k));
         k += 1;
     }
 }
@@ -101,8 +101,9 @@ pub fn fill_f32(samples: &mut [f32], marks: &[u32], n: usize, w: Window, m: usiz
     while i < n {
         let near = near_mark(marks, n, w, m, step, i, &mut rows, &mut places);
         if 1 <= near.n {
+            let from = first(marks, i, w, m);
             let at = near.at;
-            pixel_f32(samples, &at, near.n, w.planes, first(marks, i, w, m));
+            pixel_f32(samples, &at, near.n, w.planes, from);
             done += 1;
             i += 1;
         } else {
@@ -128,8 +129,9 @@ pub fn fill_u16(samples: &mut [u16], marks: &[u32], n: usize, w: Window, m: usiz
     while i < n {
         let near = near_mark(marks, n, w, m, step, i, &mut rows, &mut places);
         if 1 <= near.n {
+            let from = first(marks, i, w, m);
             let at = near.at;
-            pixel_u16(samples, &at, near.n, w.planes, first(marks, i, w, m));
+            pixel_u16(samples, &at, near.n, w.planes, from);
             done += 1;
             i += 1;
         } else {
