@@ -84,12 +84,12 @@ module _ {A : Type 0} (d : A) (toFloat : A → Float) (keep : Float → A) (w : 
         pub pass-asks : complete w (length s₀) ≡ true
             → Sees (length s) (r .at) (r .n) (w .planes) × ((from + w .planes ≤ length s) × Apart (r .at) (r .n) (w .planes) from)
         pass-asks full = (
-            near-sees w step bad mark r l (length s) (ap (complete w) (p .same) ∙ full),
-            (
-              omega (arith, e, pixel-in w (m .fits) mark (mark-in marks n w step m i h) (length s₀) full, p .same),
-              rw e (near-apart w step bad mark r l (m .fits) (mark-in marks n w step m i h) (mark-has marks n w step m i h)),
-            ),
-          )
+          near-sees w step bad mark r l (length s) (ap (complete w) (p .same) ∙ full),
+          (
+            omega (arith, e, pixel-in w (m .fits) mark (mark-in marks n w step m i h) (length s₀) full, p .same),
+            rw e (near-apart w step bad mark r l (m .fits) (mark-in marks n w step m i h) (mark-has marks n w step m i h)),
+          ),
+        )
 
         pub pass-yes : 1 ≤ r .n → (s′ : List A)
             → s′ ≡ each (between from (from + w .planes) (λ j v. keep (meanOver (λ a. toFloat (getD s (a + (j - from)) d)) (take (r .n) (r .at))))) s

@@ -87,7 +87,14 @@ fn pixel_u16(samples: &mut [u16], at: &[usize; 8], n: usize, planes: usize, from
 
 // Every mark that has a sound neighbour is repaired, from the samples as they are by then; how many those are. No mark is a neighbour, so that
 // nothing is read which was written. The rows and places of the marks move on, so that a lone mark is known without a search.
-pub fn fill_f32(samples: &mut [f32], marks: &[u32], n: usize, w: Window, m: usize, step: usize) -> usize
+pub fn fill_f32(
+    samples: &mut [f32],
+    marks: &[u32],
+    n: usize,
+    w: Window,
+    m: usize,
+    step: usize,
+) -> usize
     requires { ⌜ Marking (now marks) n w step × ((complete w (length (now samples)) ≡ true) × (m ≡ 2 ^ 32 / w .width)) ⌝ }
     ensures { λ r.
         ⌜ (r ≡ mended (now (marks .entry)) n w step)
@@ -114,7 +121,14 @@ pub fn fill_f32(samples: &mut [f32], marks: &[u32], n: usize, w: Window, m: usiz
 }
 
 // The same of u16 samples.
-pub fn fill_u16(samples: &mut [u16], marks: &[u32], n: usize, w: Window, m: usize, step: usize) -> usize
+pub fn fill_u16(
+    samples: &mut [u16],
+    marks: &[u32],
+    n: usize,
+    w: Window,
+    m: usize,
+    step: usize,
+) -> usize
     requires { ⌜ Marking (now marks) n w step × ((complete w (length (now samples)) ≡ true) × (m ≡ 2 ^ 32 / w .width)) ⌝ }
     ensures { λ r.
         ⌜ (r ≡ mended (now (marks .entry)) n w step)

@@ -1,19 +1,19 @@
 // The repairs over a window, f32 and u16: the marks into the u32 scratch, then each mean into its sample.
 ghost use mathlib.Core.Path.{_≡_};
 ghost use mathlib.Core.Bool.{true};
-ghost use Prim.Native.Nat.{_+_, _-_, _*_, _/_, _^_, _≤_, _<_};
+ghost use Prim.Native.Nat.{_-_, _≤_};
 ghost use lib.Ieee.{nan, binary32};
-ghost use lib.ListN.{length, getD};
+ghost use lib.ListN.{length};
 ghost use Rattle.num_convert.specs.Convert.{wholeIn};
 ghost use Rattle.num_round.specs.Whole.{roundHeld};
-ghost use Rattle.pointwise.specs.Points.{each, between};
+ghost use Rattle.pointwise.specs.Points.{each};
 ghost use Rattle.dng.specs.Repair.{complete, positions, stepOf, marksOn, marksOf, repairAt};
 ghost use Rattle.fix_scratch.specs.Marks.{Gathered};
 ghost use Rattle.fix_near.specs.Looks.{marked};
-ghost use Rattle.fix_fills.specs.Fills.{Marking, mendable, mended, meanAt, Filled};
+ghost use Rattle.fix_fills.specs.Fills.{Marking};
 ghost use Rattle.fix_repair.specs.Fixes.{Fixes};
-ghost use Rattle.fix_repair.specs.Works.{Ranges, pixelOf, Settled};
-ghost use Rattle.fix_constant.specs.Parts.{Finds, Whole};
+ghost use Rattle.fix_repair.specs.Works.{Ranges, Settled};
+ghost use Rattle.fix_constant.specs.Parts.{Whole};
 ghost use Rattle.dng.specs.Run.{f32Kind, u16Kind};
 ghost use Rattle.dng.specs.Answer.{frameOf, inRange};
 use dng::Opcode;
@@ -65,7 +65,7 @@ fn done(n: usize, repaired: usize) -> Fixed
 fn settle_f32(samples: &mut [f32], marks: &[u32], n: usize, w: Window, step: usize) -> Fixed
     requires { ⌜ Marking (now marks) n w step × (complete w (length (now samples)) ≡ true) ⌝ }
     ensures { λ r.
-        ⌜ Settled n (mended (now (marks .entry)) n w step) r
+        ⌜ Settled (now (marks .entry)) n w step r
         × (now (samples .exit)
         ≡ each (repairAt nan (λ u. u) (λ u. u) w step (marked (now (marks .entry)) n) (now (samples .entry))) (now (samples .entry))) ⌝ }
 {
@@ -81,7 +81,7 @@ fn settle_f32(samples: &mut [f32], marks: &[u32], n: usize, w: Window, step: usi
 fn settle_u16(samples: &mut [u16], marks: &[u32], n: usize, w: Window, step: usize) -> Fixed
     requires { ⌜ Marking (now marks) n w step × (complete w (length (now samples)) ≡ true) ⌝ }
     ensures { λ r.
-        ⌜ Settled n (mended (now (marks .entry)) n w step) r
+        ⌜ Settled (now (marks .entry)) n w step r
         × (now (samples .exit)
         ≡ each (repairAt 0 (λ u. wholeIn binary32 u) (λ u. roundHeld 65535 u) w step (marked (now (marks .entry)) n) (now (samples .entry)))
         (now (samples .entry))) ⌝ }
