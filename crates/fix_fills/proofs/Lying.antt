@@ -15,7 +15,7 @@ use Rattle.fix_near.specs.declared.Near.{Near}
 use Rattle.fix_near.specs.Looks.{Asks, Lone, nearOf, Lists}
 use Rattle.num_sorted.specs.Sorts.{occ, has}
 use Rattle.num_sorted.proofs.Occ.{occ-at, some-has}
-use Rattle.fix_fills.specs.Fills.{Marking, Told, nearAt}
+use Rattle.fix_fills.specs.Fills.{Marking, nearAt}
 
 module _ (w : Window) (f : Fits w) (q : ℕ) (h : q < positions w) where
   pub column-in : q % w .width < w .width
@@ -54,8 +54,8 @@ module _ (w : Window) (step : ℕ) (bad : ℕ → Bool) (q x y : ℕ) (s : (x �
   pub spot-asks : {marks : List ℕ} {n : ℕ} → Asks marks n w step (q % w .width) (q / w .width) → Asks marks n w step x y
   spot-asks a = rw (s .0, s .1) a
 
-  pub spot-lone : (lone : Bool) → Told lone bad w step q → lone ≡ true → Lone bad w step x y
-  spot-lone lone t e = rw (s .0, s .1) (t e)
+  pub spot-lone : Lone bad w step (q % w .width) (q / w .width) → Lone bad w step x y
+  spot-lone l = rw (s .0, s .1) l
 
   pub spot-near : (r : Near) → Lists r (nearOf w step bad x y) → Lists r (nearAt w step bad q)
   spot-near r l = subst (λ (z : List ℕ). Lists r z) (ap₂ (λ (x y : ℕ). nearOf w step bad x y) (s .0) (s .1)) l

@@ -24,7 +24,7 @@ fn less(a: usize, b: usize) -> usize
 }
 
 // Where the neighbours of mark i in the row above would stand among the marks, sought from an earlier answer on. A hint: only speed depends on it.
-pub fn above_from(marks: &[u32], n: usize, w: Window, period: usize, i: usize, from: usize) -> usize
+fn above_from(marks: &[u32], n: usize, w: Window, period: usize, i: usize, from: usize) -> usize
     requires { ⌜ (i < n) × Asks (now marks) n w period (getD (now marks) i 0 % w .width) (getD (now marks) i 0 / w .width) ⌝ }
     ensures { λ r. ⌜ Reached (now (marks .entry)) n from (getD (now (marks .entry)) i 0 - (period * w .width + period)) r ⌝ }
 {
@@ -34,7 +34,7 @@ pub fn above_from(marks: &[u32], n: usize, w: Window, period: usize, i: usize, f
 }
 
 // The same of the row below.
-pub fn below_from(marks: &[u32], n: usize, w: Window, period: usize, i: usize, from: usize) -> usize
+fn below_from(marks: &[u32], n: usize, w: Window, period: usize, i: usize, from: usize) -> usize
     requires { ⌜ (i < n) × Asks (now marks) n w period (getD (now marks) i 0 % w .width) (getD (now marks) i 0 / w .width) ⌝ }
     ensures { λ r. ⌜ Reached (now (marks .entry)) n from (getD (now (marks .entry)) i 0 + period * w .width - period) r ⌝ }
 {
@@ -44,7 +44,7 @@ pub fn below_from(marks: &[u32], n: usize, w: Window, period: usize, i: usize, f
 }
 
 // Whether mark i is known to be lone. The places are hints: where they are not those of the rows above and below, the answer is no.
-pub fn alone(
+fn alone(
     marks: &[u32],
     n: usize,
     w: Window,
@@ -70,4 +70,25 @@ pub fn alone(
         return false;
     }
     fix_places::free(marks, n, down, q + far - period, q + far + period)
+}
+
+// The same where `rows` has an earlier mark's places of the rows above and below: they move on to those of mark i.
+pub fn lone_mark(
+    marks: &[u32],
+    n: usize,
+    w: Window,
+    period: usize,
+    i: usize,
+    rows: &mut [usize; 2],
+) -> bool
+    requires { ⌜ (i < n) × Asks (now marks) n w period (getD (now marks) i 0 % w .width) (getD (now marks) i 0 / w .width) ⌝ }
+    ensures { λ r.
+        ⌜ (r ≡ true
+        → Lone (marked (now (marks .entry)) n) w period (getD (now (marks .entry)) i 0 % w .width) (getD (now (marks .entry)) i 0 / w .width)) ⌝ }
+{
+    let up = above_from(marks, n, w, period, i, rows[0]);
+    let down = below_from(marks, n, w, period, i, rows[1]);
+    rows[0] = up;
+    rows[1] = down;
+    alone(marks, n, w, period, i, up, down)
 }

@@ -1,7 +1,7 @@
 -- What is asked of a position whose neighbours are looked for, which of them are sound, and the steps and neighbours as the code has them.
 -- Document 01, 'What each does to a value', Repair.
 use Prim.Native.Nat.{ℕ, _+_, _*_, _≤_, _<_}
-use mathlib.Core.Bool.{Bool, false, not, _&&_, cond}
+use mathlib.Core.Bool.{Bool, true, false, not, _&&_, cond}
 use mathlib.Core.List.{List, [], _∷_}
 use mathlib.Core.Path.{_≡_}
 use lib.Dec.{leb, ltb, eqb}
@@ -81,6 +81,10 @@ pairOf s = (s .dx, s .dy)
 unfoldable pub oneStep : ℤ → Bool
 oneStep (pos k) = leb k 1
 oneStep (negsuc k) = eqb k 0
+
+-- a step of the period from (x, y), which 64 bits hold
+abbrev pub Steps : (period x y : ℕ) → ℤ × ℤ → Type 0
+Steps period x y d = ((oneStep (d .0) ≡ true) × (oneStep (d .1) ≡ true)) × ((period ≤ 65536) × ((x ≤ 65536) × (y ≤ 65536)))
 
 -- the position (x, y), where it lies in the window and is not marked
 unfoldable pub openAt : (width height : ℕ) → (ℕ → Bool) → (x y : ℕ) → Neighbour

@@ -1,7 +1,7 @@
 -- `fix_repair::full` meets its contract: the definition's tests in their order. Assumes nothing.
 use native.Mathlib.Omega.{arith}
 use borrow.Author.Needs.{needs}
-use Rattle.fix_repair.proofs.Placing.{window-fits, complete-none, complete-narrow, complete-flat, complete-is}
+use Rattle.fix_repair.proofs.Windows.{window-fits, complete-none, complete-narrow, complete-flat, complete-is}
 use Rattle.fix_repair.proofs.full.Statement.{statement}
 use Rattle.fix_repair.proofs.full.Tie as tie
 

@@ -1,4 +1,4 @@
--- `fix_repair::first` meets its contract: the place of plane 0 of the mark's row and column; without gaps between the rows, the positions
+-- `fix_fills::first` meets its contract: the place of plane 0 of the mark's row and column; without gaps between the rows, the positions
 -- before it. Assumes nothing.
 use Prim.Native.Nat.{ℕ, _+_, _*_, _/_, _%_}
 use mathlib.Core.Path.{_≡_, sym, ap, ap₂, _∙_}
@@ -6,11 +6,11 @@ use native.Mathlib.Nat.{add-zero, mul-le-mul-left}
 use native.Mathlib.Omega.{arith}
 use borrow.Author.Needs.{needs}
 use lib.ListN.{getD}
 use Rattle.fix_fills.proofs.Lying.{column-in, row-in}
 use Rattle.fix_scratch.proofs.Sizes.{area}
 use Rattle.fix_constant.proofs.Places.{position-is}
-use Rattle.fix_repair.proofs.first.Statement.{statement}
-use Rattle.fix_repair.proofs.first.Tie as tie
+use Rattle.fix_fills.proofs.first.Statement.{statement}
+use Rattle.fix_fills.proofs.first.Tie as tie
 
 -- the mark
 abbrev mark : tie.Start → ℕ
