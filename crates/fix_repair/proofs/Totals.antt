@@ -112,7 +112,8 @@ module _ {A : Type 0} (kind : Kind A) (w : Window) (period : ℕ) (room : Room) 
     where
       go : (x : Bool)
           → going s′ (0 + a) (0 + b)
-          ≡ cond x (going (each (repairAt (kind .none) (kind .toFloat) (kind .ofMean) w period bad s) s) (0 + repairedIn w period bad) (0 + leftIn w period bad))
+          ≡ cond x
+          (going (each (repairAt (kind .none) (kind .toFloat) (kind .ofMean) w period bad s) s) (0 + repairedIn w period bad) (0 + leftIn w period bad))
           (marksFull s 0)
           → (a ≡ repairedIn w period bad) × (b ≡ leftIn w period bad)
       go true e =

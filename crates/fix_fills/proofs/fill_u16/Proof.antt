@@ -50,7 +50,8 @@ pixel-u16-requires c κs =
     let s = start t in
     let a = s .args in
     let l = t .before .loop in
-    pass-asks 0 (λ u. wholeIn binary32 u) (λ u. roundHeld 65535 u) (a .w) (a .step) (a .marks .now) (a .n) (a .samples .now) (s .pre .0) (l .samples) (l .done) (l .i) (l .inv)
+    pass-asks 0 (λ u. wholeIn binary32 u) (λ u. roundHeld 65535 u)
+    (a .w) (a .step) (a .marks .now) (a .n) (a .samples .now) (s .pre .0) (l .samples) (l .done) (l .i) (l .inv)
     (t .loop-test .taken) (near .result) (near .ensures) (at .first .result) (at .first .ensures) (s .pre .1 .0)
 
 add-done : tie.Need-add-done Inv-loop μ-loop
@@ -72,7 +73,8 @@ loop-again c =
     let s = start t in
     let a = s .args in
     let l = t .before .loop in
-    pass-yes 0 (λ u. wholeIn binary32 u) (λ u. roundHeld 65535 u) (a .w) (a .step) (a .marks .now) (a .n) (a .samples .now) (s .pre .0) (l .samples) (l .done) (l .i) (l .inv)
+    pass-yes 0 (λ u. wholeIn binary32 u) (λ u. roundHeld 65535 u)
+    (a .w) (a .step) (a .marks .now) (a .n) (a .samples .now) (s .pre .0) (l .samples) (l .done) (l .i) (l .inv)
     (t .loop-test .taken) (near .result) (near .ensures) (at .first .result) (at .first .ensures) (at .before .if1 .taken) (put .pixel-u16 .last .0)
     (put .pixel-u16 .ensures)
 
@@ -83,7 +85,8 @@ loop-again-2 c =
     let s = start t in
     let a = s .args in
     let l = t .before .loop in
-    pass-no 0 (λ u. wholeIn binary32 u) (λ u. roundHeld 65535 u) (a .w) (a .step) (a .marks .now) (a .n) (a .samples .now) (s .pre .0) (l .samples) (l .done) (l .i) (l .inv)
+    pass-no 0 (λ u. wholeIn binary32 u) (λ u. roundHeld 65535 u)
+    (a .w) (a .step) (a .marks .now) (a .n) (a .samples .now) (s .pre .0) (l .samples) (l .done) (l .i) (l .inv)
     (t .loop-test .taken) (near .result) (near .ensures) (c .if1 .left)
 
 same-length : tie.Need-same-length Inv-loop μ-loop
@@ -94,7 +97,8 @@ returns c =
     let s = c .before .before .before .before in
     let a = s .args in
     let l = c .before .loop in
-    pass-end 0 (λ u. wholeIn binary32 u) (λ u. roundHeld 65535 u) (a .w) (a .step) (a .marks .now) (a .n) (a .samples .now) (l .samples) (l .done) (l .i) (l .inv)
+    pass-end 0 (λ u. wholeIn binary32 u) (λ u. roundHeld 65535 u)
+    (a .w) (a .step) (a .marks .now) (a .n) (a .samples .now) (l .samples) (l .done) (l .i) (l .inv)
     (c .loop-test .left) (s .pre .0 .fits .some)
 
 pub fill-u16-spec : {M : Type 1} → statement M
