@@ -28,6 +28,10 @@ pub record Marking (marks : List ℕ) (n : ℕ) (w : Window) (step : ℕ) : Type
   pub rises : Rises 0 (take n marks)
   pub inside : (q : ℕ) → has (take n marks) q ≡ true → q < positions w
 
+-- position q is column x of row y
+abbrev pub Lies : Window → (q x y : ℕ) → Type 0
+Lies w q x y = (x ≡ q % w .width) × (y ≡ q / w .width)
+
 -- the samples of each plane are there for the first n pixels
 abbrev pub Sees : (samples : ℕ) → (at : List ℕ) → (n planes : ℕ) → Type 0
 Sees samples at n planes = (k : ℕ) → k < planes → Reads samples at n k

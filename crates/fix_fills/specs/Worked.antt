@@ -16,7 +16,16 @@ use Rattle.fix_fills.specs.Fills.{pixelOf, mendable, countIn, mended, re
 
 abbrev row : (width planes : ℕ) → Window
 row width planes =
-    record { width = width; height = 1; planes = planes; stride = width; x0 = 0; y0 = 0; «full_width» = width; «full_height» = 1 }
+    record {
+      width = width;
+      height = 1;
+      planes = planes;
+      stride = width;
+      x0 = 0;
+      y0 = 0;
+      «full_width» = width;
+      «full_height» = 1;
+    }
 
 -- two rows of two pixels of two planes, three pixels apart
 abbrev apart : Window
@@ -43,5 +52,15 @@ pub record Worked : Type 0 where
   pub pixel : pixelOf apart 3 ≡ 8
 
 pub worked : Worked
-unfolding inPlace each roundHeld active inWindow moved sound soundOn tallyOn repairAt occ has mendable countIn ofInt round units odd trailingZeros size span climb add sum div
-worked = record { written-first = refl; written-last = refl; no-other = refl; at-once = refl; one-of-two = refl; planes = refl; pixel = refl }
+unfolding inPlace each roundHeld active inWindow moved sound soundOn tallyOn repairAt occ has mendable countIn
+    ofInt round units odd trailingZeros size span climb add sum div
+worked =
+    record {
+      written-first = refl;
+      written-last = refl;
+      no-other = refl;
+      at-once = refl;
+      one-of-two = refl;
+      planes = refl;
+      pixel = refl;
+    }

@@ -6,45 +6,31 @@ ghost use lib.ListN.{length, getD};
 ghost use Rattle.num_round.specs.Whole.{roundHeld};
 ghost use Rattle.pointwise.specs.Points.{each, between};
 ghost use Rattle.dng.specs.Repair.{complete};
-ghost use Rattle.fix_constant.specs.Parts.{Finds};
 ghost use Rattle.fix_near.specs.Looks.{marked, Lists};
 ghost use Rattle.fix_means.specs.Means.{mean32, mean16};
-ghost use Rattle.fix_fills.specs.Fills.{Marking, Sees, Apart, pixelOf, nearAt, mended, repair32, repair16};
+ghost use Rattle.fix_fills.specs.Fills.{Marking, Lies, Sees, Apart, nearAt, mended, repair32, repair16};
 use dng::Window;
+use fix_constant::Spot;
 use fix_near::Near;
 
 // ---- a mark
 
-// The sound neighbours of mark i. Its row is found by the reciprocal m of the width; `rows` and `places` are those of
-// the marks before it.
+// The sound neighbours of mark i, which lies at the spot; `rows` and `places` are those of the marks before it.
 fn near_mark(
     marks: &[u32],
     n: usize,
     w: Window,
-    m: usize,
     step: usize,
     i: usize,
+    spot: Spot,
     rows: &mut [usize; 2],
     places: &mut [usize; 8],
 ) -> Near
-    requires { ⌜ Marking (now marks) n w step × ((i < n) × (m ≡ 2 ^ 32 / w .width)) ⌝ }
+    requires { ⌜ Marking (now marks) n w step × ((i < n) × Lies w (getD (now marks) i 0) (spot .x) (spot .y)) ⌝ }
     ensures { λ r. ⌜ Lists r (nearAt w step (marked (now (marks .entry)) n) (getD (now (marks .entry)) i 0)) ⌝ }
 {
     let lone = fix_lone::lone_mark(marks, n, w, step, i, rows);
-    let spot = fix_constant::spot_of(marks, i, w, m);
     fix_near::all_near(marks, n, w, step, spot.x, spot.y, lone, places)
-}
-
-// Where the samples of mark i start. Where no gap lies between the rows, its row is not needed.
-fn first(marks: &[u32], i: usize, w: Window, m: usize) -> usize
-    requires { ⌜ Finds (now marks) i w m ⌝ }
-    ensures { λ r. ⌜ r ≡ pixelOf w (getD (now (marks .entry)) i 0) ⌝ }
-{
-    if w.stride == w.width {
-        return marks[i] as usize * w.planes;
-    }
-    let spot = fix_constant::spot_of(marks, i, w, m);
-    fix_constant::place(w, spot.x, spot.y, 0)
 }
 
 // ---- its samples
@@ -86,7 +72,7 @@ fn pixel_u16(samples: &mut [u16], at: &[usize; 8], n: usize, planes: usize, from
 
 // Every mark that has a sound neighbour is repaired, from the samples as they are by then; how many those are. No mark
 // is a sound neighbour, so that nothing is read which was written. The rows and places move on with the marks, so that
-// nothing is searched for.
+// nothing is searched for; a mark's row is found by the reciprocal m of the width.
 pub fn fill_f32(
     samples: &mut [f32],
     marks: &[u32],
@@ -106,9 +92,10 @@ pub fn fill_f32(
     let mut done = 0;
     let mut i = 0;
     while i < n {
-        let near = near_mark(marks, n, w, m, step, i, &mut rows, &mut places);
+        let spot = fix_constant::spot_of(marks, i, w, m);
+        let near = near_mark(marks, n, w, step, i, spot, &mut rows, &mut places);
         if 1 <= near.n {
-            let from = first(marks, i, w, m);
+            let from = fix_constant::place(w, spot.x, spot.y, 0);
             let at = near.at;
             pixel_f32(samples, &at, near.n, w.planes, from);
             done += 1;
@@ -140,9 +127,10 @@ pub fn fill_u16(
     let mut done = 0;
     let mut i = 0;
     while i < n {
-        let near = near_mark(marks, n, w, m, step, i, &mut rows, &mut places);
+        let spot = fix_constant::spot_of(marks, i, w, m);
+        let near = near_mark(marks, n, w, step, i, spot, &mut rows, &mut places);
         if 1 <= near.n {
-            let from = first(marks, i, w, m);
+            let from = fix_constant::place(w, spot.x, spot.y, 0);
             let at = near.at;
             pixel_u16(samples, &at, near.n, w.planes, from);
             done += 1;
