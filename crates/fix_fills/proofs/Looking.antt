@@ -4,7 +4,6 @@ use Prim.Native.Nat.{ℕ, _+_, _-_, _*_, _/_, _%_, _≤_, _<_, max}
 use mathlib.Core.Path.{_≡_, refl, sym, ap, ap₂, subst, _∙_}
 use mathlib.Core.Bool.{Bool, true, false, cond, false≢true}
 use mathlib.Core.List.{List}
-use native.Mathlib.Nat.{add-sub-cancel-left}
 use native.Mathlib.Omega.{arith}
 use borrow.Author.Tests.{eq-eqb, ne-eqb}
 use lib.Dec.{leb, eqb}
@@ -15,7 +14,7 @@ use Rattle.pointwise.specs.Points.{each, between}
 use Rattle.pointwise.proofs.Each.{each-agree, each-none}
 use Rattle.pointwise.proofs.Parts.{between-in, between-low, between-high}
 use Rattle.dng.specs.declared.Window.{Window}
-use Rattle.dng.specs.Select.{inWindow, rowOf, columnOf, planeOf}
+use Rattle.dng.specs.Select.{inWindow}
 use Rattle.dng.specs.Repair.{Tally, complete, positions, sampleAt, tallyAt, meanOf, repairAt}
 use Rattle.num_sorted.proofs.Occ.{by-cases, below-or}
 use Rattle.fix_scratch.specs.Marks.{Fits}

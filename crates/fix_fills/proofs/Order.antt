@@ -10,6 +10,7 @@ use lib.ListN.{length, getD, List·getD-eq-default}
 use Rattle.pointwise.specs.Points.{each}
 use Rattle.pointwise.proofs.Each.{length-each, getD-each, each-agree, each-none, each-each}
 use Rattle.dng.specs.declared.Window.{Window}
+use Rattle.dng.specs.Select.{inWindow}
 use Rattle.dng.specs.Repair.{positions, repairAt}
 use Rattle.num_sorted.specs.Sorts.{has, occ}
 use Rattle.num_sorted.proofs.Occ.{by-cases, below-or, has-append, has-one}
@@ -95,7 +96,11 @@ module _ {A : Type 0} (d : A) (toFloat : A → Float) (ofMean : Float → A) (w 
         each-agree _ new s
         (λ j v l.
         by-cases (has qs (positionOf w j)) (λ e. rw e refl)
-        (λ e. rw e (sym (stays d toFloat ofMean w period bad s j v (λ i. by-cases (bad (positionOf w j)) (λ b. absurd (false≢true (sym e ∙ h (positionOf w j) (position-of w j i) b))) (λ b. b))))))
+        (λ e. rw e (sym (stays d toFloat ofMean w period bad s j v (λ i. unmarked j i e)))))
+      where
+        unmarked : (j : ℕ) → inWindow w j ≡ true → has qs (positionOf w j) ≡ false → bad (positionOf w j) ≡ false
+        unmarked j i e =
+            by-cases (bad (positionOf w j)) (λ b. absurd (false≢true (sym e ∙ h (positionOf w j) (position-of w j i) b))) (λ b. b)
 
     pub in-place-at : (qs : List ℕ) → ((q : ℕ) → q < positions w → bad q ≡ true → has qs q ≡ true)
         → inPlace d toFloat ofMean w period bad qs s ≡ each new s

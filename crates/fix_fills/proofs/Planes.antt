@@ -69,7 +69,8 @@ module _ {A : Type 0} (d : A) (toFloat : A → Float) (keep : Float → A) (at :
           within = omega arith;
           same = length-set s (from + k) v ∙ h .same;
           done =
-              store v taken from (from + k) s₀ s v (h .done) (e ∙ ap (λ (m : ℕ). keep (meanIn s₀ m)) (sym (add-sub-cancel-left from k))) (omega arith) (omega arith)
+              store v taken from (from + k) s₀ s v (h .done) (e ∙ ap (λ (m : ℕ). keep (meanIn s₀ m)) (sym (add-sub-cancel-left from k)))
+              (omega arith) (omega arith)
               ∙ ap (λ (m : ℕ). each (between from m taken) s₀) (add-assoc from k 1);
         }
 

@@ -1,13 +1,12 @@
 -- What a repair reads: samples of unmarked positions of the window, and nothing else. So it may be worked out from any samples that agree
 -- there. Over any sample kind. Assumes nothing.
-use Prim.Native.Nat.{ℕ, _+_, _*_, _≤_, _<_}
+use Prim.Native.Nat.{ℕ, _≤_, _<_}
 use mathlib.Core.Path.{_≡_, refl, ap, _∙_}
 use mathlib.Core.Bool.{Bool, true, false, _&&_, cond}
 use mathlib.Core.List.{List}
 use native.Mathlib.Nat.{mod-lt}
 use lib.Dec.{eqb}
 use lib.Ieee.{Float}
-use lib.ListN.{getD}
 use Rattle.dng.specs.declared.Window.{Window}
 use Rattle.dng.specs.Select.{planeOf, columnOf, rowOf, active, inWindow}
 use Rattle.dng.specs.Repair.{Tally, sampleAt, tallyAt, meanOf, stepOf, repairAt}

@@ -1,12 +1,17 @@
--- Which marks a repair mends, and where their samples and those of their neighbours lie. Document 01, 'What each does to a value', Repair.
+-- Which marks a repair mends, and where their samples and those of their neighbours lie; and the repair, of either
+-- sample kind. Document 01, 'What each does to a value', Repair.
 use Prim.Native.Nat.{ℕ, _+_, _/_, _%_, _≤_, _<_}
 use mathlib.Core.Bool.{Bool, true, cond}
 use mathlib.Core.List.{List, [], _∷_}
 use mathlib.Core.Path.{_≡_}
 use lib.Dec.{leb}
+use lib.Ieee.{Float, nan, binary32}
 use lib.ListN.{length, getD, take}
+use Rattle.num_round.specs.Whole.{roundHeld}
+use Rattle.num_convert.specs.Convert.{wholeIn}
+use Rattle.pointwise.specs.Points.{each}
 use Rattle.dng.specs.declared.Window.{Window}
-use Rattle.dng.specs.Repair.{positions, steps, soundOn}
+use Rattle.dng.specs.Repair.{positions, steps, soundOn, repairAt}
 use Rattle.fix_scratch.specs.Marks.{Fits}
 use Rattle.fix_near.specs.Looks.{marked, firstOf, nearOf}
 use Rattle.fix_means.specs.Means.{Reads}
@@ -22,6 +27,10 @@ pub record Marking (marks : List ℕ) (n : ℕ) (w : Window) (step : ℕ) : Type
   pub held : n ≤ length marks
   pub rises : Rises 0 (take n marks)
   pub inside : (q : ℕ) → has (take n marks) q ≡ true → q < positions w
+
+-- position q is column x of row y
+abbrev pub Lies : Window → (q x y : ℕ) → Type 0
+Lies w q x y = (x ≡ q % w .width) × (y ≡ q / w .width)
 
 -- the samples of each plane are there for the first n pixels
 abbrev pub Sees : (samples : ℕ) → (at : List ℕ) → (n planes : ℕ) → Type 0
@@ -55,3 +64,13 @@ countIn f (q ∷ l) = cond (f q) 1 0 + countIn f l
 -- how many of the first n marks
 abbrev pub mended : List ℕ → ℕ → Window → (step : ℕ) → ℕ
 mended marks n w step = countIn (mendable w step (marked marks n)) (take n marks)
+
+-- ---- the repair, from the samples s at its start
+
+-- f32
+abbrev pub repair32 : Window → (step : ℕ) → (ℕ → Bool) → List Float → List Float
+repair32 w step bad s = each (repairAt nan (λ u. u) (λ u. u) w step bad s) s
+
+-- u16: means are rounded to whole and held to 0..65535
+abbrev pub repair16 : Window → (step : ℕ) → (ℕ → Bool) → List ℕ → List ℕ
+repair16 w step bad s = each (repairAt 0 (λ u. wholeIn binary32 u) (λ u. roundHeld 65535 u) w step bad s) s

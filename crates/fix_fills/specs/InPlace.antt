@@ -1,6 +1,6 @@
--- A repair never reads what it has written: it reads unmarked positions, and writes marked ones. So the marked positions may be repaired one after
--- another, each from the samples as they are by then and written at once: that is the repair as dng/specs/Repair has it, from the samples at its
--- start. Over any sample kind. Document 02, M-104.
+-- A repair never reads what it has written: it reads unmarked positions, and writes marked ones. So the marked
+-- positions may be repaired one after another, each from the samples as they are by then and written at once: that is
+-- the repair as dng/specs/Repair has it, from the samples at its start. Over any sample kind. Document 02, M-104.
 use Prim.Native.Nat.{ℕ, _+_, _*_, _≤_, _<_}
 use mathlib.Core.Bool.{Bool, true, false, cond}
 use mathlib.Core.List.{List, [], _∷_}
@@ -18,7 +18,8 @@ use Rattle.num_sorted.specs.Sorts.{has}
 abbrev pub positionOf : Window → ℕ → ℕ
 positionOf w j = rowOf w j * w .width + columnOf w j
 
-module _ {A : Type 0} (d : A) (toFloat : A → Float) (ofMean : Float → A) (w : Window) (period : ℕ) (bad : ℕ → Bool) where
+module _ {A : Type 0} (d : A) (toFloat : A → Float) (ofMean : Float → A)
+    (w : Window) (period : ℕ) (bad : ℕ → Bool) where
   -- position q alone, from the samples s
   abbrev pub oneAt : ℕ → List A → List A
   oneAt q s = each (λ j v. cond (eqb (positionOf w j) q) (repairAt d toFloat ofMean w period bad s j v) v) s
@@ -35,13 +36,15 @@ module _ {A : Type 0} (d : A) (toFloat : A → Float) (ofMean : Float → A) (w 
 -- what a repair reads: unmarked positions of the window, and nothing else
 abbrev pub Reads-unmarked : Type 1
 Reads-unmarked =
-    (A : Type 0) (d : A) (toFloat : A → Float) (ofMean : Float → A) (w : Window) (period : ℕ) (bad : ℕ → Bool) (s t : List A)
+    (A : Type 0) (d : A) (toFloat : A → Float) (ofMean : Float → A)
+    (w : Window) (period : ℕ) (bad : ℕ → Bool) (s t : List A)
     → 1 ≤ w .planes → Agrees d toFloat ofMean w period bad s t → (j : ℕ) (v : A)
     → repairAt d toFloat ofMean w period bad t j v ≡ repairAt d toFloat ofMean w period bad s j v
 
--- the list has every marked position, in whatever order, how often and with whatever others it likes
+-- the list qs has every marked position; its order, repetitions and other entries are its own
 abbrev pub In-place : Type 1
 In-place =
-    (A : Type 0) (d : A) (toFloat : A → Float) (ofMean : Float → A) (w : Window) (period : ℕ) (bad : ℕ → Bool) (s : List A)
+    (A : Type 0) (d : A) (toFloat : A → Float) (ofMean : Float → A)
+    (w : Window) (period : ℕ) (bad : ℕ → Bool) (s : List A)
     → 1 ≤ w .planes → (qs : List ℕ) → ((q : ℕ) → q < positions w → bad q ≡ true → has qs q ≡ true)
     → inPlace d toFloat ofMean w period bad qs s ≡ each (repairAt d toFloat ofMean w period bad s) s

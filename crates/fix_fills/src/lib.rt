@@ -1,51 +1,36 @@
 // The marked positions repaired one after another, f32 and u16: each mean straight into its sample.
 ghost use mathlib.Core.Path.{_≡_};
 ghost use mathlib.Core.Bool.{true};
-ghost use Prim.Native.Nat.{_+_, _-_, _*_, _/_, _^_, _≤_, _<_};
-ghost use lib.Ieee.{nan, binary32};
-ghost use lib.ListN.{length, getD, take};
-ghost use Rattle.num_convert.specs.Convert.{wholeIn};
+ghost use Prim.Native.Nat.{_+_, _-_, _/_, _^_, _≤_, _<_};
+ghost use lib.ListN.{length, getD};
 ghost use Rattle.num_round.specs.Whole.{roundHeld};
 ghost use Rattle.pointwise.specs.Points.{each, between};
-ghost use Rattle.dng.specs.Repair.{complete, repairAt};
-ghost use Rattle.fix_constant.specs.Parts.{Finds};
+ghost use Rattle.dng.specs.Repair.{complete};
 ghost use Rattle.fix_near.specs.Looks.{marked, Lists};
-ghost use Rattle.fix_means.specs.Means.{meanOver};
-ghost use Rattle.fix_fills.specs.Fills.{Marking, mended, nearAt, pixelOf, Sees, Apart};
+ghost use Rattle.fix_means.specs.Means.{mean32, mean16};
+ghost use Rattle.fix_fills.specs.Fills.{Marking, Lies, Sees, Apart, nearAt, mended, repair32, repair16};
 use dng::Window;
+use fix_constant::Spot;
 use fix_near::Near;
 
 // ---- a mark
 
-// The sound neighbours of mark i. Its row is found by the reciprocal m of the width; `rows` and `places` are those of the marks before it.
+// The sound neighbours of mark i, which lies at the spot; `rows` and `places` are those of the marks before it.
 fn near_mark(
     marks: &[u32],
     n: usize,
     w: Window,
-    m: usize,
     step: usize,
     i: usize,
+    spot: Spot,
     rows: &mut [usize; 2],
     places: &mut [usize; 8],
 ) -> Near
-    requires { ⌜ Marking (now marks) n w step × ((i < n) × (m ≡ 2 ^ 32 / w .width)) ⌝ }
+    requires { ⌜ Marking (now marks) n w step × ((i < n) × Lies w (getD (now marks) i 0) (spot .x) (spot .y)) ⌝ }
     ensures { λ r. ⌜ Lists r (nearAt w step (marked (now (marks .entry)) n) (getD (now (marks .entry)) i 0)) ⌝ }
 {
     let lone = fix_lone::lone_mark(marks, n, w, step, i, rows);
-    let spot = fix_constant::spot_of(marks, i, w, m);
     fix_near::all_near(marks, n, w, step, spot.x, spot.y, lone, places)
-}
-
-// Where the samples of mark i start. Where no gap lies between the rows, its row is not needed.
-fn first(marks: &[u32], i: usize, w: Window, m: usize) -> usize
-    requires { ⌜ Finds (now marks) i w m ⌝ }
-    ensures { λ r. ⌜ r ≡ pixelOf w (getD (now (marks .entry)) i 0) ⌝ }
-{
-    if w.stride == w.width {
-        return marks[i] as usize * w.planes;
-    }
-    let spot = fix_constant::spot_of(marks, i, w, m);
-    fix_constant::place(w, spot.x, spot.y, 0)
 }
 
 // ---- its samples
@@ -56,7 +41,7 @@ fn pixel_f32(samples: &mut [f32], at: &[usize; 8], n: usize, planes: usize, from
         × ((from + planes ≤ length (now samples)) × Apart (now at) n planes from) ⌝ }
     ensures { λ r.
         ⌜ now (samples .exit)
-        ≡ each (between from (from + planes) (λ j v. meanOver (λ a. getD (now (samples .entry)) (a + (j - from)) nan) (take n (now (at .entry)))))
+        ≡ each (between from (from + planes) (λ j v. mean32 (now (samples .entry)) (now (at .entry)) n (j - from)))
         (now (samples .entry)) ⌝ }
 {
     let mut k = 0;
@@ -72,8 +57,8 @@ fn pixel_u16(samples: &mut [u16], at: &[usize; 8], n: usize, planes: usize, from
         × ((from + planes ≤ length (now samples)) × Apart (now at) n planes from) ⌝ }
     ensures { λ r.
         ⌜ now (samples .exit)
-        ≡ each (between from (from + planes) (λ j v. roundHeld 65535
-        (meanOver (λ a. wholeIn binary32 (getD (now (samples .entry)) (a + (j - from)) 0)) (take n (now (at .entry))))))
+        ≡ each (between from (from + planes)
+        (λ j v. roundHeld 65535 (mean16 (now (samples .entry)) (now (at .entry)) n (j - from))))
         (now (samples .entry)) ⌝ }
 {
     let mut k = 0;
@@ -85,8 +70,9 @@ fn pixel_u16(samples: &mut [u16], at: &[usize; 8], n: usize, planes: usize, from
 
 // ---- all marks
 
-// Every mark that has a sound neighbour is repaired, from the samples as they are by then; how many those are. No mark is a neighbour, so that
-// nothing is read which was written. The rows and places of the marks move on, so that a lone mark is known without a search.
+// Every mark that has a sound neighbour is repaired, from the samples as they are by then; how many those are. No mark
+// is a sound neighbour, so that nothing is read which was written. The rows and places move on with the marks, so that
+// nothing is searched for; a mark's row is found by the reciprocal m of the width.
 pub fn fill_f32(
     samples: &mut [f32],
     marks: &[u32],
@@ -95,20 +81,21 @@ pub fn fill_f32(
     m: usize,
     step: usize,
 ) -> usize
-    requires { ⌜ Marking (now marks) n w step × ((complete w (length (now samples)) ≡ true) × (m ≡ 2 ^ 32 / w .width)) ⌝ }
+    requires { ⌜ Marking (now marks) n w step
+        × ((complete w (length (now samples)) ≡ true) × (m ≡ 2 ^ 32 / w .width)) ⌝ }
     ensures { λ r.
         ⌜ (r ≡ mended (now (marks .entry)) n w step)
-        × (now (samples .exit)
-        ≡ each (repairAt nan (λ u. u) (λ u. u) w step (marked (now (marks .entry)) n) (now (samples .entry))) (now (samples .entry))) ⌝ }
+        × (now (samples .exit) ≡ repair32 w step (marked (now (marks .entry)) n) (now (samples .entry))) ⌝ }
 {
     let mut rows = [0; 2];
     let mut places = [0; 8];
     let mut done = 0;
     let mut i = 0;
     while i < n {
-        let near = near_mark(marks, n, w, m, step, i, &mut rows, &mut places);
+        let spot = fix_constant::spot_of(marks, i, w, m);
+        let near = near_mark(marks, n, w, step, i, spot, &mut rows, &mut places);
         if 1 <= near.n {
-            let from = first(marks, i, w, m);
+            let from = fix_constant::place(w, spot.x, spot.y, 0);
             let at = near.at;
             pixel_f32(samples, &at, near.n, w.planes, from);
             done += 1;
@@ -129,21 +116,21 @@ pub fn fill_u16(
     m: usize,
     step: usize,
 ) -> usize
-    requires { ⌜ Marking (now marks) n w step × ((complete w (length (now samples)) ≡ true) × (m ≡ 2 ^ 32 / w .width)) ⌝ }
+    requires { ⌜ Marking (now marks) n w step
+        × ((complete w (length (now samples)) ≡ true) × (m ≡ 2 ^ 32 / w .width)) ⌝ }
     ensures { λ r.
         ⌜ (r ≡ mended (now (marks .entry)) n w step)
-        × (now (samples .exit)
-        ≡ each (repairAt 0 (λ u. wholeIn binary32 u) (λ u. roundHeld 65535 u) w step (marked (now (marks .entry)) n) (now (samples .entry)))
-        (now (samples .entry))) ⌝ }
+        × (now (samples .exit) ≡ repair16 w step (marked (now (marks .entry)) n) (now (samples .entry))) ⌝ }
 {
     let mut rows = [0; 2];
     let mut places = [0; 8];
     let mut done = 0;
     let mut i = 0;
     while i < n {
-        let near = near_mark(marks, n, w, m, step, i, &mut rows, &mut places);
+        let spot = fix_constant::spot_of(marks, i, w, m);
+        let near = near_mark(marks, n, w, step, i, spot, &mut rows, &mut places);
         if 1 <= near.n {
-            let from = first(marks, i, w, m);
+            let from = fix_constant::place(w, spot.x, spot.y, 0);
             let at = near.at;
             pixel_u16(samples, &at, near.n, w.planes, from);
             done += 1;

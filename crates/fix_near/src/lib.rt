@@ -113,7 +113,8 @@ fn beside(
     sound_at(marks, n, w, to.x, to.y, places, k)
 }
 
-// The sound neighbours, step by step. Each step has a place among the marks, which moves on with the positions that are asked for.
+// The sound neighbours, step by step. Each step has a place among the marks, which moves on with the positions that are
+// asked for.
 fn around(
     marks: &[u32],
     n: usize,
@@ -175,7 +176,8 @@ fn lone_inside(w: Window, period: usize, x: usize, y: usize, lone: bool) -> bool
     false
 }
 
-// All eight neighbours, none marked and each in the window, step by step. Nothing is tested, so that the walk compiles to eight sums.
+// All eight neighbours, none marked and each in the window, step by step. Nothing is tested, so that the walk compiles
+// to sums alone.
 fn eight(w: Window, period: usize, x: usize, y: usize) -> Near
     requires { ⌜ Fits w × ((period ≤ 65536) × Inside w period x y) ⌝ }
     ensures { λ r. ⌜ Lists r (nearOf w period none x y) ⌝ }

@@ -1,6 +1,6 @@
 -- The marks of an opcode by its kind, and what a repair asks and answers around its stages. Over any sample kind. Assumes nothing.
-use Prim.Native.Nat.{ℕ, zero, suc, _-_, _*_, _≤_, _<_}
-use mathlib.Core.Path.{_≡_, refl, sym, ap, subst, fun-ext}
+use Prim.Native.Nat.{ℕ, zero, suc, _-_, _≤_}
+use mathlib.Core.Path.{_≡_, refl, sym, subst, fun-ext}
 use mathlib.Core.Bool.{Bool, true, false}
 use mathlib.Core.List.{List, [], _∷_}
 use native.Mathlib.Omega.{arith}
@@ -26,7 +26,7 @@ use Rattle.pointwise.specs.Points.{each}
 use Rattle.fix_repair.specs.declared.Fixed.{Fixed}
 use Rattle.fix_repair.specs.declared.Fixed.the-variants as F
 use Rattle.fix_repair.specs.Fixes.{Fixes}
-use Rattle.fix_fills.specs.Fills.{Marking, countIn, mended}
+use Rattle.fix_fills.specs.Fills.{Marking, countIn}
 use Rattle.fix_repair.specs.Works.{Settled}
 use Rattle.fix_repair.proofs.Counting.{count-none}
 use Rattle.fix_repair.proofs.Totals.{repair-none, fixes-none, fixes-marks, fixes-settled}

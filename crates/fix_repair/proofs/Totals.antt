@@ -1,7 +1,7 @@
 -- The totals are those of the definition, and what the stages answer is what the run's definition has. Over any sample kind.
 -- Assumes nothing.
 use Prim.Native.Nat.{ℕ, _+_, _-_, _*_, _/_, _%_, _≤_, _<_}
-use mathlib.Core.Path.{_≡_, refl, ap, subst, _∙_}
+use mathlib.Core.Path.{_≡_, refl, ap, _∙_}
 use mathlib.Core.Bool.{Bool, true, false, not, _&&_, cond, and-false}
 use mathlib.Core.List.{List}
 use native.Mathlib.Omega.{arith}
@@ -112,7 +112,8 @@ module _ {A : Type 0} (kind : Kind A) (w : Window) (period : ℕ) (room : Room) 
     where
       go : (x : Bool)
           → going s′ (0 + a) (0 + b)
-          ≡ cond x (going (each (repairAt (kind .none) (kind .toFloat) (kind .ofMean) w period bad s) s) (0 + repairedIn w period bad) (0 + leftIn w period bad))
+          ≡ cond x
+          (going (each (repairAt (kind .none) (kind .toFloat) (kind .ofMean) w period bad s) s) (0 + repairedIn w period bad) (0 + leftIn w period bad))
           (marksFull s 0)
           → (a ≡ repairedIn w period bad) × (b ≡ leftIn w period bad)
       go true e =

@@ -2,15 +2,12 @@
 ghost use mathlib.Core.Path.{_≡_};
 ghost use mathlib.Core.Bool.{true};
 ghost use Prim.Native.Nat.{_-_, _≤_};
-ghost use lib.Ieee.{nan, binary32};
+ghost use lib.Ieee.{nan};
 ghost use lib.ListN.{length};
-ghost use Rattle.num_convert.specs.Convert.{wholeIn};
-ghost use Rattle.num_round.specs.Whole.{roundHeld};
-ghost use Rattle.pointwise.specs.Points.{each};
-ghost use Rattle.dng.specs.Repair.{complete, positions, stepOf, marksOn, marksOf, repairAt};
+ghost use Rattle.dng.specs.Repair.{complete, positions, stepOf, marksOn, marksOf};
 ghost use Rattle.fix_scratch.specs.Marks.{Gathered};
 ghost use Rattle.fix_near.specs.Looks.{marked};
-ghost use Rattle.fix_fills.specs.Fills.{Marking};
+ghost use Rattle.fix_fills.specs.Fills.{Marking, repair32, repair16};
 ghost use Rattle.fix_repair.specs.Fixes.{Fixes};
 ghost use Rattle.fix_repair.specs.Works.{Ranges, Settled};
 ghost use Rattle.fix_constant.specs.Parts.{Whole};
@@ -66,8 +63,7 @@ fn settle_f32(samples: &mut [f32], marks: &[u32], n: usize, w: Window, step: usi
     requires { ⌜ Marking (now marks) n w step × (complete w (length (now samples)) ≡ true) ⌝ }
     ensures { λ r.
         ⌜ Settled (now (marks .entry)) n w step r
-        × (now (samples .exit)
-        ≡ each (repairAt nan (λ u. u) (λ u. u) w step (marked (now (marks .entry)) n) (now (samples .entry))) (now (samples .entry))) ⌝ }
+        × (now (samples .exit) ≡ repair32 w step (marked (now (marks .entry)) n) (now (samples .entry))) ⌝ }
 {
     if n == 0 {
         return done(0, 0);
@@ -82,9 +78,7 @@ fn settle_u16(samples: &mut [u16], marks: &[u32], n: usize, w: Window, step: usi
     requires { ⌜ Marking (now marks) n w step × (complete w (length (now samples)) ≡ true) ⌝ }
     ensures { λ r.
         ⌜ Settled (now (marks .entry)) n w step r
-        × (now (samples .exit)
-        ≡ each (repairAt 0 (λ u. wholeIn binary32 u) (λ u. roundHeld 65535 u) w step (marked (now (marks .entry)) n) (now (samples .entry)))
-        (now (samples .entry))) ⌝ }
+        × (now (samples .exit) ≡ repair16 w step (marked (now (marks .entry)) n) (now (samples .entry))) ⌝ }
 {
     if n == 0 {
         return done(0, 0);
@@ -107,7 +101,8 @@ fn gather_f32(
 ) -> Marked
     requires { ⌜ Whole (length (now samples)) w ⌝ }
     ensures { λ r.
-        ⌜ Gathered (positions w) (marksOn nan w (f32Kind (frameOf w scale) .isBad) op (now (body .entry)) (now (samples .entry)))
+        ⌜ Gathered (positions w)
+        (marksOn nan w (f32Kind (frameOf w scale) .isBad) op (now (body .entry)) (now (samples .entry)))
         (now (marks .entry)) (now (marks .exit)) r ⌝ }
 {
     match op {
@@ -148,8 +143,8 @@ fn gather_u16(samples: &[u16], w: Window, op: Opcode, body: &[u8], marks: &mut [
     }
 }
 
-// A repair over the window. With too few samples, none in a row or column, or a stride below the width, nothing is marked and no scratch is too
-// small.
+// A repair over the window. With too few samples, none in a row or column, or a stride below the width, nothing is
+// marked and no scratch is too small.
 pub fn fix_f32(
     samples: &mut [f32],
     w: Window,

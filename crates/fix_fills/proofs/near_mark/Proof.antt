@@ -3,7 +3,7 @@ use Prim.Native.Nat.{ℕ}
 use mathlib.Core.Bool.{Bool}
 use lib.ListN.{getD}
 use Rattle.fix_near.specs.Looks.{marked}
-use Rattle.fix_fills.proofs.Lying.{mark-asks, mark-finds, spot-asks, spot-lone, spot-near}
+use Rattle.fix_fills.proofs.Lying.{mark-asks, spot-asks, spot-lone, spot-near}
 use Rattle.fix_fills.proofs.near_mark.Statement.{statement}
 use Rattle.fix_fills.proofs.near_mark.Tie as tie
 
@@ -24,30 +24,21 @@ lone-mark-requires c κs =
     let a = s .args in
     (s .pre .1 .0, mark-asks (a .marks .now) (a .n) (a .w) (a .step) (s .pre .0) (a .i) (s .pre .1 .0))
 
-spot-of-requires : tie.Need-spot-of-requires
-spot-of-requires c κs =
-    let s = start c in
-    let a = s .args in
-    mark-finds (a .marks .now) (a .n) (a .w) (a .step) (s .pre .0) (a .i) (s .pre .1 .0) (a .m) (s .pre .1 .1)
-
 all-near-requires : tie.Need-all-near-requires
 all-near-requires c κs =
-    let spot = c .before .spot-of in
-    let told = c .before .before in
+    let told = c .before in
     let s = start told in
     let a = s .args in (
-      spot-asks (a .w) (a .step) (bad s) (mark s) (spot .result .x) (spot .result .y) (spot .ensures)
+      spot-asks (a .w) (a .step) (bad s) (mark s) (a .spot .x) (a .spot .y) (s .pre .1 .1)
           (mark-asks (a .marks .now) (a .n) (a .w) (a .step) (s .pre .0) (a .i) (s .pre .1 .0)),
-      λ e. spot-lone (a .w) (a .step) (bad s) (mark s) (spot .result .x) (spot .result .y) (spot .ensures) (told .lone-mark .ensures e),
+      λ e. spot-lone (a .w) (a .step) (bad s) (mark s) (a .spot .x) (a .spot .y) (s .pre .1 .1) (told .lone-mark .ensures e),
     )
 
 returns : tie.Need-returns
 returns c =
-    let at = c .before .before in
-    let s = start (at .before) in
+    let s = start (c .before .before) in
     let a = s .args in
-    spot-near (a .w) (a .step) (bad s) (mark s) (at .spot-of .result .x) (at .spot-of .result .y) (at .spot-of .ensures)
-    (c .all-near .result) (c .all-near .ensures)
+    spot-near (a .w) (a .step) (bad s) (mark s) (a .spot .x) (a .spot .y) (s .pre .1 .1) (c .all-near .result) (c .all-near .ensures)
 
 pub near-mark-spec : {M : Type 1} → statement M
-near-mark-spec = tie.close (tie.spec lone-mark-requires spot-of-requires all-near-requires returns)
+near-mark-spec = tie.close (tie.spec lone-mark-requires all-near-requires returns)

@@ -31,7 +31,8 @@ mean-u16-requires c κs =
     let t = c .before in
     let a = start t .args in
     let l = t .before .loop in
-    planes-reads 0 (λ u. wholeIn binary32 u) (λ u. roundHeld 65535 u) (a .at .now) (a .n) (a .planes) (a .from) (a .samples .now) (l .samples) (l .k) (l .inv) (t .loop-test .taken)
+    planes-reads 0 (λ u. wholeIn binary32 u) (λ u. roundHeld 65535 u)
+    (a .at .now) (a .n) (a .planes) (a .from) (a .samples .now) (l .samples) (l .k) (l .inv) (t .loop-test .taken)
     (start t .pre .0)
 
 add-samples : tie.Need-add-samples Inv-loop μ-loop
@@ -50,12 +51,14 @@ loop-again c =
     let s = start t in
     let a = s .args in
     let l = t .before .loop in
-    planes-next 0 (λ u. wholeIn binary32 u) (λ u. roundHeld 65535 u) (a .at .now) (a .n) (a .planes) (a .from) (a .samples .now) (l .samples) (l .k) (l .inv) (t .loop-test .taken)
+    planes-next 0 (λ u. wholeIn binary32 u) (λ u. roundHeld 65535 u)
+    (a .at .now) (a .n) (a .planes) (a .from) (a .samples .now) (l .samples) (l .k) (l .inv) (t .loop-test .taken)
     (c .round-u16 .result) (s .pre .1 .0)
     (c .round-u16 .ensures
     ∙ ap (λ (v : Float). roundHeld 65535 v)
     (mean .ensures
-    ∙ planes-mean 0 (λ u. wholeIn binary32 u) (λ u. roundHeld 65535 u) (a .at .now) (a .n) (a .planes) (a .from) (a .samples .now) (l .samples) (l .k) (l .inv) (t .loop-test .taken)
+    ∙ planes-mean 0 (λ u. wholeIn binary32 u) (λ u. roundHeld 65535 u)
+    (a .at .now) (a .n) (a .planes) (a .from) (a .samples .now) (l .samples) (l .k) (l .inv) (t .loop-test .taken)
     (s .pre .0) (s .pre .1 .1)))
 
 same-length : tie.Need-same-length Inv-loop μ-loop
@@ -65,7 +68,8 @@ returns : tie.Need-returns Inv-loop μ-loop
 returns c =
     let a = c .before .before .before .args in
     let l = c .before .loop in
-    planes-end 0 (λ u. wholeIn binary32 u) (λ u. roundHeld 65535 u) (a .at .now) (a .n) (a .planes) (a .from) (a .samples .now) (l .samples) (l .k) (l .inv) (c .loop-test .left)
+    planes-end 0 (λ u. wholeIn binary32 u) (λ u. roundHeld 65535 u)
+    (a .at .now) (a .n) (a .planes) (a .from) (a .samples .now) (l .samples) (l .k) (l .inv) (c .loop-test .left)
 
 pub pixel-u16-spec : {M : Type 1} → statement M
 pixel-u16-spec =

@@ -80,7 +80,8 @@ returns-2 c =
 returns-3 : tie.Need-returns-3
 returns-3 c =
     let a = start (c .before) .args in
-    fix-none (f32Kind (frameOf (a .w) (a .scale))) (a .w) (a .period) (a .op) (a .body .now) (a .samples .now) (a .marks .now) (sym (c .before .full .ensures) ∙ c .if1 .left)
+    fix-none (f32Kind (frameOf (a .w) (a .scale))) (a .w) (a .period) (a .op) (a .body .now) (a .samples .now) (a .marks .now)
+    (sym (c .before .full .ensures) ∙ c .if1 .left)
 
 pub fix-f32-spec : {M : Type 1} → statement M
 fix-f32-spec =

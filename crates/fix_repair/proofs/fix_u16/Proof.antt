@@ -79,7 +79,8 @@ returns-2 c =
 returns-3 : tie.Need-returns-3
 returns-3 c =
     let a = start (c .before) .args in
-    fix-none u16Kind (a .w) (a .period) (a .op) (a .body .now) (a .samples .now) (a .marks .now) (sym (c .before .full .ensures) ∙ c .if1 .left)
+    fix-none u16Kind (a .w) (a .period) (a .op) (a .body .now) (a .samples .now) (a .marks .now)
+    (sym (c .before .full .ensures) ∙ c .if1 .left)
 
 pub fix-u16-spec : {M : Type 1} → statement M
 fix-u16-spec =
