@@ -176,8 +176,8 @@ fn lone_inside(w: Window, period: usize, x: usize, y: usize, lone: bool) -> bool
     false
 }
 
-// All eight neighbours, none marked and each in the window, step by step. Nothing is tested, so that the walk compiles
-// to sums alone.
+// All eight neighbours, none marked and each in the window, step by step. Nothing is tested, so that no loop is left
+// of the walk when it is compiled.
 fn eight(w: Window, period: usize, x: usize, y: usize) -> Near
     requires { ⌜ Fits w × ((period ≤ 65536) × Inside w period x y) ⌝ }
     ensures { λ r. ⌜ Lists r (nearOf w period none x y) ⌝ }
