@@ -18,8 +18,8 @@
  *     5  the repair `opcode` marks more positions than `marks` has entries; nothing of it is written
  *        (6 is withdrawn: it is never given, and no other answer has its number)
  *   100  `work` has fewer entries than the bytes have whole samples (the functions over bytes alone; tested before all others)
- * They are tested in this order, 5 opcode by opcode. On 1 to 4 and on 100 the samples are as they were; on 5 they are as after the opcodes
- * before. Numbers that are not named here are 0.
+ * They are tested in this order, 5 opcode by opcode. On 1 to 4 and on 100 the samples are as they were; on 5 they are as
+ * after the opcodes before. Numbers that are not named here are 0.
  */
 #ifndef ROLBHUNGA_H
 #define ROLBHUNGA_H
@@ -95,12 +95,13 @@ typedef struct rolbhunga_row_numbers {
 rolbhunga_numbers rolbhunga_read(const uint8_t *list, size_t list_len);
 
 /* Runs a list on f32 samples.
- * marks: the scratch for a repair, which is 4 bytes a marked position and nothing else, as long as the list's largest repair needs;
- * width * height entries are always enough. It holds only zeros at every return.
+ * marks: the scratch for a repair, which is 4 bytes a marked position and nothing else, as long as the list's largest
+ * repair needs; width * height entries are always enough. It holds only zeros at every return.
  * names: on 0 it starts with one byte for each skipped opcode in list order, its id, 0 for one that is not known; it is otherwise as it was.
  * The run skips WarpRectilinear, WarpFisheye, TrimBounds, unknown opcodes, and a MapTable with no entries. */
 rolbhunga_numbers rolbhunga_run_f32(const uint8_t *list, size_t list_len, float *samples, size_t samples_len, rolbhunga_window window,
-                                    rolbhunga_settings settings, uint32_t *marks, size_t marks_len, uint8_t *names, size_t names_len);
+                                    rolbhunga_settings settings, uint32_t *marks, size_t marks_len, uint8_t *names,
+                                    size_t names_len);
 
 /* The same on u16 samples, for lists of MapTable, opcodes that are not applied, and at most one repair. An empty MapTable has no name here. */
 rolbhunga_numbers rolbhunga_run_u16(const uint8_t *list, size_t list_len, uint16_t *samples, size_t samples_len, rolbhunga_window window,

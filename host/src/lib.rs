@@ -26,9 +26,9 @@ pub const WORK: u32 = 100;
 /// The opcodes that a list can have at most, so that so many bytes of names are always enough.
 pub const MAX_OPCODES: usize = 4096;
 
-/// What a run answers. On `Range` to `Names` and on `Work` samples and names are as they were; on `Marks` the samples are as after
-/// the opcodes before, and the names are as they were. The scratch holds only zeros after every call. The number 6 is withdrawn: no
-/// answer has it.
+/// What a run answers. On `Range` to `Names` and on `Work` samples and names are as they were; on `Marks` the samples
+/// are as after the opcodes before, and the names are as they were. The scratch holds only zeros after every call. The
+/// number 6 is withdrawn: no answer has it.
 #[derive(Debug, Clone, Copy, PartialEq, Eq)]
 pub enum Answer {
     /// 0: done. The skip buffer starts with `names` bytes, one for each skipped opcode (its id, 0 for an unknown one).
@@ -144,8 +144,8 @@ pub fn read(list: &[u8]) -> Reading {
     }
 }
 
-/// The buffers that a run is lent: the scratch of the repairs, 4 bytes a marked position and nothing else, which holds only zeros
-/// after every call, and the skip buffer.
+/// The buffers that a run is lent: the scratch for a repair, which is 4 bytes a marked position and nothing else and
+/// holds only zeros after every call, and the skip buffer.
 pub struct Room<'a> {
     pub marks: &'a mut [u32],
     pub names: &'a mut [u8],
@@ -164,9 +164,9 @@ impl Scratch {
         Scratch { marks: vec![0; marks], names: vec![0; names] }
     }
 
-    /// A scratch that no list outgrows on this frame: the answers 4 and 5 cannot come. It has an entry of 4 bytes for every position,
-    /// which for the largest frames is more than most machines have; [`Scratch::new`] takes less. A frame whose width or height
-    /// passes the limits, which every run refuses, gets only the names.
+    /// A scratch that no list outgrows on this frame: the answers 4 and 5 cannot come. It has an entry of 4 bytes for
+    /// every position, which for the largest frames is more than most machines have; [`Scratch::new`] takes less. A
+    /// frame whose width or height passes the limits, which every run refuses, gets only the names.
     pub fn enough(frame: &Frame) -> Scratch {
         let fits = frame.width <= 65_536 && frame.height <= 65_536;
         Scratch::new(if fits { frame.width * frame.height } else { 0 }, MAX_OPCODES)

@@ -492,8 +492,8 @@ fn mend_in(
     mend_args(o, list, file, samples, wide, marks);
 }
 
-// All room is here: six megabytes, which the default stack of eight holds. A list has at most 262,143 bytes, a frame at most
-// 524,288 samples, a repair at most 131,072 positions.
+// All room is here: six megabytes, which the default stack of eight holds. A list has at most 262,143 bytes, a frame
+// at most 524,288 samples, a repair at most 131,072 positions.
 fn main() {
     let o = raw_option(period_option());
     if !is_in_order(o) {

@@ -133,8 +133,8 @@ module _ {A : Type 0} (c : Call A) where
     pub reached : Reached k t
     pub over : c .room .marks < markedIn (c .window) (marksOn (reached .item) t)
 
--- a run: by the table; 5 also by the repair that is named; and the samples, on 0 the result, on 5 those that the opcodes before that repair left,
--- so that nothing of it is written
+-- a run: by the table; 5 also by the repair that is named; and the samples, on 0 the result, on 5 those that the opcodes
+-- before that repair left, so that nothing of it is written
 pub record Exactly {A : Type 0} (c : Call A) (e : End A) : Type 0 where
   pub answers : (a : Answer) → (e .answer ≡ a) ↔ When c a
   pub marks : (k : ℕ) → (e .answer ≡ Ans.Marks k) ↔ (Goes c × ((t : List A) × MarksOver c k t))
@@ -178,7 +178,8 @@ Row-keeps =
     (w : RowWindow) (scale : Float) (y : ℕ) (list : List ℕ) (row : List Float) (r : RowAnswer) (t : List Float)
     → RowRan (rowOut w scale y list row) r t → ((n : ℕ) → r ≡ Row.Done n → ⊥) → t ≡ row
 
--- the paper's numbers of every answer: names and totals 0 on a refusal, the entry's number 0 but in 2, the opcode's 0 but in 5
+-- the paper's numbers of every answer: names and totals 0 on a refusal, the entry's number 0 but in 2, the opcode's 0
+-- but in 5
 pub record Numbered : Type 0 where
   pub refused : (a : Answer) → 1 ≤ numbersOf a .number → (numbersOf a .names ≡ 0) × (numbersOf a .repaired ≡ 0) × (numbersOf a .left ≡ 0)
   pub entry : (a : Answer) → (numbersOf a .number ≡ 2 → ⊥) → numbersOf a .entry ≡ 0
@@ -229,8 +230,8 @@ abbrev pub withRoom : {A : Type 0} → Call A → Room → Call A
 withRoom c room =
     record { kind = c .kind; takes = c .takes; skip = c .skip; window = c .window; period = c .period; room = room; list = c .list; samples = c .samples; names = c .names }
 
--- So the totals say how much scratch is enough: a run that answers 0 answers the same, and leaves the same, with any scratch that holds as many marks as
--- were repaired and left.
+-- So the totals say how much scratch is enough: a run that answers 0 answers the same, and leaves the same, with any
+-- scratch that holds as many marks as were repaired and left.
 abbrev pub Scratch : Type 1
 Scratch =
     (A : Type 0) (c : Call A) (e : End A) → Meets (outOf c) (c .room) e → (n r l : ℕ) → e .answer ≡ Ans.Done n r l
@@ -277,8 +278,8 @@ Whole-calls =
     → Meets (u16Out w period room list s names) room e → Meets (f32Out w (atOne period) room′ list (widened s) names′) room′ e′
     → Wholes-agree e e′
 
--- The same with one scratch for both, however short, and on 1, 2 and 5 too: the f32 run answers what the whole-number form answers, but for the number
--- of names.
+-- The same with one scratch for both, however short, and on 1, 2 and 5 too: the f32 run answers what the whole-number
+-- form answers, but for the number of names.
 pub record Wholes-alike (list : List ℕ) (e : End ℕ) (e′ : End Float) : Type 0 where
   pub answers : e′ .answer ≡ renamed (length (namesOf skipped (itemsOf list))) (e .answer)
   pub samples : e .samples ≡ narrowed (e′ .samples)

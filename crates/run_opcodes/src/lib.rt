@@ -19,7 +19,8 @@ ghost use Rattle.dng.specs.Bounds.{bounded};
 ghost use Rattle.win_rows.specs.Windows.{WindowFits};
 ghost use Rattle.run_opcodes.specs.Performs.{progressOf, Steps, Stepped};
 
-// All opcodes performed, with the positions repaired and left; or stopped at an opcode by too little room for its marks (5).
+// All opcodes performed, with the positions repaired and left; or stopped at an opcode by too little room for its
+// marks (5).
 pub enum Performed {
     All { repaired: u64, left: u64 },
     Marks { opcode: usize },
