@@ -1,5 +1,4 @@
 pub mod Going
-pub mod RoundUp
 pub mod Sizes
 pub mod Steps
 pub mod Worked

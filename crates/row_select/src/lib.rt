@@ -1,7 +1,7 @@
 // Which rows, columns and planes a region selects: the first column worked out once an opcode, the rest once a row, handed to the steps as a walk.
 // The numbers are those of a region as the list has them: a pitch of 0 counts as 1.
 ghost use mathlib.Core.Path.{_≡_};
-ghost use Prim.Native.Nat.{_+_, _-_, _*_, _/_, _≤_, _<_, min, max};
+ghost use Prim.Native.Nat.{_+_, _-_, _*_, min, max};
 ghost use Rattle.pointwise.specs.Select.{selects, First};
 ghost use Rattle.row_select.specs.Walks.{Walks};
 
@@ -43,32 +43,39 @@ pub fn less(a: usize, b: usize) -> usize
     if b < a { a - b } else { 0 }
 }
 
-// A distance in steps, rounded up. Nothing is divided where the step is 1, or where there is no distance.
-fn steps_up(n: usize, step: usize) -> usize
-    requires { ⌜ (1 ≤ step) × (n < 4294967296) × (step < 4294967296) ⌝ }
-    ensures { λ r. ⌜ r ≡ (n + (step - 1)) / step ⌝ }
-{
-    if step < 2 {
-        return n;
-    }
-    if n == 0 {
-        return 0;
-    }
-    (n + (step - 1)) / step
-}
-
-// The distance from left, rounded up to whole steps.
+// The first selected column at or after x0. Document 01, 'Which samples an opcode touches': "A region selects row y with
+// top ≤ y < bottom and (y−top) divisible by the row pitch; columns likewise". So: the distance from left, its remainder
+// by the pitch, and one step forward, pitch − remainder, if that is not zero.
 pub fn first_column(left: u32, pitch: u32, x0: u32) -> Start
     ensures { λ r. ⌜ First left pitch x0 (r .col) (r .nth) ⌝ }
 {
     let lo = left as usize;
     let at = x0 as usize;
     let step = larger(pitch as usize, 1);
-    let start = larger(lo, at);
-    let nth = steps_up(start - lo, step);
+    if at <= lo {
+        return Start {
+            col: lo - at,
+            nth: 0,
+        };
+    }
+    let distance = at - lo;
+    // every distance is divisible by 1
+    if step < 2 {
+        return Start {
+            col: 0,
+            nth: distance,
+        };
+    }
+    // side by side the two are one division
+    let rest = distance % step;
+    let steps = distance / step;
+    if rest == 0 {
+        return Start { col: 0, nth: steps };
+    }
+    let forward = step - rest;
     Start {
-        col: lo + nth * step - at,
-        nth,
+        col: forward,
+        nth: steps + 1,
     }
 }
 

@@ -1,46 +1,54 @@
--- `first_column` meets its contract: the round-up division of proofs/RoundUp, and its numbers fit. Assumes nothing.
-use Prim.Native.Nat.{ℕ, _+_, _-_, _*_, _/_, _≤_, _<_}
-use mathlib.Core.Path.{sym, subst}
+-- `first_column` meets its contract: up to left, at a pitch of 1, on a selected column, and between two. Assumes nothing.
+use Prim.Native.Nat.{ℕ, _+_, _-_, _*_, _/_, _%_, _≤_, _<_, max}
+use mathlib.Core.Path.{_≡_}
+use native.Mathlib.Nat.{mul-one, mod-lt, div-le-self}
 use native.Mathlib.Omega.{arith}
 use borrow.Author.Needs.{needs}
+use Rattle.pointwise.proofs.Walk.{first-near, first-left, first-on, first-off}
 use Rattle.pointwise.specs.Select.{First}
-use Rattle.row_select.proofs.RoundUp.{up-from, up-below, first-up}
 use Rattle.row_select.proofs.first_column.Statement.{statement}
 use Rattle.row_select.proofs.first_column.Tie as tie
 
--- how far the distance from left is rounded up
-abbrev gap : tie.After-steps-up → ℕ
-gap c = c .before .larger2 .result - c .before .before .before .args .left
+-- at a pitch of 1 every column from left on is selected
+first-each : (lo pitch x0 : ℕ) → max pitch 1 ≡ 1 → lo ≤ x0 → First lo pitch x0 0 (x0 - lo)
+first-each lo pitch x0 e h = first-near lo pitch x0 0 (x0 - lo) (rw e (omega (arith, mul-one (x0 - lo)))) (λ k. omega arith)
 
-abbrev step : tie.After-steps-up → ℕ
-step c = c .before .before .larger .result
-
-from : (c : tie.After-steps-up) → gap c ≤ c .steps-up .result * step c
-from c = subst (λ (n : ℕ). gap c ≤ n * step c) (sym (c .steps-up .ensures)) (up-from (gap c) (step c) (omega arith))
-
-below : (c : tie.After-steps-up) → c .steps-up .result * step c < gap c + step c
-below c = subst (λ (n : ℕ). n * step c < gap c + step c) (sym (c .steps-up .ensures)) (up-below (gap c) (step c) (omega arith))
-
-steps-up-requires : tie.Need-steps-up-requires
-steps-up-requires c κs = (omega arith, omega arith, omega arith)
-
-mul-t9 : tie.Need-mul-t9
-mul-t9 c = omega (arith, below c)
-
-add-t10 : tie.Need-add-t10
-add-t10 c = omega (arith, below c)
-
-sub-t11 : tie.Need-sub-t11
-sub-t11 c = omega (arith, from c)
+-- the distance from left
+abbrev distance : tie.Start → ℕ
+distance s = s .args .x0 - s .args .left
 
 returns : tie.Need-returns
 returns c =
-    let a = c .before .before .before .args in
-    subst (λ (n : ℕ). First (a .left) (a .pitch) (a .x0) (a .left + n * step c - a .x0) n) (sym (c .steps-up .ensures))
-    (first-up (a .left) (a .pitch) (a .x0) (step c) (c .before .larger2 .result) (c .before .before .larger .ensures) (c .before .larger2 .ensures))
+    let s = c .before .before in
+    first-left (s .args .left) (s .args .pitch) (s .args .x0) (c .if1 .taken)
+
+returns-2 : tie.Need-returns-2
+returns-2 c =
+    let s = c .before .before .before in
+    first-each (s .args .left) (s .args .pitch) (s .args .x0) (omega arith) (omega arith)
+
+returns-3 : tie.Need-returns-3
+returns-3 c =
+    let step = c .before .before .before in
+    let s = step .before in
+    first-on (s .args .left) (s .args .pitch) (s .args .x0) (step .larger .result) (step .larger .ensures) (omega arith) (c .if3 .taken)
+
+sub-forward : tie.Need-sub-forward
+sub-forward c =
+    let step = c .before .before .before in
+    omega (arith, mod-lt (distance (step .before)) {m = step .larger .result} (omega arith))
+
+add-t11 : tie.Need-add-t11
+add-t11 c =
+    let step = c .before .before .before in
+    omega (arith, div-le-self (distance (step .before)) (step .larger .result))
+
+returns-4 : tie.Need-returns-4
+returns-4 c =
+    let step = c .before .before .before in
+    let s = step .before in
+    first-off (s .args .left) (s .args .pitch) (s .args .x0) (step .larger .result) (step .larger .ensures) (omega arith) (omega arith)
 
 pub first-column-spec : {M : Type 1} → statement M
-first-column-spec =
-    tie.close
-    (tie.spec
-    (λ c κs. search needs) (λ c κs. search needs) (λ c. search needs) steps-up-requires mul-t9 add-t10 sub-t11 returns)
+first-column-spec = tie.close (tie.spec
+    (λ c κs. search needs) returns (λ c. search needs) returns-2 (λ c. search needs) (λ c. search needs) returns-3 sub-forward add-t11 returns-4)
