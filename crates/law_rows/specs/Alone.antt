@@ -1,0 +1,22 @@
+-- Lists whose opcodes look at no other sample: none of them is a repair. Lists of the row form are such, and lists of
+-- tables.
+use mathlib.Core.Bool.{Bool, true, false, _&&_}
+use mathlib.Core.List.{List, [], _∷_}
+use mathlib.Core.Path.{_≡_}
+use Rattle.dng.specs.List.{Item}
+use Rattle.dng.specs.Run.{Class, table, empty, local, repair, unapplied, classOf, takesRows}
+
+abbrev pub aloneIn : Class → Bool
+aloneIn table = true
+aloneIn empty = true
+aloneIn local = true
+aloneIn repair = false
+aloneIn unapplied = true
+
+unfoldable pub alone : List Item → Bool
+alone [] = true
+alone (i ∷ is) = aloneIn (classOf (i .op)) && alone is
+
+-- every list of the row form is one; proofs/Fused proves it
+abbrev pub Rows-alone : Type 0
+Rows-alone = (is : List Item) → takesRows is ≡ true → alone is ≡ true
