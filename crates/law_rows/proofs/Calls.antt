@@ -1,5 +1,5 @@
--- The two answers that the row form's theorem compares: a row call and the run, both on a list that the row form takes.
--- Each answers 0, and its samples are one rule, at each place of the row and of the window.
+-- The answers that the theorems on rows and tiles compare: a row call on a list that the row form takes, and a run of any form on a list without
+-- repairs. Each answers 0, and its samples are one rule, at each place of the row and of the window. Assumes nothing.
 use Prim.Native.Nat.{ℕ, _+_, _*_, _≤_, _<_}
 use mathlib.Core.Path.{_≡_, refl, ap, ap₂, _∙_}
 use mathlib.Core.Bool.{Bool, true, _&&_, cond}
@@ -85,6 +85,24 @@ in-range w period g =
     (ap₂ _&&_ (le-leb (w .«full_width») 16777216 (g .fullWide))
     (ap₂ _&&_ (le-leb (w .«full_height») 16777216 (g .fullHigh)) (le-leb period 65536 (g .longest))))))))))
 
+-- another period in range
+pub other-period : (w : Window) (period q : ℕ) → inRange w period ≡ true → q ≤ 65536 → inRange w q ≡ true
+other-period w period q h short =
+    let g = ranged w period h in
+    in-range w q
+    (record {
+      widest = g .widest;
+      highest = g .highest;
+      farthest = g .farthest;
+      some = g .some;
+      most = g .most;
+      left = g .left;
+      top = g .top;
+      fullWide = g .fullWide;
+      fullHigh = g .fullHigh;
+      longest = short;
+    })
+
 -- a row of a window within the ranges, no longer than the window is wide, is within the row's
 pub row-ranged : (w : Window) (period y n : ℕ) → Ranged w period → y < w .height → n ≤ w .width * w .planes
     → rowInRange (rowWindowOf w) (w .y0 + y) n ≡ true
@@ -124,7 +142,7 @@ row-call rw scale y list row m ranges whole taken =
     did : RowOut
     did = rowDone list (rowOn (rowFrameOf rw scale) (rw .x0) (rw .planes) y list (itemsOf list) row)
 
--- a run in range, of any form, on a list that is read whole and taken, has no repair, and finds room for its names
+-- a run of any form, in range, on a list that is read whole and taken, that has no repair and finds room for its names
 pub window-run : {A : Type 0} (kind : Kind A) (takes : List Item → Bool) (skip : Class → Bool) (w : Window) (period : ℕ) (room : Room)
     (list : List ℕ) (s : List A) (names : List ℕ) (m : ℕ)
     → inRange w period ≡ true → readingOf list ≡ R.Whole m → takes (itemsOf list) ≡ true → alone (itemsOf list) ≡ true
