@@ -10,7 +10,7 @@ use Rattle.dng.specs.declared.Settings.{Settings}
 use Rattle.dng.specs.declared.Answer.{Answer}
 use Rattle.dng.specs.declared.Answer.the-variants as Ans
 use Rattle.dng.specs.Run.{Room}
-use Rattle.law_tiles.specs.Tiles.{Tile, tileWindow, tilePart, tilePut, Form, Lone, Tiles·if}
+use Rattle.law_tiles.specs.Tiles.{Tile, tileWindow, tilePart, tilePut, Form, Suits, Tiles·if}
 use Rattle.law_promises.specs.Promises.{Call, f32Call, u16Call, End, outOf, Meets, skips}
 
 module _ {A : Type 0} (c : Call A) where
@@ -62,5 +62,5 @@ pub record Tiles-agree {A : Type 0} (c : Call A) (ts : List Tile) (rs : List Ans
 abbrev pub Tile-calls : Type 1
 Tile-calls =
     (A : Type 0) (c : Call A) (ts : List Tile) (rs : List Answer) (u : List A) (e : End A)
-    → Lone (formOf c) (c .list) (c .names) → Tiles·if (c .window) (c .period) (length (c .samples)) ts
+    → Suits (formOf c) (c .list) (c .names) → Tiles·if (c .window) (c .period) (length (c .samples)) ts
     → Meets (outOf c) (c .room) e → TileCalls c ts rs (c .samples) u → Tiles-agree c ts rs u e

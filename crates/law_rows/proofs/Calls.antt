@@ -24,9 +24,9 @@ use Rattle.dng.specs.Value.{ruleOf}
 use Rattle.dng.specs.Run.{Class, Kind, Room, namesOf, skipped, takesRows, f32Kind, going, performAll, rowOn}
 use Rattle.dng.specs.Answer.{inRange, rowInRange, frameOf, rowFrameOf, RowOut, rowRead, rowOut}
 use Rattle.dng.specs.Answer.{Out, unchanged, written, finished, ranOn, readOut, runOut, takesAll, f32Out}
-use Rattle.law_rows.specs.Alone.{alone}
+use Rattle.law_rows.specs.NoRepair.{noRepair}
 use Rattle.law_rows.specs.RowForm.{rowWindowOf}
-use Rattle.law_rows.proofs.Fused.{allOf, both-true, rows-alone, appliedOf, applied-all, perform-all, row-all, quiet}
+use Rattle.law_rows.proofs.Fused.{allOf, both-true, rows-no-repair, appliedOf, applied-all, perform-all, row-all, quiet}
 
 -- what a list does to a sample
 abbrev pub rulesOf : Window → (scale : Float) → List ℕ → Rule Float
@@ -145,17 +145,17 @@ row-call rw scale y list row m ranges whole taken =
 -- a run of any form, in range, on a list that is read whole and taken, that has no repair and finds room for its names
 pub window-run : {A : Type 0} (kind : Kind A) (takes : List Item → Bool) (skip : Class → Bool) (w : Window) (period : ℕ) (room : Room)
     (list : List ℕ) (s : List A) (names : List ℕ) (m : ℕ)
-    → inRange w period ≡ true → readingOf list ≡ R.Whole m → takes (itemsOf list) ≡ true → alone (itemsOf list) ≡ true
+    → inRange w period ≡ true → readingOf list ≡ R.Whole m → takes (itemsOf list) ≡ true → noRepair (itemsOf list) ≡ true
     → length (namesOf skip (itemsOf list)) ≤ length names
     → runOut kind takes skip w period room list s names
     ≡ runDone skip list names (each (onWindow w (length s) (appliedOf kind list (itemsOf list))) s)
 unfolding runOut ranOn
-window-run {A} kind takes skip w period room list s names m ranges whole taken lone roomy =
+window-run {A} kind takes skip w period room list s names m ranges whole taken without roomy =
     ap (λ (b : Bool). cond b (read (readingOf list)) (unchanged Ans.Range s names)) ranges
     ∙ ap read whole
     ∙ ap (λ (b : Bool). cond b (cond (leb (length skips) (length names)) did (unchanged Ans.Names s names)) (unchanged Ans.NotTaken s names)) taken
     ∙ ap (λ (b : Bool). cond b did (unchanged Ans.Names s names)) (le-leb _ _ roomy)
-    ∙ ap (finished skips names) (perform-all kind w period room list (itemsOf list) 0 s 0 0 lone)
+    ∙ ap (finished skips names) (perform-all kind w period room list (itemsOf list) 0 s 0 0 without)
   where
     skips : List ℕ
     skips = namesOf skip (itemsOf list)
@@ -173,7 +173,7 @@ pub window-call : (w : Window) (set : Settings) (room : Room) (list : List ℕ) 
     → f32Out w set room list s names ≡ runDone skipped list names (each (onWindow w (length s) (rulesOf w (set .scale) list)) s)
 unfolding onWindow
 window-call w set room list s names m ranges whole taken roomy =
-    window-run kind takesAll skipped w (set .period) room list s names m ranges whole refl (rows-alone (itemsOf list) taken) roomy
+    window-run kind takesAll skipped w (set .period) room list s names m ranges whole refl (rows-no-repair (itemsOf list) taken) roomy
     ∙ ap (runDone skipped list names)
     (each-agree _ _ s
     (λ j v q.

@@ -17,7 +17,7 @@ use Rattle.dng.specs.Select.{Rule, onWindow, onRow}
 use Rattle.dng.specs.Value.{Frame, ruleOf}
 use Rattle.dng.specs.Run.{Class, table, empty, local, repair, unapplied, classOf, rowTakes, takesRows}
 use Rattle.dng.specs.Run.{Kind, going, Room, performOn, perform, performAll, rowOn}
-use Rattle.law_rows.specs.Alone.{aloneIn, alone, Rows-alone}
+use Rattle.law_rows.specs.NoRepair.{noRepairIn, noRepair, Rows-no-repair}
 use Rattle.law_rows.proofs.Place.{on-window-both, on-window-none}
 
 -- the opcodes of a list at one place, in list order
@@ -34,14 +34,14 @@ pub both-true : (a b : Bool) → (a && b) ≡ true → (a ≡ true) × (b ≡ tr
 both-true true b h = (refl, h)
 both-true false b h = absurd (false≢true h)
 
-pub rows-alone : Rows-alone
-unfolding alone takesRows
-rows-alone [] h = refl
-rows-alone (i ∷ is) h =
+pub rows-no-repair : Rows-no-repair
+unfolding noRepair takesRows
+rows-no-repair [] h = refl
+rows-no-repair (i ∷ is) h =
     let taken = both-true (rowTakes (classOf (i .op))) (takesRows is) h in
-    ap₂ _&&_ (one (classOf (i .op)) (taken .0)) (rows-alone is (taken .1))
+    ap₂ _&&_ (one (classOf (i .op)) (taken .0)) (rows-no-repair is (taken .1))
   where
-    one : (c : Class) → rowTakes c ≡ true → aloneIn c ≡ true
+    one : (c : Class) → rowTakes c ≡ true → noRepairIn c ≡ true
     one table h = refl
     one empty h = refl
     one local h = refl
@@ -86,7 +86,7 @@ module _ {A : Type 0} (kind : Kind A) where
 
   module _ (w : Window) (period : ℕ) (room : Room) (list : List ℕ) where
     -- one opcode that is no repair
-    perform-one : (i : Item) (k : ℕ) (s : List A) (r t : ℕ) → aloneIn (classOf (i .op)) ≡ true
+    perform-one : (i : Item) (k : ℕ) (s : List A) (r t : ℕ) → noRepairIn (classOf (i .op)) ≡ true
         → perform kind w period room list i k (going s r t)
         ≡ going (each (onWindow w (length s) (appliedOn (classOf (i .op)) (i .op) (bodyOf list (i .entry)))) s) r t
     perform-one i k s r t h = on (classOf (i .op)) h
@@ -99,7 +99,7 @@ module _ {A : Type 0} (kind : Kind A) where
             ap (λ (u : List A). going u r t)
             (sym (each-none _ s (λ j v q. on-window-none w (length s) (λ whole y x k v. v) j v (λ whole y x k u. refl))))
 
-        on : (c : Class) → aloneIn c ≡ true
+        on : (c : Class) → noRepairIn c ≡ true
             → performOn kind w period room c (i .op) b k s r t ≡ going (each (onWindow w (length s) (appliedOn c (i .op) b)) s) r t
         on table h = refl
         on empty h = none
@@ -108,14 +108,14 @@ module _ {A : Type 0} (kind : Kind A) where
         on unapplied h = none
 
     -- all opcodes of a list without a repair: one rule over the window, nothing repaired and nothing left
-    pub perform-all : (is : List Item) (k : ℕ) (s : List A) (r t : ℕ) → alone is ≡ true
+    pub perform-all : (is : List Item) (k : ℕ) (s : List A) (r t : ℕ) → noRepair is ≡ true
         → performAll kind w period room list k is (going s r t) ≡ going (each (onWindow w (length s) (appliedOf list is)) s) r t
-    unfolding performAll alone appliedOf
+    unfolding performAll noRepair appliedOf
     perform-all [] k s r t h =
         ap (λ (u : List A). going u r t)
         (sym (each-none _ s (λ j v q. on-window-none w (length s) (appliedOf list []) j v (λ whole y x p u. refl))))
     perform-all (i ∷ is) k s r t h =
-        let taken = both-true (aloneIn (classOf (i .op))) (alone is) h in
+        let taken = both-true (noRepairIn (classOf (i .op))) (noRepair is) h in
         ap (performAll kind w period room list (suc k) is) (perform-one i k s r t (taken .0))
         ∙ perform-all is (suc k) (each F s) r t (taken .1)
         ∙ ap (λ (n : ℕ). going (each (onWindow w n G) (each F s)) r t) (length-each F s)

@@ -1,2 +1,2 @@
-pub mod Alone
+pub mod NoRepair
 pub mod RowForm

@@ -10,29 +10,29 @@ use Rattle.dng.specs.declared.Opcode.the-variants.{WarpFisheye, FixBadPixelsCon
 use Rattle.dng.specs.List.{Item}
 use Rattle.dng.specs.Run.{Class, table, empty, local, repair, unapplied, classOf, takesRows}
 
-abbrev pub aloneIn : Class → Bool
-aloneIn table = true
-aloneIn empty = true
-aloneIn local = true
-aloneIn repair = false
-aloneIn unapplied = true
+abbrev pub noRepairIn : Class → Bool
+noRepairIn table = true
+noRepairIn empty = true
+noRepairIn local = true
+noRepairIn repair = false
+noRepairIn unapplied = true
 
-unfoldable pub alone : List Item → Bool
-alone [] = true
-alone (i ∷ is) = aloneIn (classOf (i .op)) && alone is
+unfoldable pub noRepair : List Item → Bool
+noRepair [] = true
+noRepair (i ∷ is) = noRepairIn (classOf (i .op)) && noRepair is
 
 -- every list of the row form is one; proofs/Fused proves it
-abbrev pub Rows-alone : Type 0
-Rows-alone = (is : List Item) → takesRows is ≡ true → alone is ≡ true
+abbrev pub Rows-no-repair : Type 0
+Rows-no-repair = (is : List Item) → takesRows is ≡ true → noRepair is ≡ true
 
 -- worked values: a table with no entry and a warp; a warp and a repair
 abbrev of : Entry → Opcode → Item
 of e op = record { entry = e; op = op }
 
 record Worked : Type 0 where
-  tables : (e : Entry) (r : Region) → alone (of e (MapTable r 0) ∷ of e WarpFisheye ∷ []) ≡ true
-  repairs : (e : Entry) → alone (of e WarpFisheye ∷ of e (FixBadPixelsConstant 0 0) ∷ []) ≡ false
+  tables : (e : Entry) (r : Region) → noRepair (of e (MapTable r 0) ∷ of e WarpFisheye ∷ []) ≡ true
+  repairs : (e : Entry) → noRepair (of e WarpFisheye ∷ of e (FixBadPixelsConstant 0 0) ∷ []) ≡ false
 
 worked : Worked
-unfolding alone
+unfolding noRepair
 worked = record { tables = λ e r. refl; repairs = λ e. refl }
