@@ -8,6 +8,7 @@ mod lists;
 mod oracle;
 mod rng;
 mod shrink;
+mod tiles;
 
 use cases::Case;
 use check::Counts;
@@ -119,10 +120,19 @@ fn main() {
             *all.entry(k).or_insert(0) += v;
         }
     }
+    let cuts = cases / 10;
+    let threads: Vec<_> = (0..jobs).map(|j| thread::spawn(move || tiles::sweep(seed, j, cuts, jobs))).collect();
+    for t in threads {
+        let (n, w) = t.join().expect("a sweep ends");
+        wrong += w;
+        for (k, v) in n {
+            *all.entry(k).or_insert(0) += v;
+        }
+    }
     for (k, v) in &all {
         println!("{v:>12}  {k}");
     }
-    println!("compared {cases} cases of seed {seed}, seven calls each, and {fixed} at the limits: {wrong} differ");
+    println!("compared {cases} cases of seed {seed}, seven calls each, {fixed} at the limits, {cuts} cuts into tiles: {wrong} differ");
     if wrong > 0 {
         exit(1);
     }

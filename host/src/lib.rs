@@ -263,6 +263,15 @@ impl Frame {
         }
     }
 
+    /// The rectangle of `width` columns and `height` rows from this frame's column `x` and row `y` on.
+    pub fn tile(&self, x: usize, y: usize, width: usize, height: usize) -> Tile {
+        // What saturates is past the limits, and refused by every run.
+        Tile {
+            frame: Frame { width, height, ..*self }.at(self.x0.saturating_add(x), self.y0.saturating_add(y)),
+            start: y.saturating_mul(self.stride).saturating_add(x).saturating_mul(self.planes),
+        }
+    }
+
     fn window(&self) -> ffi::Window {
         ffi::Window {
             width: self.width,
@@ -359,6 +368,66 @@ impl Frame {
                 room.names.len(),
             )
         })
+    }
+}
+
+/// A rectangle of a frame, as a value: a frame of its own, with its own x0 and y0 and the other's stride, planes,
+/// full sizes, period and scale, and where its first sample lies among the other's. [`Frame::tile`] makes it.
+///
+/// **Tiles give the frame.** Take a list without repairs, as every list of the row form is and every list of tables
+/// on u16 samples; a frame inside the limits with a width of at least 1 and a stride of at least its width; samples
+/// up to its last pixel at least; and skip buffers with room. Cut the frame into tiles that cover it without overlap,
+/// each inside the limits; empty ones may be among them. Run one after another, in any order, each answers 0, and
+/// together they leave the samples that the one run of the frame leaves, bit for bit, NaN for NaN. A tile may be lent
+/// the samples from its first on up to its last, or anywhere past it; a period and scratch of its own change nothing.
+///
+/// This is proved of the calls (`law_promises`, `Tile-calls`). Bands of whole rows are such a cut (`law_tiles`,
+/// `Bands-cut`).
+///
+/// ```
+/// use rolbhunga::{Frame, Scratch};
+///
+/// // One ScalePerColumn over columns 0 to 3: by 2, 3 and 4.
+/// let mut words = vec![1, 13, 0x0103_0000, 0, 48, 0, 0, 2, 3, 0, 1, 1, 1, 3];
+/// words.extend([2.0f32, 3.0, 4.0].map(f32::to_bits));
+/// let list: Vec<u8> = words.iter().flat_map(|w: &u32| w.to_be_bytes()).collect();
+///
+/// let frame = Frame::new(3, 2, 1);
+/// let mut scratch = Scratch::new(0, 0);
+/// let (mut whole, mut tiled) = ([1.0; 6], [1.0; 6]);
+/// frame.run_f32(&list, &mut whole, &mut scratch.room());
+/// for tile in [frame.tile(2, 0, 1, 2), frame.tile(0, 0, 2, 2)] {
+///     tile.run_f32(&list, &mut tiled, &mut scratch.room());
+/// }
+/// assert_eq!(whole, [2.0, 3.0, 4.0, 2.0, 3.0, 4.0]);
+/// assert_eq!(whole, tiled);
+/// ```
+#[derive(Debug, Clone, Copy, PartialEq)]
+pub struct Tile {
+    pub frame: Frame,
+    pub start: usize,
+}
+
+impl Tile {
+    /// How many samples there are from the tile's first up to its last.
+    pub fn span(&self) -> usize {
+        let f = &self.frame;
+        match (f.width, f.height) {
+            (0, _) | (_, 0) => 0,
+            (w, h) => (h - 1).saturating_mul(f.stride).saturating_add(w).saturating_mul(f.planes),
+        }
+    }
+
+    /// Runs a list on the tile, among the frame's f32 samples.
+    pub fn run_f32(&self, list: &[u8], samples: &mut [f32], room: &mut Room<'_>) -> Answer {
+        let start = self.start.min(samples.len());
+        self.frame.run_f32(list, &mut samples[start..], room)
+    }
+
+    /// Runs a list on the tile, among the frame's u16 samples.
+    pub fn run_u16(&self, list: &[u8], samples: &mut [u16], room: &mut Room<'_>) -> Answer {
+        let start = self.start.min(samples.len());
+        self.frame.run_u16(list, &mut samples[start..], room)
     }
 }
 

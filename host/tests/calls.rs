@@ -149,3 +149,43 @@ fn rows_are_the_frame() {
     assert_eq!(f.row().run(&l, &mut [0.0; 5], 0), RowAnswer::Range);
     assert_eq!(f.row().run(&l, &mut [0.0; 4], 16_842_752), RowAnswer::Range);
 }
+
+#[test]
+fn tiles_are_the_frame() {
+    // A table on every second column, columns scaled each by its own number, and a gap of one pixel after each row.
+    let mut scales = words(&[0, 2, 9, 7, 0, 2, 1, 1, 4]);
+    scales.extend(words(&[0.5f32, 2.0, 3.0, 4.0].map(f32::to_bits)));
+    let l = list(&[table([0, 1, 9, 7, 1, 1, 1, 2], &[5, 7, 9]), (13, scales), (2, vec![])]);
+    let f = Frame::new(3, 2, 2).stride(4).at(2, 1).full(9, 9);
+    let before: Vec<f32> = (0..14).map(|v| v as f32).collect();
+    let mut whole = before.clone();
+    assert_eq!(run_f32(f, &l, &mut whole), Answer::Done { names: 1, repaired: 0, left: 0 });
+    let tiles = [f.tile(2, 1, 1, 1), f.tile(0, 0, 2, 2), f.tile(1, 1, 0, 9), f.tile(2, 0, 1, 1)];
+    assert_eq!((tiles[1].start, tiles[0].start, tiles[1].span(), tiles[2].span()), (0, 12, 12, 0));
+    for order in [[0, 1, 2, 3], [3, 2, 1, 0], [1, 3, 0, 2]] {
+        let mut tiled = before.clone();
+        for t in order.map(|i| tiles[i]) {
+            let a = t.run_f32(&l, &mut tiled, &mut Scratch::new(0, 1).room());
+            assert_eq!(a, Answer::Done { names: 1, repaired: 0, left: 0 });
+        }
+        assert_eq!(whole, tiled);
+        // each lent up to its last sample alone
+        let mut tiled = before.clone();
+        for t in order.map(|i| tiles[i]) {
+            let own = &mut tiled[t.start..t.start + t.span()];
+            assert_eq!(t.frame.run_f32(&l, own, &mut Scratch::new(0, 1).room()).number(), 0);
+        }
+        assert_eq!(whole, tiled);
+    }
+    let l = list(&[table([0, 1, 9, 7, 1, 1, 1, 2], &[5, 7, 9])]);
+    let (mut whole, mut tiled) = ([1u16; 14], [1; 14]);
+    assert_eq!(f.run_u16(&l, &mut whole, &mut Scratch::new(0, 0).room()).number(), 0);
+    for t in tiles {
+        assert_eq!(t.run_u16(&l, &mut tiled, &mut Scratch::new(0, 0).room()).number(), 0);
+    }
+    assert_eq!(whole, tiled);
+    // past the limits, and past the samples
+    let far = f.tile(usize::MAX, usize::MAX, usize::MAX, 2);
+    assert_eq!(far.run_f32(&l, &mut [1.0], &mut Scratch::new(0, 0).room()), Answer::Range);
+    assert_eq!(f.tile(0, 9, 3, 1).run_f32(&l, &mut [1.0], &mut Scratch::new(0, 0).room()).number(), 0);
+}

@@ -8,3 +8,5 @@ pub mod Calls
 -- the promises, and P5
 pub mod Theorems
 pub mod Worked
+-- document 02
+pub mod TileCalls

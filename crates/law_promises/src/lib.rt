@@ -1,1 +1,2 @@
-// What a caller may conclude from the public contracts: specs/Promises states it, proofs/ has the proofs. No code.
+// What a caller may conclude from the public contracts: specs/Promises and specs/TileCalls state it, proofs/ has the
+// proofs. No code.

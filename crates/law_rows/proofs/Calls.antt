@@ -1,14 +1,16 @@
--- The two answers that the row form's theorem compares: a row call and the run, both on a list that the row form takes.
--- Each answers 0, and its samples are one rule, at each place of the row and of the window.
+-- The answers that the theorems on rows and tiles compare: a row call on a list that the row form takes, and a run of any form on a list without
+-- repairs. Each answers 0, and its samples are one rule, at each place of the row and of the window. Assumes nothing.
 use Prim.Native.Nat.{ℕ, _+_, _*_, _≤_, _<_}
-use mathlib.Core.Path.{_≡_, ap, ap₂, _∙_}
+use mathlib.Core.Path.{_≡_, refl, ap, ap₂, _∙_}
 use mathlib.Core.Bool.{Bool, true, _&&_, cond}
 use mathlib.Core.List.{List}
 use native.Mathlib.Omega.{arith}
 use borrow.Author.Tests.{leb-true, le-leb}
+use lib.Dec.{leb}
 use lib.Ieee.{Float}
 use lib.ListN.{length}
 use Rattle.pointwise.specs.Points.{each}
+use Rattle.pointwise.proofs.Each.{each-agree}
 use Rattle.dng.specs.declared.Window.{Window}
 use Rattle.dng.specs.declared.RowWindow.{RowWindow}
 use Rattle.dng.specs.declared.Settings.{Settings}
@@ -16,14 +18,15 @@ use Rattle.dng.specs.declared.Answer.the-variants as Ans
 use Rattle.dng.specs.declared.RowAnswer.the-variants as Row
 use Rattle.dng.specs.declared.Reading.{Reading}
 use Rattle.dng.specs.declared.Reading.the-variants as R
-use Rattle.dng.specs.List.{readingOf, itemsOf}
-use Rattle.dng.specs.Select.{Rule, onWindow, onRow}
+use Rattle.dng.specs.List.{Item, readingOf, itemsOf}
+use Rattle.dng.specs.Select.{Rule, planeOf, columnOf, rowOf, inWindow, wholePixel, onWindow, onRow}
 use Rattle.dng.specs.Value.{ruleOf}
-use Rattle.dng.specs.Run.{Kind, Room, namesOf, skipped, takesRows, f32Kind, going, performAll, rowOn}
+use Rattle.dng.specs.Run.{Class, Kind, Room, namesOf, skipped, takesRows, f32Kind, going, performAll, rowOn}
 use Rattle.dng.specs.Answer.{inRange, rowInRange, frameOf, rowFrameOf, RowOut, rowRead, rowOut}
 use Rattle.dng.specs.Answer.{Out, unchanged, written, finished, ranOn, readOut, runOut, takesAll, f32Out}
+use Rattle.law_rows.specs.NoRepair.{noRepair}
 use Rattle.law_rows.specs.RowForm.{rowWindowOf}
-use Rattle.law_rows.proofs.Fused.{allOf, both-true, perform-all, row-all, quiet}
+use Rattle.law_rows.proofs.Fused.{allOf, both-true, rows-no-repair, appliedOf, applied-all, perform-all, row-all, quiet}
 
 -- what a list does to a sample
 abbrev pub rulesOf : Window → (scale : Float) → List ℕ → Rule Float
@@ -69,6 +72,37 @@ ranged w period h0 =
       longest = leb-true _ _ (h9 .1);
     }
 
+pub in-range : (w : Window) (period : ℕ) → Ranged w period → inRange w period ≡ true
+unfolding inRange
+in-range w period g =
+    ap₂ _&&_ (le-leb (w .width) 65536 (g .widest))
+    (ap₂ _&&_ (le-leb (w .height) 65536 (g .highest))
+    (ap₂ _&&_ (le-leb (w .stride) 65536 (g .farthest))
+    (ap₂ _&&_ (le-leb 1 (w .planes) (g .some))
+    (ap₂ _&&_ (le-leb (w .planes) 8 (g .most))
+    (ap₂ _&&_ (le-leb (w .x0) 16777216 (g .left))
+    (ap₂ _&&_ (le-leb (w .y0) 16777216 (g .top))
+    (ap₂ _&&_ (le-leb (w .«full_width») 16777216 (g .fullWide))
+    (ap₂ _&&_ (le-leb (w .«full_height») 16777216 (g .fullHigh)) (le-leb period 65536 (g .longest))))))))))
+
+-- another period in range
+pub other-period : (w : Window) (period q : ℕ) → inRange w period ≡ true → q ≤ 65536 → inRange w q ≡ true
+other-period w period q h short =
+    let g = ranged w period h in
+    in-range w q
+    (record {
+      widest = g .widest;
+      highest = g .highest;
+      farthest = g .farthest;
+      some = g .some;
+      most = g .most;
+      left = g .left;
+      top = g .top;
+      fullWide = g .fullWide;
+      fullHigh = g .fullHigh;
+      longest = short;
+    })
+
 -- a row of a window within the ranges, no longer than the window is wide, is within the row's
 pub row-ranged : (w : Window) (period y n : ℕ) → Ranged w period → y < w .height → n ≤ w .width * w .planes
     → rowInRange (rowWindowOf w) (w .y0 + y) n ≡ true
@@ -89,9 +123,9 @@ abbrev pub rowDone : List ℕ → List Float → RowOut
 rowDone list row = record { answer = Row.Done (length (namesOf skipped (itemsOf list))); row = row }
 
 -- a run that is done, with nothing repaired and nothing left
-abbrev pub runDone : List ℕ → (names : List ℕ) → List Float → Out Float
-runDone list names s =
-    record { answer = Ans.Done (length (namesOf skipped (itemsOf list))) 0 0; samples = s; names = written (namesOf skipped (itemsOf list)) names }
+abbrev pub runDone : {A : Type 0} → (Class → Bool) → List ℕ → (names : List ℕ) → List A → Out A
+runDone skip list names s =
+    record { answer = Ans.Done (length (namesOf skip (itemsOf list))) 0 0; samples = s; names = written (namesOf skip (itemsOf list)) names }
 
 -- a row call in range, on a list that is read whole and taken
 pub row-call : (rw : RowWindow) (scale : Float) (y : ℕ) (list : List ℕ) (row : List Float) (m : ℕ)
@@ -108,24 +142,44 @@ row-call rw scale y list row m ranges whole taken =
     did : RowOut
     did = rowDone list (rowOn (rowFrameOf rw scale) (rw .x0) (rw .planes) y list (itemsOf list) row)
 
--- the run in range, on a list that is read whole and taken by the row form, with room for the names
+-- a run of any form, in range, on a list that is read whole and taken, that has no repair and finds room for its names
+pub window-run : {A : Type 0} (kind : Kind A) (takes : List Item → Bool) (skip : Class → Bool) (w : Window) (period : ℕ) (room : Room)
+    (list : List ℕ) (s : List A) (names : List ℕ) (m : ℕ)
+    → inRange w period ≡ true → readingOf list ≡ R.Whole m → takes (itemsOf list) ≡ true → noRepair (itemsOf list) ≡ true
+    → length (namesOf skip (itemsOf list)) ≤ length names
+    → runOut kind takes skip w period room list s names
+    ≡ runDone skip list names (each (onWindow w (length s) (appliedOf kind list (itemsOf list))) s)
+unfolding runOut ranOn
+window-run {A} kind takes skip w period room list s names m ranges whole taken without roomy =
+    ap (λ (b : Bool). cond b (read (readingOf list)) (unchanged Ans.Range s names)) ranges
+    ∙ ap read whole
+    ∙ ap (λ (b : Bool). cond b (cond (leb (length skips) (length names)) did (unchanged Ans.Names s names)) (unchanged Ans.NotTaken s names)) taken
+    ∙ ap (λ (b : Bool). cond b did (unchanged Ans.Names s names)) (le-leb _ _ roomy)
+    ∙ ap (finished skips names) (perform-all kind w period room list (itemsOf list) 0 s 0 0 without)
+  where
+    skips : List ℕ
+    skips = namesOf skip (itemsOf list)
+
+    read : Reading → Out A
+    read r = readOut kind takes skip w period room list s names r
+
+    did : Out A
+    did = finished skips names (performAll kind w period room list 0 (itemsOf list) (going s 0 0))
+
+-- the f32 run on a list that the row form takes
 pub window-call : (w : Window) (set : Settings) (room : Room) (list : List ℕ) (s : List Float) (names : List ℕ) (m : ℕ)
     → inRange w (set .period) ≡ true → readingOf list ≡ R.Whole m → takesRows (itemsOf list) ≡ true
     → length (namesOf skipped (itemsOf list)) ≤ length names
-    → f32Out w set room list s names ≡ runDone list names (each (onWindow w (length s) (rulesOf w (set .scale) list)) s)
-unfolding runOut ranOn
+    → f32Out w set room list s names ≡ runDone skipped list names (each (onWindow w (length s) (rulesOf w (set .scale) list)) s)
+unfolding onWindow
 window-call w set room list s names m ranges whole taken roomy =
-    ap (λ (b : Bool). cond b (read (readingOf list)) (unchanged Ans.Range s names)) ranges
-    ∙ ap read whole
-    ∙ ap (λ (b : Bool). cond b did (unchanged Ans.Names s names)) (le-leb _ _ roomy)
-    ∙ ap (finished (namesOf skipped (itemsOf list)) names)
-    (perform-all kind w (set .period) room list (quiet (frameOf w (set .scale))) (itemsOf list) 0 s 0 0 taken)
+    window-run kind takesAll skipped w (set .period) room list s names m ranges whole refl (rows-no-repair (itemsOf list) taken) roomy
+    ∙ ap (runDone skipped list names)
+    (each-agree _ _ s
+    (λ j v q.
+    ap (λ (u : Float). cond (inWindow w j) u v)
+    (applied-all kind (quiet (frameOf w (set .scale))) list (itemsOf list) taken
+    (wholePixel (w .planes) (length s) j) (w .y0 + rowOf w j) (w .x0 + columnOf w j) (planeOf w j) v)))
   where
     kind : Kind Float
     kind = f32Kind (frameOf w (set .scale))
-
-    read : Reading → Out Float
-    read r = readOut kind takesAll skipped w (set .period) room list s names r
-
-    did : Out Float
-    did = finished (namesOf skipped (itemsOf list)) names (performAll kind w (set .period) room list 0 (itemsOf list) (going s 0 0))

@@ -1,7 +1,7 @@
--- A list with no repair and no empty table is one rule: its opcodes one after another at a place. The run is that rule over the window,
--- with the totals as they were, and a row goes through that rule on its own. Over any sample kind whose unapplied opcodes change nothing.
+-- A list with no repair is one rule: its applied opcodes one after another at a place. The run is that rule over the window, with the totals as
+-- they were, over any sample kind; where the row form takes the list, a row goes through that rule on its own. Assumes nothing.
 use Prim.Native.Nat.{ℕ, suc}
-use mathlib.Core.Path.{_≡_, refl, sym, ap, subst, _∙_}
+use mathlib.Core.Path.{_≡_, refl, sym, ap, ap₂, subst, _∙_}
 use mathlib.Core.Bool.{Bool, true, false, _&&_, cond, false≢true}
 use mathlib.Core.List.{List, [], _∷_}
 use lib.Dec.{eqb}
@@ -17,6 +17,7 @@ use Rattle.dng.specs.Select.{Rule, onWindow, onRow}
 use Rattle.dng.specs.Value.{Frame, ruleOf}
 use Rattle.dng.specs.Run.{Class, table, empty, local, repair, unapplied, classOf, rowTakes, takesRows}
 use Rattle.dng.specs.Run.{Kind, going, Room, performOn, perform, performAll, rowOn}
+use Rattle.law_rows.specs.NoRepair.{noRepairIn, noRepair, Rows-no-repair}
 use Rattle.law_rows.proofs.Place.{on-window-both, on-window-none}
 
 -- the opcodes of a list at one place, in list order
@@ -33,49 +34,102 @@ pub both-true : (a b : Bool) → (a && b) ≡ true → (a ≡ true) × (b ≡ tr
 both-true true b h = (refl, h)
 both-true false b h = absurd (false≢true h)
 
-module _ {A : Type 0} (kind : Kind A) (w : Window) (period : ℕ) (room : Room) (list : List ℕ) where
-  -- one opcode that the row form takes
-  pub perform-one : Quiet (kind .rule) → (i : Item) (k : ℕ) (s : List A) (r t : ℕ) → rowTakes (classOf (i .op)) ≡ true
-      → perform kind w period room list i k (going s r t)
-      ≡ going (each (onWindow w (length s) (kind .rule (i .op) (bodyOf list (i .entry)))) s) r t
-  perform-one quiet i k s r t h = on (classOf (i .op)) refl h
+pub rows-no-repair : Rows-no-repair
+unfolding noRepair takesRows
+rows-no-repair [] h = refl
+rows-no-repair (i ∷ is) h =
+    let taken = both-true (rowTakes (classOf (i .op))) (takesRows is) h in
+    ap₂ _&&_ (one (classOf (i .op)) (taken .0)) (rows-no-repair is (taken .1))
+  where
+    one : (c : Class) → rowTakes c ≡ true → noRepairIn c ≡ true
+    one table h = refl
+    one empty h = refl
+    one local h = refl
+    one repair h = h
+    one unapplied h = refl
+
+module _ {A : Type 0} (kind : Kind A) where
+  -- what an opcode makes of a sample: nothing where it is not applied. A repair looks at other samples, and is no such rule.
+  abbrev pub appliedOn : Class → Opcode → List ℕ → Rule A
+  appliedOn table op b whole y x k v = kind .rule op b whole y x k v
+  appliedOn empty op b whole y x k v = v
+  appliedOn local op b whole y x k v = kind .rule op b whole y x k v
+  appliedOn repair op b whole y x k v = v
+  appliedOn unapplied op b whole y x k v = v
+
+  -- the applied opcodes of a list at one place, in list order
+  unfoldable pub appliedOf : List ℕ → List Item → Rule A
+  appliedOf list [] whole y x k v = v
+  appliedOf list (i ∷ is) whole y x k v =
+      appliedOf list is whole y x k (appliedOn (classOf (i .op)) (i .op) (bodyOf list (i .entry)) whole y x k v)
+
+  -- where the row form takes the list, those are all its opcodes
+  pub applied-all : Quiet (kind .rule) → (list : List ℕ) (is : List Item) → takesRows is ≡ true → (whole : Bool) (y x k : ℕ) (v : A)
+      → appliedOf list is whole y x k v ≡ allOf (kind .rule) list is whole y x k v
+  unfolding takesRows appliedOf allOf
+  applied-all quiet list [] h whole y x k v = refl
+  applied-all quiet list (i ∷ is) h whole y x k v =
+      let taken = both-true (rowTakes (classOf (i .op))) (takesRows is) h in
+      ap (appliedOf list is whole y x k) (one (classOf (i .op)) refl (taken .0))
+      ∙ applied-all quiet list is (taken .1) whole y x k (kind .rule (i .op) b whole y x k v)
     where
       b : List ℕ
       b = bodyOf list (i .entry)
 
-      f : ℕ → A → A
-      f = onWindow w (length s) (kind .rule (i .op) b)
+      one : (c : Class) → classOf (i .op) ≡ c → rowTakes c ≡ true
+          → appliedOn c (i .op) b whole y x k v ≡ kind .rule (i .op) b whole y x k v
+      one table e h = refl
+      one empty e h = absurd (false≢true h)
+      one local e h = refl
+      one repair e h = absurd (false≢true h)
+      one unapplied e h = sym (quiet (i .op) b e whole y x k v)
 
-      on : (c : Class) → classOf (i .op) ≡ c → rowTakes c ≡ true → performOn kind w period room c (i .op) b k s r t ≡ going (each f s) r t
-      on table e h = refl
-      on empty e h = absurd (false≢true h)
-      on local e h = refl
-      on repair e h = absurd (false≢true h)
-      on unapplied e h =
-          ap (λ (u : List A). going u r t)
-          (sym (each-none f s (λ j v q. on-window-none w (length s) (kind .rule (i .op) b) j v (quiet (i .op) b e))))
+  module _ (w : Window) (period : ℕ) (room : Room) (list : List ℕ) where
+    -- one opcode that is no repair
+    perform-one : (i : Item) (k : ℕ) (s : List A) (r t : ℕ) → noRepairIn (classOf (i .op)) ≡ true
+        → perform kind w period room list i k (going s r t)
+        ≡ going (each (onWindow w (length s) (appliedOn (classOf (i .op)) (i .op) (bodyOf list (i .entry)))) s) r t
+    perform-one i k s r t h = on (classOf (i .op)) h
+      where
+        b : List ℕ
+        b = bodyOf list (i .entry)
 
-  -- all opcodes of such a list: one rule over the window, nothing repaired and nothing left
-  pub perform-all : Quiet (kind .rule) → (is : List Item) (k : ℕ) (s : List A) (r t : ℕ) → takesRows is ≡ true
-      → performAll kind w period room list k is (going s r t) ≡ going (each (onWindow w (length s) (allOf (kind .rule) list is)) s) r t
-  unfolding performAll takesRows allOf
-  perform-all quiet [] k s r t h =
-      ap (λ (u : List A). going u r t)
-      (sym (each-none _ s (λ j v q. on-window-none w (length s) (allOf (kind .rule) list []) j v (λ whole y x p u. refl))))
-  perform-all quiet (i ∷ is) k s r t h =
-      let taken = both-true (rowTakes (classOf (i .op))) (takesRows is) h in
-      ap (performAll kind w period room list (suc k) is) (perform-one quiet i k s r t (taken .0))
-      ∙ perform-all quiet is (suc k) (each F s) r t (taken .1)
-      ∙ ap (λ (n : ℕ). going (each (onWindow w n G) (each F s)) r t) (length-each F s)
-      ∙ ap (λ (u : List A). going u r t)
-      (each-each F (onWindow w (length s) G) s
-      ∙ each-agree _ _ s (λ j v q. on-window-both w (length s) (kind .rule (i .op) (bodyOf list (i .entry))) G j v))
-    where
-      F : ℕ → A → A
-      F = onWindow w (length s) (kind .rule (i .op) (bodyOf list (i .entry)))
+        none : going s r t ≡ going (each (onWindow w (length s) (λ whole y x k v. v)) s) r t
+        none =
+            ap (λ (u : List A). going u r t)
+            (sym (each-none _ s (λ j v q. on-window-none w (length s) (λ whole y x k v. v) j v (λ whole y x k u. refl))))
 
-      G : Rule A
-      G = allOf (kind .rule) list is
+        on : (c : Class) → noRepairIn c ≡ true
+            → performOn kind w period room c (i .op) b k s r t ≡ going (each (onWindow w (length s) (appliedOn c (i .op) b)) s) r t
+        on table h = refl
+        on empty h = none
+        on local h = refl
+        on repair h = absurd (false≢true h)
+        on unapplied h = none
+
+    -- all opcodes of a list without a repair: one rule over the window, nothing repaired and nothing left
+    pub perform-all : (is : List Item) (k : ℕ) (s : List A) (r t : ℕ) → noRepair is ≡ true
+        → performAll kind w period room list k is (going s r t) ≡ going (each (onWindow w (length s) (appliedOf list is)) s) r t
+    unfolding performAll noRepair appliedOf
+    perform-all [] k s r t h =
+        ap (λ (u : List A). going u r t)
+        (sym (each-none _ s (λ j v q. on-window-none w (length s) (appliedOf list []) j v (λ whole y x p u. refl))))
+    perform-all (i ∷ is) k s r t h =
+        let taken = both-true (noRepairIn (classOf (i .op))) (noRepair is) h in
+        ap (performAll kind w period room list (suc k) is) (perform-one i k s r t (taken .0))
+        ∙ perform-all is (suc k) (each F s) r t (taken .1)
+        ∙ ap (λ (n : ℕ). going (each (onWindow w n G) (each F s)) r t) (length-each F s)
+        ∙ ap (λ (u : List A). going u r t)
+        (each-each F (onWindow w (length s) G) s ∙ each-agree _ _ s (λ j v q. on-window-both w (length s) f G j v))
+      where
+        f : Rule A
+        f = appliedOn (classOf (i .op)) (i .op) (bodyOf list (i .entry))
+
+        F : ℕ → A → A
+        F = onWindow w (length s) f
+
+        G : Rule A
+        G = appliedOf list is
 
 -- a row on its own
 pub row-all : (fr : Frame) (x0 p y : ℕ) (list : List ℕ) (is : List Item) (row : List Float)

@@ -15,6 +15,7 @@ use Rattle.law_rows.specs.RowForm.{occurs, rowPart, rowPut, rowWindowOf,
 use Rattle.law_rows.proofs.Place.{Laid}
 use Rattle.law_rows.proofs.Rows.{onlyRow, row-length, row-run}
 use Rattle.law_rows.proofs.Calls.{rulesOf, rowDone, ranged, row-ranged, row-call, window-call}
+use Rattle.law_rows.proofs.Tests.{only, inTurn}
 use Rattle.law_rows.proofs.Order.{onRows, on-rows-once, once-below, occurs-head, occurs-tail}
 
 module _ (w : Window) (set : Settings) (list names ys : List ℕ) (h : RowForm·if w set list names ys) where
@@ -41,7 +42,7 @@ module _ (w : Window) (set : Settings) (list names ys : List ℕ) (h : RowForm·
   -- row call after row call
   pub all-rows : (zs : List ℕ) (s : List Float) → ((y : ℕ) → 1 ≤ occurs y zs → y < w .height)
       → allRows w (set .scale) list zs s ≡ onRows w (length s) (rulesOf w (set .scale) list) zs s
-  unfolding allRows onRows
+  unfolding allRows inTurn only onlyRow
   all-rows [] s below = refl
   all-rows (y ∷ zs) s below =
       ap (allRows w (set .scale) list zs) (one-row y s (below y (occurs-head y zs)))

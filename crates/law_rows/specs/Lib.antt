@@ -1,1 +1,2 @@
+pub mod NoRepair
 pub mod RowForm

@@ -1,0 +1,3 @@
+pub mod Tiles
+pub mod Bands
+pub mod Worked
