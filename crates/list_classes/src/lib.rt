@@ -66,47 +66,29 @@ pub struct Facts {
     pub skipped16: bool,
 }
 
+fn made_of(local: bool, repair: bool, by_row: bool, skipped: bool, skipped16: bool) -> Facts
+    ensures { λ r. ⌜ r ≡ record { local = local; repair = repair; «by_row» = «by_row»; skipped = skipped; skipped16 = skipped16 } ⌝ }
+{
+    Facts {
+        local,
+        repair,
+        by_row,
+        skipped,
+        skipped16,
+    }
+}
+
 pub fn facts_of(op: Opcode) -> Facts
     ensures { λ r. ⌜ r ≡ factsOf (classOf op) ⌝ }
 {
     match class_of(op) {
-        Class::Table => Facts {
-            local: false,
-            repair: false,
-            by_row: true,
-            skipped: false,
-            skipped16: false,
-        },
+        Class::Table => made_of(false, false, true, false, false),
         // By rows it would have to be named.
-        Class::Empty => Facts {
-            local: false,
-            repair: false,
-            by_row: false,
-            skipped: true,
-            skipped16: false,
-        },
+        Class::Empty => made_of(false, false, false, true, false),
         // Its values need not be whole.
-        Class::Local => Facts {
-            local: true,
-            repair: false,
-            by_row: true,
-            skipped: false,
-            skipped16: false,
-        },
+        Class::Local => made_of(true, false, true, false, false),
         // It looks at other rows.
-        Class::Repair => Facts {
-            local: false,
-            repair: true,
-            by_row: false,
-            skipped: false,
-            skipped16: false,
-        },
-        Class::Unapplied => Facts {
-            local: false,
-            repair: false,
-            by_row: true,
-            skipped: true,
-            skipped16: true,
-        },
+        Class::Repair => made_of(false, true, false, false, false),
+        Class::Unapplied => made_of(false, false, true, true, true),
     }
 }

@@ -11,12 +11,6 @@ use Rattle.fix_columns.proofs.Turning.{all-held, over-held, turns, turn
 use Rattle.fix_columns.proofs.by_columns.Statement.{statement}
 use Rattle.fix_columns.proofs.by_columns.Tie as tie
 
-gather-requires : tie.Need-gather-requires
-gather-requires c κs = search needs
-
-enum-known-n : tie.Need-enum-known-n
-enum-known-n c = search needs
-
 -- the marks by columns
 by : (c : tie.After-known-told) → let a = c .before .before .before .before .before .before .before .before .before .args in
     Holds (positions (a .w)) (listedIn true (a .w) (a .body .now) (a .points) (a .rects)) (a .marks .now) (c .before .before .before .before .before .gather .last .1 .1 .1 .1 .0)
@@ -37,12 +31,6 @@ in-order-requires c κs =
     let a = c .before .before .before .before .before .before .before .before .before .before .args in
     turns (a .w) (a .body .now) (a .points) (a .rects) (c .before .before .before .before .before .before .before .before .before .before .pre) _ _ _ (by (c .before))
 
-enum-told : tie.Need-enum-told
-enum-told c = search needs
-
-same-length : tie.Need-same-length
-same-length c = search needs
-
 returns : tie.Need-returns
 returns c =
     let at = c .before .before .before .before .before .before .before .before .before .before .before .before .before in
@@ -50,9 +38,6 @@ returns c =
     let sorted = c .before .before .in-order in
     turned-all (a .w) (a .body .now) (a .points) (a .rects) (at .pre) (a .marks .now) _ _ _ _ (sorted .result) (by (c .before .before .before .before)) (sorted .ensures)
     (sorted .kept .0) (c .before .before .before .before .before .before .before .before .before .gather .kept .1 .1 .1 .1 .0)
-
-same-length-2 : tie.Need-same-length-2
-same-length-2 c = search needs
 
 returns-2 : tie.Need-returns-2
 returns-2 c =
@@ -66,13 +51,5 @@ pub by-columns-spec : {M : Type 1} → statement M
 by-columns-spec =
     tie.close
     (tie.spec
-    gather-requires
-    enum-known-n
-    slice-relend-prefix-in-order
-    slice-aggregate-in-order
-    in-order-requires
-    enum-told
-    same-length
-    returns
-    same-length-2
-    returns-2)
+    (λ c κs. search needs) (λ c. search needs) slice-relend-prefix-in-order slice-aggregate-in-order in-order-requires
+    (λ c. search needs) (λ c. search needs) returns (λ c. search needs) returns-2)

@@ -21,15 +21,6 @@ inside c =
     part-in nan (a .w) (λ v. eq v (a .c)) (a .samples .now) (a .y) (a .from) (a .end) (c .tested .result)
     (c .tested .result + (a .end - a .from)) (s .pre .0) (s .pre .1) (c .before .if1 .taken) (c .tested .ensures) refl
 
-add-past : tie.Need-add-past
-add-past c = omega (arith, inside c)
-
-mul-any-f32 : tie.Need-mul-any-f32
-mul-any-f32 c = omega (arith, inside c, c .before .before .before .before .good .0 .1)
-
-part-any-f32-end : tie.Need-part-any-f32-end
-part-any-f32-end c = inside c
-
 returns : tie.Need-returns
 returns c = λ e.
     let t = c .before .before in
@@ -39,12 +30,10 @@ returns c = λ e.
     (t .tested .result + (a .end - a .from)) (s .pre .0) (s .pre .1) (t .before .if1 .taken) (t .tested .ensures) refl
     (c .any-f32 .ensures (not-true (c .any-f32 .result) e))
 
-returns-2 : tie.Need-returns-2
-returns-2 c = λ e. absurd (false≢true e)
-
 pub clear-f32-spec : {M : Type 1} → statement M
 clear-f32-spec =
     tie.close
     (tie.spec
-    (λ c κs. search needs) (λ c. search needs) add-past mul-any-f32 (λ c. search needs) (λ c. search needs)
-    part-any-f32-end (λ c κs. search needs) returns returns-2)
+    (λ c κs. search needs) (λ c. search needs) (λ c. omega (arith, inside c))
+    (λ c. omega (arith, inside c, c .before .before .before .before .good .0 .1)) (λ c. search needs)
+    (λ c. search needs) (λ c. inside c) (λ c κs. search needs) returns (λ c. λ e. absurd (false≢true e)))

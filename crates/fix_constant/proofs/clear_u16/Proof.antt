@@ -31,15 +31,6 @@ returns c = λ e x l h.
     bad-at 0 (a .w) (λ v. eqb v (a .c)) (a .samples .now) x (a .y) (omega (arith, h, s .pre .0 .edge))
     ∙ ne-eqb (getD (a .samples .now) at 0) (a .c) (λ q. omega (arith, q, c .if1 .taken, c .before .shared-slice-known .given at))
 
-add-past : tie.Need-add-past
-add-past c = omega (arith, inside c)
-
-mul-any-u16 : tie.Need-mul-any-u16
-mul-any-u16 c = omega (arith, inside c, c .before .before .before .before .before .good .0 .1)
-
-part-any-u16-end : tie.Need-part-any-u16-end
-part-any-u16-end c = inside c
-
 returns-2 : tie.Need-returns-2
 returns-2 c = λ e.
     let t = c .before .before in
@@ -49,12 +40,11 @@ returns-2 c = λ e.
     (t .tested .result + (a .end - a .from)) (s .pre .0) (s .pre .1) (t .before .if2 .taken) (t .tested .ensures) refl
     (c .any-u16 .ensures (not-true (c .any-u16 .result) e))
 
-returns-3 : tie.Need-returns-3
-returns-3 c = λ e. absurd (false≢true e)
-
 pub clear-u16-spec : {M : Type 1} → statement M
 clear-u16-spec =
     tie.close
     (tie.spec
-    returns (λ c κs. search needs) (λ c. search needs) add-past mul-any-u16 (λ c. search needs) (λ c. search needs)
-    part-any-u16-end (λ c. search needs) (λ c κs. search needs) returns-2 returns-3)
+    returns (λ c κs. search needs) (λ c. search needs) (λ c. omega (arith, inside c))
+    (λ c. omega (arith, inside c, c .before .before .before .before .before .good .0 .1)) (λ c. search needs)
+    (λ c. search needs) (λ c. inside c) (λ c. search needs) (λ c κs. search needs) returns-2
+    (λ c. λ e. absurd (false≢true e)))

@@ -36,31 +36,19 @@ left c =
 answer : (c : tie.After-row-u16 Inv-loop μ-loop) (r : Marked) → c .row-u16 .result ≡ r → left c r
 answer c r e = subst (left c) e (c .row-u16 .ensures)
 
-loop-holds : tie.Need-loop-holds Inv-loop μ-loop
-loop-holds c = let s = c .before .before in rows-start (s .args .w) (bad s) (s .args .marks .now)
-
 row-u16-requires : tie.Need-row-u16-requires Inv-loop μ-loop
 row-u16-requires c κs = (start (c .before) .pre, (c .before .if1 .taken, rows-before (c .before .before .before .loop .inv)))
-
-enum-known-got : tie.Need-enum-known-got Inv-loop μ-loop
-enum-known-got c = search needs
 
 add-y : tie.Need-add-y Inv-loop μ-loop
 add-y c =
     let t = turn (c .before .before .before .before .before) in
     omega (arith, t .if1 .taken, start t .pre .fits .height)
 
-loop-less : tie.Need-loop-less Inv-loop μ-loop
-loop-less c = omega arith
-
 loop-again : tie.Need-loop-again Inv-loop μ-loop
 loop-again c =
     let r = c .before .before .before .before .before in
     rows-join (turn r .before .before .loop .inv) (turn r .if1 .taken) (r .row-u16 .kept .1 .1 .1 .1 .0)
     (answer r _ (c .before .got .given .1))
-
-enum-told : tie.Need-enum-told Inv-loop μ-loop
-enum-told c = search needs
 
 same-length : tie.Need-same-length Inv-loop μ-loop
 same-length c =
@@ -72,26 +60,10 @@ returns c =
     let r = c .before .before .before .before in
     rows-over (turn r .before .before .loop .inv) (turn r .if1 .taken) (answer r _ (c .enum-told .given .1))
 
-same-length-2 : tie.Need-same-length-2 Inv-loop μ-loop
-same-length-2 c = c .before .before .loop .inv .long
-
-returns-2 : tie.Need-returns-2 Inv-loop μ-loop
-returns-2 c = rows-end (c .before .before .loop .inv) (c .if1 .left)
-
 pub constant-marks-u16-spec : {M : Type 1} → statement M
 constant-marks-u16-spec =
     tie.close
     (tie.spec
-    Inv-loop
-    μ-loop
-    loop-holds
-    row-u16-requires
-    enum-known-got
-    add-y
-    loop-less
-    loop-again
-    enum-told
-    same-length
-    returns
-    same-length-2
-    returns-2)
+    Inv-loop μ-loop (λ c. let s = c .before .before in rows-start (s .args .w) (bad s) (s .args .marks .now))
+    row-u16-requires (λ c. search needs) add-y (λ c. omega arith) loop-again (λ c. search needs) same-length returns
+    (λ c. c .before .before .loop .inv .long) (λ c. rows-end (c .before .before .loop .inv) (c .if1 .left)))

@@ -13,18 +13,7 @@ small : (c : tie.Start) → (c .args .y * c .args .w .stride + c .args .x) * c .
 small c =
     place-fits (c .args .w) (c .args .x) (c .args .y) (c .pre .0 .column) (c .pre .0 .row) (c .args .plane) (c .pre .1) (c .pre .0 .fits)
 
-mul-result : tie.Need-mul-result
-mul-result c = omega (arith, pixel (c .before))
-
-add-result : tie.Need-add-result
-add-result c = omega (arith, pixel (c .before))
-
-mul-result-2 : tie.Need-mul-result-2
-mul-result-2 c = omega (arith, small (c .before .before))
-
-add-result-2 : tie.Need-add-result-2
-add-result-2 c = omega (arith, small (c .before .before))
-
 pub place-spec : {M : Type 1} → statement M
 place-spec = tie.close (tie.spec
-    mul-result add-result mul-result-2 add-result-2 (λ c. search needs))
+    (λ c. omega (arith, pixel (c .before))) (λ c. omega (arith, pixel (c .before)))
+    (λ c. omega (arith, small (c .before .before))) (λ c. omega (arith, small (c .before .before))) (λ c. search needs))

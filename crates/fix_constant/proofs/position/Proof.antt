@@ -9,15 +9,7 @@ use Rattle.fix_constant.proofs.position.Tie as tie
 small : (c : tie.Start) → c .args .y * c .args .w .width + c .args .x < 4294967296
 small c = position-fits (c .args .w) (c .args .x) (c .args .y) (c .pre .column) (c .pre .row) (c .pre .fits)
 
-mul-result : tie.Need-mul-result
-mul-result c = omega (arith, small (c .before))
-
-add-result : tie.Need-add-result
-add-result c = omega (arith, small (c .before))
-
-cast-result : tie.Need-cast-result
-cast-result c = omega (arith, small (c .before))
-
 pub position-spec : {M : Type 1} → statement M
 position-spec = tie.close (tie.spec
-    mul-result add-result cast-result (λ c. search needs))
+    (λ c. omega (arith, small (c .before))) (λ c. omega (arith, small (c .before)))
+    (λ c. omega (arith, small (c .before))) (λ c. search needs))

@@ -36,12 +36,6 @@ left c =
 answer : (c : tie.After-block-f32 Inv-loop μ-loop) (r : Marked) → c .block-f32 .result ≡ r → left c r
 answer c r e = subst (left c) e (c .block-f32 .ensures)
 
-loop-holds : tie.Need-loop-holds Inv-loop μ-loop
-loop-holds c = record { within = omega arith; long = refl; held = c .before .before .pre .1 .1 }
-
-block-end-requires : tie.Need-block-end-requires Inv-loop μ-loop
-block-end-requires c κs = search needs
-
 block-f32-requires : tie.Need-block-f32-requires Inv-loop μ-loop
 block-f32-requires c κs =
     let s = start (c .before .before) in
@@ -50,20 +44,11 @@ block-f32-requires c κs =
       (e .0, scan-before (c .before .before .before .before .loop .inv)),
     )
 
-enum-known-got : tie.Need-enum-known-got Inv-loop μ-loop
-enum-known-got c = search needs
-
-loop-less : tie.Need-loop-less Inv-loop μ-loop
-loop-less c = omega (arith, c .before .before .before .before .before .before .before .block-end .ensures)
-
 loop-again : tie.Need-loop-again Inv-loop μ-loop
 loop-again c =
     let b = c .before .before .before .before .before in
     scan-join (turn b .before .before .loop .inv) (b .before .before .block-end .ensures .1) (b .block-f32 .kept .1 .1 .1 .1 .1 .1 .0)
     (answer b _ (c .before .got .given .1))
-
-enum-told : tie.Need-enum-told Inv-loop μ-loop
-enum-told c = search needs
 
 same-length : tie.Need-same-length Inv-loop μ-loop
 same-length c =
@@ -76,26 +61,12 @@ returns c =
     scan-over (turn b .before .before .loop .inv) (b .before .before .block-end .result) (b .before .before .block-end .ensures .1)
     (answer b _ (c .enum-told .given .1))
 
-same-length-2 : tie.Need-same-length-2 Inv-loop μ-loop
-same-length-2 c = c .before .before .loop .inv .long
-
-returns-2 : tie.Need-returns-2 Inv-loop μ-loop
-returns-2 c = scan-end (c .before .before .loop .inv) (c .if1 .left)
-
 pub row-f32-spec : {M : Type 1} → statement M
 row-f32-spec =
     tie.close
     (tie.spec
-    Inv-loop
-    μ-loop
-    loop-holds
-    block-end-requires
-    block-f32-requires
-    enum-known-got
-    loop-less
-    loop-again
-    enum-told
-    same-length
-    returns
-    same-length-2
-    returns-2)
+    Inv-loop μ-loop (λ c. record { within = omega arith; long = refl; held = c .before .before .pre .1 .1 })
+    (λ c κs. search needs) block-f32-requires (λ c. search needs)
+    (λ c. omega (arith, c .before .before .before .before .before .before .before .block-end .ensures)) loop-again
+    (λ c. search needs) same-length returns (λ c. c .before .before .loop .inv .long)
+    (λ c. scan-end (c .before .before .loop .inv) (c .if1 .left)))

@@ -12,9 +12,6 @@ mul-e c = let a = c .args in omega (arith, near-fits 4294967296 (a .width) (a .q
 sub-if1 : tie.Need-sub-if1
 sub-if1 c = let a = c .args in near-low 4294967296 (a .width) (a .q) (a .m) (c .pre .0) (c .pre .1 .0) (c .pre .1 .1)
 
-mul-if1 : tie.Need-mul-if1
-mul-if1 c = omega (arith, sub-if1 c, c .pre .1 .0)
-
 returns : tie.Need-returns
 returns c =
     let s = c .before in
@@ -31,4 +28,5 @@ add-result : tie.Need-add-result
 add-result c = let s = c .before in omega (arith, returns-2 c, div-le-self (s .args .q) (s .args .width), s .pre .1 .0)
 
 pub row-of-spec : {M : Type 1} → statement M
-row-of-spec = tie.close (tie.spec mul-e mul-if1 sub-if1 add-result returns returns-2)
+row-of-spec = tie.close (tie.spec
+    mul-e (λ c. omega (arith, sub-if1 c, c .pre .1 .0)) sub-if1 add-result returns returns-2)

@@ -16,19 +16,10 @@ mark s = getD (s .args .marks .now) (s .args .i) 0
 small : (s : tie.Start) → mark s < 4294967296
 small s = lt-of-lt-of-le (s .pre .inside) (area (s .args .w) (s .pre .fits))
 
-cast-q : tie.Need-cast-q
-cast-q c = omega (arith, small (c .before .before))
-
-row-of-requires : tie.Need-row-of-requires
-row-of-requires c κs = let s = c .before .before in (s .pre .fits .wide, (small s, s .pre .part))
-
 sub-x : tie.Need-sub-x
 sub-x c =
     let s = c .before .before .before .before in
     column-is (s .args .w) (mark s) (c .before .row-of .result) (c .before .row-of .ensures) .0
-
-mul-x : tie.Need-mul-x
-mul-x c = omega (arith, sub-x c, small (c .before .before .before .before))
 
 returns : tie.Need-returns
 returns c =
@@ -38,4 +29,6 @@ returns c =
 pub spot-of-spec : {M : Type 1} → statement M
 spot-of-spec =
     tie.close (tie.spec
-    (λ c. search needs) (λ c. search needs) cast-q row-of-requires mul-x sub-x returns)
+    (λ c. search needs) (λ c. search needs) (λ c. omega (arith, small (c .before .before)))
+    (λ c κs. let s = c .before .before in (s .pre .fits .wide, (small s, s .pre .part)))
+    (λ c. omega (arith, sub-x c, small (c .before .before .before .before))) sub-x returns)

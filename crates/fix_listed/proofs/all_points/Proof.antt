@@ -17,22 +17,13 @@ Inv-loop body points w s₀ across k₀ u₀ i₀ s k u i = Steps (positions w) 
 abbrev μ-loop : tie.MeasureT-loop
 μ-loop body points w s₀ across k₀ u₀ i₀ s k u i = points - i
 
-loop-holds : tie.Need-loop-holds Inv-loop μ-loop
-loop-holds c = (steps-start _ _ _ _ _ _ (front-none _ _) (λ q. any-none _), omega arith)
-
 point-requires : tie.Need-point-requires Inv-loop μ-loop
 point-requires c κs =
     let at = c .before .before .before .before .before in
     (c .before .before .loop .inv .0 .gains .front, (at .pre .0, omega (arith, at .pre .1)))
 
-enum-known-k1 : tie.Need-enum-known-k1 Inv-loop μ-loop
-enum-known-k1 c = search needs
-
 add-i : tie.Need-add-i Inv-loop μ-loop
 add-i c = omega (arith, c .before .before .before .before .before .before .before .before .before .before .before .pre)
-
-loop-less : tie.Need-loop-less Inv-loop μ-loop
-loop-less c = omega arith
 
 loop-again : tie.Need-loop-again Inv-loop μ-loop
 loop-again c =
@@ -43,9 +34,6 @@ loop-again c =
           (λ q l. any-more (in-loop .i) (λ i. atPoint (at .args .across) (at .args .w) (at .args .body .now) i q)),
       omega (arith, c .before .before .before .before .before .before .before .loop-test .taken),
     )
-
-enum-told : tie.Need-enum-told Inv-loop μ-loop
-enum-told c = search needs
 
 same-length : tie.Need-same-length Inv-loop μ-loop
 same-length c = c .before .before .before .before .point .kept .1 .1 .1 .0 ∙ c .before .before .before .before .before .before .before .loop .inv .0 .long
@@ -60,9 +48,6 @@ returns c =
     (λ q l. any-low (in-loop .i) (at .args .points) (λ i. atPoint (at .args .across) (at .args .w) (at .args .body .now) i q) (in-loop .inv .1))
     (λ q l. any-at (in-loop .i) (at .args .points) (λ i. atPoint (at .args .across) (at .args .w) (at .args .body .now) i q) less)
 
-same-length-2 : tie.Need-same-length-2 Inv-loop μ-loop
-same-length-2 c = c .before .loop .inv .0 .long
-
 returns-2 : tie.Need-returns-2 Inv-loop μ-loop
 returns-2 c =
     let in-loop = c .before .loop in
@@ -75,16 +60,6 @@ pub all-points-spec : {M : Type 1} → statement M
 all-points-spec =
     tie.close
     (tie.spec
-    Inv-loop
-    μ-loop
-    loop-holds
-    point-requires
-    enum-known-k1
-    add-i
-    loop-less
-    loop-again
-    enum-told
-    same-length
-    returns
-    same-length-2
-    returns-2)
+    Inv-loop μ-loop (λ c. (steps-start _ _ _ _ _ _ (front-none _ _) (λ q. any-none _), omega arith)) point-requires
+    (λ c. search needs) add-i (λ c. omega arith) loop-again (λ c. search needs) same-length returns
+    (λ c. c .before .loop .inv .0 .long) returns-2)

@@ -18,22 +18,13 @@ Inv-loop body points rects w s₀ n t across k₀ u₀ i₀ s k u i = Steps (pos
 abbrev μ-loop : tie.MeasureT-loop
 μ-loop body points rects w s₀ n t across k₀ u₀ i₀ s k u i = rects - i
 
-loop-holds : tie.Need-loop-holds Inv-loop μ-loop
-loop-holds c = (steps-start _ _ _ _ _ _ (c .before .before .pre .0) (λ q. any-none _), omega arith)
-
 rect-requires : tie.Need-rect-requires Inv-loop μ-loop
 rect-requires c κs =
     let at = c .before .before .before .before .before in
     (c .before .before .loop .inv .0 .gains .front, (at .pre .1 .0, (at .pre .1 .1 .0, omega (arith, at .pre .1 .1 .1))))
 
-enum-known-k1 : tie.Need-enum-known-k1 Inv-loop μ-loop
-enum-known-k1 c = search needs
-
 add-i : tie.Need-add-i Inv-loop μ-loop
 add-i c = omega (arith, c .before .before .before .before .before .before .before .before .before .before .before .pre)
-
-loop-less : tie.Need-loop-less Inv-loop μ-loop
-loop-less c = omega arith
 
 loop-again : tie.Need-loop-again Inv-loop μ-loop
 loop-again c =
@@ -44,9 +35,6 @@ loop-again c =
           (λ q l. any-more (in-loop .i) (λ i. inRect (at .args .across) (at .args .w) (at .args .body .now) (at .args .points) i q)),
       omega (arith, c .before .before .before .before .before .before .before .loop-test .taken),
     )
-
-enum-told : tie.Need-enum-told Inv-loop μ-loop
-enum-told c = search needs
 
 same-length : tie.Need-same-length Inv-loop μ-loop
 same-length c = c .before .before .before .before .rect .kept .1 .1 .1 .1 .0 ∙ c .before .before .before .before .before .before .before .loop .inv .0 .long
@@ -62,9 +50,6 @@ returns c =
     (in-loop .inv .1)) (λ q l. any-at (in-loop .i) (at .args .rects)
     (λ i. inRect (at .args .across) (at .args .w) (at .args .body .now) (at .args .points) i q) less)
 
-same-length-2 : tie.Need-same-length-2 Inv-loop μ-loop
-same-length-2 c = c .before .loop .inv .0 .long
-
 returns-2 : tie.Need-returns-2 Inv-loop μ-loop
 returns-2 c =
     let in-loop = c .before .loop in
@@ -77,16 +62,6 @@ pub all-rects-spec : {M : Type 1} → statement M
 all-rects-spec =
     tie.close
     (tie.spec
-    Inv-loop
-    μ-loop
-    loop-holds
-    rect-requires
-    enum-known-k1
-    add-i
-    loop-less
-    loop-again
-    enum-told
-    same-length
-    returns
-    same-length-2
-    returns-2)
+    Inv-loop μ-loop (λ c. (steps-start _ _ _ _ _ _ (c .before .before .pre .0) (λ q. any-none _), omega arith))
+    rect-requires (λ c. search needs) add-i (λ c. omega arith) loop-again (λ c. search needs) same-length returns
+    (λ c. c .before .loop .inv .0 .long) returns-2)

@@ -8,18 +8,6 @@ use Rattle.fix_listed.proofs.Listing.{points-over, rects-over, list-don
 use Rattle.fix_listed.proofs.gather.Statement.{statement}
 use Rattle.fix_listed.proofs.gather.Tie as tie
 
-all-points-requires : tie.Need-all-points-requires
-all-points-requires c κs = search needs
-
-enum-known-n : tie.Need-enum-known-n
-enum-known-n c = search needs
-
-enum-told : tie.Need-enum-told
-enum-told c = search needs
-
-same-length : tie.Need-same-length
-same-length c = search needs
-
 returns : tie.Need-returns
 returns c =
     let at = c .before .before .before .before .before .before .before .before in
@@ -34,15 +22,6 @@ all-rects-requires c κs =
       held-front _ _ _ _ _ (points .result) _ _ (c .before .before .n .given .1) (points .ensures) .front,
       (at .pre, (omega arith, omega arith)),
     )
-
-enum-known-k : tie.Need-enum-known-k
-enum-known-k c = search needs
-
-enum-told-2 : tie.Need-enum-told-2
-enum-told-2 c = search needs
-
-same-length-2 : tie.Need-same-length-2
-same-length-2 c = search needs
 
 returns-2 : tie.Need-returns-2
 returns-2 c =
@@ -65,9 +44,6 @@ compact-requires c κs =
     let rects = c .before .before .before .before .before .before .before .all-rects in
     held-front _ _ _ _ _ (rects .result) _ _ (c .before .before .before .k .given .1) (rects .ensures) .front
 
-same-length-3 : tie.Need-same-length-3
-same-length-3 c = search needs
-
 returns-3 : tie.Need-returns-3
 returns-3 c =
     let at = c .before .before .before .before .before .before .before .before .before .before .before .before .before .before .before .before .before .before .before .before .before in
@@ -83,17 +59,6 @@ pub gather-spec : {M : Type 1} → statement M
 gather-spec =
     tie.close
     (tie.spec
-    all-points-requires
-    enum-known-n
-    enum-told
-    same-length
-    returns
-    all-rects-requires
-    enum-known-k
-    enum-told-2
-    same-length-2
-    returns-2
-    mul-compact
-    compact-requires
-    same-length-3
-    returns-3)
+    (λ c κs. search needs) (λ c. search needs) (λ c. search needs) (λ c. search needs) returns all-rects-requires
+    (λ c. search needs) (λ c. search needs) (λ c. search needs) returns-2 mul-compact compact-requires
+    (λ c. search needs) returns-3)

@@ -7,12 +7,6 @@ use Rattle.fix_scratch.proofs.Chosen.{both}
 use Rattle.fix_listed.proofs.inside.Statement.{statement}
 use Rattle.fix_listed.proofs.inside.Tie as tie
 
-returns : tie.Need-returns
-returns c = (λ e. both e refl, λ e v. omega (arith, c .if1 .taken, v .top))
-
-returns-2 : tie.Need-returns-2
-returns-2 c = (λ e. both e refl, λ e v. omega (arith, c .if2 .taken, v .left))
-
 add-if3 : tie.Need-add-if3
 add-if3 c =
     let f = c .before .before .before .before .before .pre in
@@ -29,8 +23,8 @@ returns-3 c = (
   λ e v. let a = c .before .before .before .before .before .before .before .args in omega (arith, ltb-false (a .column) (a .w .x0 + a .w .width) e, v .right),
 )
 
-returns-4 : tie.Need-returns-4
-returns-4 c = (λ e. both e refl, λ e v. omega (arith, c .if3 .left, v .bottom))
-
 pub inside-spec : {M : Type 1} → statement M
-inside-spec = tie.close (tie.spec returns returns-2 add-if3 add-result returns-3 returns-4)
+inside-spec = tie.close (tie.spec
+    (λ c. (λ e. both e refl, λ e v. omega (arith, c .if1 .taken, v .top)))
+    (λ c. (λ e. both e refl, λ e v. omega (arith, c .if2 .taken, v .left))) add-if3 add-result returns-3
+    (λ c. (λ e. both e refl, λ e v. omega (arith, c .if3 .left, v .bottom))))

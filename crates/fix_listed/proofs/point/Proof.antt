@@ -12,12 +12,6 @@ use Rattle.fix_listed.proofs.point.Tie as tie
 within : (c : tie.Then1) → Within (c .before .before .before .before .before .before .args .w) (c .before .before .before .u32-at .result) (c .before .before .u32-at2 .result)
 within c = c .before .inside .ensures .0 (c .if1 .taken)
 
-sub-position : tie.Need-sub-position
-sub-position c = within (c .before) .top
-
-sub-position-2 : tie.Need-sub-position-2
-sub-position-2 c = within (c .before .before) .left
-
 position-requires : tie.Need-position-requires
 position-requires c κs =
     let v = within (c .before .before) in
@@ -57,5 +51,6 @@ point-spec =
     tie.close
     (tie.spec
     (λ c. search needs) (λ c. search needs) (λ c κs. search needs) (λ c. search needs) (λ c. search needs)
-    (λ c. search needs) (λ c κs. search needs) (λ c. search needs) (λ c κs. search needs) sub-position sub-position-2
-    position-requires mul-one one-requires (λ c. search needs) returns returns-2)
+    (λ c. search needs) (λ c κs. search needs) (λ c. search needs) (λ c κs. search needs)
+    (λ c. within (c .before) .top) (λ c. within (c .before .before) .left) position-requires mul-one one-requires
+    (λ c. search needs) returns returns-2)

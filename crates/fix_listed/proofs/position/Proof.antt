@@ -16,31 +16,14 @@ rows c =
     let at = c .before .before in
     by-row (at .args .across) (at .args .w) (at .args .y) (at .args .x) (c .before .if1 .left) (at .pre .1) (at .pre .2)
 
-mul-result : tie.Need-mul-result
-mul-result c = omega (arith, columns c .0, area (c .before .before .args .w) (c .before .before .pre .0))
-
-add-result : tie.Need-add-result
-add-result c = omega (arith, columns c .0, area (c .before .before .args .w) (c .before .before .pre .0))
-
-cast-result : tie.Need-cast-result
-cast-result c = omega (arith, columns c .0, area (c .before .before .args .w) (c .before .before .pre .0))
-
-mul-result-2 : tie.Need-mul-result-2
-mul-result-2 c = omega (arith, rows c .0, area (c .before .before .args .w) (c .before .before .pre .0))
-
-add-result-2 : tie.Need-add-result-2
-add-result-2 c = omega (arith, rows c .0, area (c .before .before .args .w) (c .before .before .pre .0))
-
-cast-result-2 : tie.Need-cast-result-2
-cast-result-2 c = omega (arith, rows c .0, area (c .before .before .args .w) (c .before .before .pre .0))
-
-returns : tie.Need-returns
-returns c = columns c
-
-returns-2 : tie.Need-returns-2
-returns-2 c = rows c
-
 pub position-spec : {M : Type 1} → statement M
 position-spec =
     tie.close
-    (tie.spec mul-result add-result cast-result mul-result-2 add-result-2 cast-result-2 returns returns-2)
+    (tie.spec
+    (λ c. omega (arith, columns c .0, area (c .before .before .args .w) (c .before .before .pre .0)))
+    (λ c. omega (arith, columns c .0, area (c .before .before .args .w) (c .before .before .pre .0)))
+    (λ c. omega (arith, columns c .0, area (c .before .before .args .w) (c .before .before .pre .0)))
+    (λ c. omega (arith, rows c .0, area (c .before .before .args .w) (c .before .before .pre .0)))
+    (λ c. omega (arith, rows c .0, area (c .before .before .args .w) (c .before .before .pre .0)))
+    (λ c. omega (arith, rows c .0, area (c .before .before .args .w) (c .before .before .pre .0))) (λ c. columns c)
+    (λ c. rows c))

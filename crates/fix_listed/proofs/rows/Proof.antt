@@ -75,15 +75,6 @@ run-requires c κs =
       ),
     )
 
-enum-known-k1 : tie.Need-enum-known-k1 Inv-loop μ-loop
-enum-known-k1 c = search needs
-
-add-y : tie.Need-add-y Inv-loop μ-loop
-add-y c = omega arith
-
-loop-less : tie.Need-loop-less Inv-loop μ-loop
-loop-less c = omega arith
-
 loop-again : tie.Need-loop-again Inv-loop μ-loop
 loop-again c =
     let run = c .before .before .before .before .before .run in
@@ -95,9 +86,6 @@ loop-again c =
       omega (arith, in-loop .inv .1),
       omega (arith, c .before .before .before .before .before .before .before .loop-test .taken),
     )
-
-enum-told : tie.Need-enum-told Inv-loop μ-loop
-enum-told c = search needs
 
 same-length : tie.Need-same-length Inv-loop μ-loop
 same-length c = c .before .before .before .before .run .kept .0 ∙ c .before .before .before .before .before .before .before .loop .inv .0 .long
@@ -113,9 +101,6 @@ returns c =
     (λ q l. block-low (a .width) (a .r0) (a .c0) (a .r1) (a .c1) (in-loop .y) q (omega (arith, less)))
     (λ q l. block-row (a .width) (a .r0) (a .c0) (a .r1) (a .c1) (in-loop .y) q (in-loop .inv .1) less (at .pre .1 .columns))
 
-same-length-2 : tie.Need-same-length-2 Inv-loop μ-loop
-same-length-2 c = c .before .loop .inv .0 .long
-
 returns-2 : tie.Need-returns-2 Inv-loop μ-loop
 returns-2 c =
     let in-loop = c .before .loop in
@@ -127,20 +112,6 @@ pub rows-spec : {M : Type 1} → statement M
 rows-spec =
     tie.close
     (tie.spec
-    Inv-loop
-    μ-loop
-    loop-holds
-    mul-run
-    add-run
-    mul-run-2
-    add-run-2
-    run-requires
-    enum-known-k1
-    add-y
-    loop-less
-    loop-again
-    enum-told
-    same-length
-    returns
-    same-length-2
+    Inv-loop μ-loop loop-holds mul-run add-run mul-run-2 add-run-2 run-requires (λ c. search needs) (λ c. omega arith)
+    (λ c. omega arith) loop-again (λ c. search needs) same-length returns (λ c. c .before .loop .inv .0 .long)
     returns-2)

@@ -58,9 +58,6 @@ loop-again c =
       omega (arith, got .ensures .within),
     )
 
-cast-push : tie.Need-cast-push Inv-loop μ-loop
-cast-push c = omega arith
-
 push-requires : tie.Need-push-requires Inv-loop μ-loop
 push-requires c κs = (
   c .before .before .before .before .before .loop .inv .0 .gains .front,
@@ -68,23 +65,11 @@ push-requires c κs = (
       (arith, c .before .before .before .before .before .before .before .pre .1, c .before .before .before .before .loop-test .taken),
 )
 
-enum-known-k1 : tie.Need-enum-known-k1 Inv-loop μ-loop
-enum-known-k1 c = search needs
-
-add-follow : tie.Need-add-follow Inv-loop μ-loop
-add-follow c = omega arith
-
 follow-requires : tie.Need-follow-requires Inv-loop μ-loop
 follow-requires c κs =
     let push = c .before .before .before .before .before .before .push in
     let front = held-front _ _ _ _ _ (push .result) _ _ (c .before .before .k1 .given .1) (push .ensures) .front in
     omega (arith, front .order, front .fits)
-
-add-p-2 : tie.Need-add-p-2 Inv-loop μ-loop
-add-p-2 c = omega arith
-
-loop-less-2 : tie.Need-loop-less-2 Inv-loop μ-loop
-loop-less-2 c = omega arith
 
 loop-again-2 : tie.Need-loop-again-2 Inv-loop μ-loop
 loop-again-2 c =
@@ -97,9 +82,6 @@ loop-again-2 c =
       omega (arith, at .inv .1),
       omega (arith, c .before .before .before .before .before .before .before .before .before .before .before .before .loop-test .taken),
     )
-
-enum-told : tie.Need-enum-told Inv-loop μ-loop
-enum-told c = search needs
 
 same-length : tie.Need-same-length Inv-loop μ-loop
 same-length c = c .before .before .before .before .push .kept .0 ∙ c .before .before .before .before .before .before .before .before .before .before .loop .inv .0 .long
@@ -127,24 +109,6 @@ pub walk-spec : {M : Type 1} → statement M
 walk-spec =
     tie.close
     (tie.spec
-    Inv-loop
-    μ-loop
-    loop-holds
-    stretch-requires
-    add-h
-    add-p
-    loop-less
-    loop-again
-    cast-push
-    push-requires
-    enum-known-k1
-    add-follow
-    follow-requires
-    add-p-2
-    loop-less-2
-    loop-again-2
-    enum-told
-    same-length
-    returns
-    same-length-2
-    returns-2)
+    Inv-loop μ-loop loop-holds stretch-requires add-h add-p loop-less loop-again (λ c. omega arith) push-requires
+    (λ c. search needs) (λ c. omega arith) follow-requires (λ c. omega arith) (λ c. omega arith) loop-again-2
+    (λ c. search needs) same-length returns same-length-2 returns-2)

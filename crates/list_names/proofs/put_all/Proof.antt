@@ -23,9 +23,6 @@ Inv-loop list names₀ whole n j₀ k₀ c₀ names j k c =
 abbrev μ-loop : tie.MeasureT-loop
 μ-loop list names₀ whole n j₀ k₀ c₀ names j k c = n - k
 
-count-requires : tie.Need-count-requires Inv-loop μ-loop
-count-requires c κs = search needs
-
 loop-holds : tie.Need-loop-holds Inv-loop μ-loop
 loop-holds c = (
   omega arith,
@@ -35,30 +32,6 @@ loop-holds c = (
       (λ l. sets (now (c .before .before .before .args .names)) 0 (namesOf (skippedIn (c .before .before .before .args .whole)) l))
       (begin _ (c .count .ensures)),
 )
-
-step-requires : tie.Need-step-requires Inv-loop μ-loop
-step-requires c κs = search needs
-
-enum-known-op : tie.Need-enum-known-op Inv-loop μ-loop
-enum-known-op c = search needs
-
-put-requires : tie.Need-put-requires Inv-loop μ-loop
-put-requires c κs = search needs
-
-skips-requires : tie.Need-skips-requires Inv-loop μ-loop
-skips-requires c κs = search needs
-
-one-if-requires : tie.Need-one-if-requires Inv-loop μ-loop
-one-if-requires c κs = search needs
-
-add-j : tie.Need-add-j Inv-loop μ-loop
-add-j c = omega arith
-
-add-k : tie.Need-add-k Inv-loop μ-loop
-add-k c = omega arith
-
-loop-less : tie.Need-loop-less Inv-loop μ-loop
-loop-less c = omega arith
 
 loop-again : tie.Need-loop-again Inv-loop μ-loop
 loop-again c =
@@ -73,9 +46,6 @@ loop-again c =
           (item _ _ _ _ (b8 .before .before .loop-test .taken) (b8 .before .step .ensures) (b4 .before .before .before .op .given .1))
           (c .before .skips .ensures) (c .one-if .ensures .0) _ _ (b4 .put .ensures) ∙ b8 .before .before .before .loop .inv .3,
     )
-
-enum-told : tie.Need-enum-told Inv-loop μ-loop
-enum-told c = search needs
 
 same-length : tie.Need-same-length Inv-loop μ-loop
 same-length c = c .before .before .before .before .loop .inv .2
@@ -102,21 +72,6 @@ pub put-all-spec : {M : Type 1} → statement M
 put-all-spec =
     tie.close
     (tie.spec
-    Inv-loop
-    μ-loop
-    count-requires
-    loop-holds
-    step-requires
-    enum-known-op
-    put-requires
-    skips-requires
-    one-if-requires
-    add-j
-    add-k
-    loop-less
-    loop-again
-    enum-told
-    same-length
-    returns
-    same-length-2
-    returns-2)
+    Inv-loop μ-loop (λ c κs. search needs) loop-holds (λ c κs. search needs) (λ c. search needs) (λ c κs. search needs)
+    (λ c κs. search needs) (λ c κs. search needs) (λ c. omega arith) (λ c. omega arith) (λ c. omega arith) loop-again
+    (λ c. search needs) same-length returns same-length-2 returns-2)

@@ -19,29 +19,11 @@ Inv-loop list n k₀ c₀ k c = (k ≤ n) × (k + length (readFrom list (n - k) 
 abbrev μ-loop : tie.MeasureT-loop
 μ-loop list n k₀ c₀ k c = n - k
 
-is-counted-requires : tie.Need-is-counted-requires Inv-loop μ-loop
-is-counted-requires c κs = search needs
-
 returns : tie.Need-returns Inv-loop μ-loop
 returns c = reading-none _ (c .before .is-counted .ensures) (not-true _ (c .if1 .taken))
 
-count-requires : tie.Need-count-requires Inv-loop μ-loop
-count-requires c κs = search needs
-
 loop-holds : tie.Need-loop-holds Inv-loop μ-loop
 loop-holds c = (omega arith, omega (arith, ap length (begin _ (c .count .ensures))))
-
-step-requires : tie.Need-step-requires Inv-loop μ-loop
-step-requires c κs = search needs
-
-enum-known-next : tie.Need-enum-known-next Inv-loop μ-loop
-enum-known-next c = search needs
-
-add-k : tie.Need-add-k Inv-loop μ-loop
-add-k c = omega arith
-
-loop-less : tie.Need-loop-less Inv-loop μ-loop
-loop-less c = omega arith
 
 loop-again : tie.Need-loop-again Inv-loop μ-loop
 loop-again c =
@@ -50,9 +32,6 @@ loop-again c =
       total _ _ _ _ _ (b4 .loop-test .taken) (c .before .before .before .step .ensures) (c .before .next .given .1)
           (b4 .before .loop .inv .1),
     )
-
-enum-told : tie.Need-enum-told Inv-loop μ-loop
-enum-told c = search needs
 
 returns-2 : tie.Need-returns-2 Inv-loop μ-loop
 returns-2 c =
@@ -79,17 +58,5 @@ pub read-spec : {M : Type 1} → statement M
 read-spec =
     tie.close
     (tie.spec
-    Inv-loop
-    μ-loop
-    is-counted-requires
-    returns
-    count-requires
-    loop-holds
-    step-requires
-    enum-known-next
-    add-k
-    loop-less
-    loop-again
-    enum-told
-    returns-2
-    returns-3)
+    Inv-loop μ-loop (λ c κs. search needs) returns (λ c κs. search needs) loop-holds (λ c κs. search needs)
+    (λ c. search needs) (λ c. omega arith) (λ c. omega arith) loop-again (λ c. search needs) returns-2 returns-3)

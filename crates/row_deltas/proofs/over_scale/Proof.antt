@@ -5,8 +5,6 @@ use Rattle.row_deltas.proofs.over_scale.Statement.{statement}
 use Rattle.row_deltas.proofs.over_scale.Tie as tie
 use Rattle.row_deltas.proofs.Literals.{largest}
 
-returns : tie.Need-returns
-returns c = ap (λ (x : Float). div binary32 (mul binary32 (c .args .d) x) (c .args .scale)) largest
-
 pub over-scale-spec : {M : Type 1} → statement M
-over-scale-spec = tie.close (tie.spec returns)
+over-scale-spec = tie.close (tie.spec
+    (λ c. ap (λ (x : Float). div binary32 (mul binary32 (c .args .d) x) (c .args .scale)) largest))

@@ -3,11 +3,10 @@ use borrow.Author.Needs.{needs}
 use Rattle.row_deltas.proofs.scale_steps.Statement.{statement}
 use Rattle.row_deltas.proofs.scale_steps.Tie as tie
 
-returns : tie.Need-returns
-returns c = rw (c .before .before .before .before .if1 .taken) (c .before .before .scale-dense .ensures)
-
 pub scale-steps-spec : {M : Type 1} → statement M
 scale-steps-spec =
     tie.close
     (tie.spec
-    (λ c κs. search needs) (λ c κs. search needs) (λ c. search needs) returns (λ c. search needs) (λ c. search needs))
+    (λ c κs. search needs) (λ c κs. search needs) (λ c. search needs)
+    (λ c. rw (c .before .before .before .before .if1 .taken) (c .before .before .scale-dense .ensures))
+    (λ c. search needs) (λ c. search needs))

@@ -14,9 +14,6 @@ first-of s =
 step-of : (s : tie.Start) → s .args .k .pitch * s .args .k .planes < 34359738368
 step-of s = omega (arith, by-planes (s .args .k) (s .args .n) (s .pre) (s .args .k .pitch), s .pre .pitch32)
 
-mul-t3 : tie.Need-mul-t3
-mul-t3 c = omega (arith, first-of (c .before))
-
 add-t4 : tie.Need-add-t4
 add-t4 c = omega (arith, first-of (c .before .before), c .before .before .pre .inside, c .before .before .pre .few)
 
@@ -24,9 +21,6 @@ mul-smaller : tie.Need-mul-smaller
 mul-smaller c =
     let s = c .before .before .before .before in
     omega (arith, by-planes (s .args .k) (s .args .n) (s .pre) (c .before .less .result), c .before .less .ensures, s .pre .right32)
-
-mul-t8 : tie.Need-mul-t8
-mul-t8 c = omega (arith, step-of (c .before .before .before .before .before .before))
 
 returns : tie.Need-returns
 returns c =
@@ -42,4 +36,5 @@ returns c =
 pub span-of-spec : {M : Type 1} → statement M
 span-of-spec =
     tie.close (tie.spec
-    mul-t3 add-t4 (λ c κs. search needs) mul-smaller (λ c κs. search needs) mul-t8 returns)
+    (λ c. omega (arith, first-of (c .before))) add-t4 (λ c κs. search needs) mul-smaller (λ c κs. search needs)
+    (λ c. omega (arith, step-of (c .before .before .before .before .before .before))) returns)

@@ -6,30 +6,6 @@ use Rattle.row_opcode.proofs.Plans.{idle-nothing, idle-vignette}
 use Rattle.row_opcode.proofs.prepare.Statement.{statement}
 use Rattle.row_opcode.proofs.prepare.Tie as tie
 
-plan-of-requires : tie.Need-plan-of-requires
-plan-of-requires c κs = search needs
-
-enum-told : tie.Need-enum-told
-enum-told c = search needs
-
-enum-known-radial : tie.Need-enum-known-radial
-enum-known-radial c = search needs
-
-m2-requires : tie.Need-m2-requires
-m2-requires c κs = search needs
-
-enum-known-m2 : tie.Need-enum-known-m2
-enum-known-m2 c = search needs
-
-enum-told-2 : tie.Need-enum-told-2
-enum-told-2 c = search needs
-
-enum-known-region : tie.Need-enum-known-region
-enum-known-region c = search needs
-
-first-column-requires : tie.Need-first-column-requires
-first-column-requires c κs = search needs
-
 returns : tie.Need-returns
 returns c =
     let p = c .before .before in
@@ -66,15 +42,5 @@ pub prepare-spec : {M : Type 1} → statement M
 prepare-spec =
     tie.close
     (tie.spec
-    plan-of-requires
-    enum-told
-    enum-known-radial
-    m2-requires
-    enum-known-m2
-    enum-told-2
-    enum-known-region
-    first-column-requires
-    returns
-    returns-2
-    returns-3
-    returns-4)
+    (λ c κs. search needs) (λ c. search needs) (λ c. search needs) (λ c κs. search needs) (λ c. search needs)
+    (λ c. search needs) (λ c. search needs) (λ c κs. search needs) returns returns-2 returns-3 returns-4)

@@ -8,12 +8,6 @@ use Rattle.row_opcode.proofs.Planes.{row-rule, row-left}
 use Rattle.row_opcode.proofs.row_step.Statement.{statement}
 use Rattle.row_opcode.proofs.row_step.Tie as tie
 
-enum-told : tie.Need-enum-told
-enum-told c = search needs
-
-enum-known-ready : tie.Need-enum-known-ready
-enum-known-ready c = search needs
-
 vignette-row-requires : tie.Need-vignette-row-requires
 vignette-row-requires c κs =
     let u = c .before .before in
@@ -21,9 +15,6 @@ vignette-row-requires c κs =
     let a = s .args in
     let w = reached (a .op) (a .g .x0) (a .g .«full_width») (a .g .«full_height») (s .pre .2) (u .ready .given .1) in
     (s .pre .0, w .reaches)
-
-enum-known-ready-2 : tie.Need-enum-known-ready-2
-enum-known-ready-2 c = search needs
 
 region-row-requires : tie.Need-region-row-requires
 region-row-requires c κs =
@@ -40,9 +31,6 @@ returns c =
     row-left (a .g .x0) (a .g .planes) (a .g .y) (a .row .now) (ruleOf (frameAt (a .scale) (a .g .«full_width») (a .g .«full_height»)) (a .op) (a .body .now))
     (idle (a .op) (a .g .x0) (a .g .«full_width») (a .g .«full_height») (s .pre .2) (c .enum-told .given .1) .rule (a .scale) (a .body .now))
 
-same-length : tie.Need-same-length
-same-length c = search needs
-
 returns-2 : tie.Need-returns-2
 returns-2 c =
     let u = c .before .before .before .before .before in
@@ -52,9 +40,6 @@ returns-2 c =
     c .before .before .vignette-row .ensures (a .scale)
     ∙ row-rule (a .g .x0) (a .g .planes) (a .g .y) (a .row .now)
     (sym (rule-of (a .op) (w .plan) (frameAt (a .scale) (a .g .«full_width») (a .g .«full_height»)) (a .body .now)))
-
-same-length-2 : tie.Need-same-length-2
-same-length-2 c = search needs
 
 returns-3 : tie.Need-returns-3
 returns-3 c =
@@ -70,13 +55,5 @@ pub row-step-spec : {M : Type 1} → statement M
 row-step-spec =
     tie.close
     (tie.spec
-    enum-told
-    enum-known-ready
-    vignette-row-requires
-    enum-known-ready-2
-    region-row-requires
-    returns
-    same-length
-    returns-2
-    same-length-2
-    returns-3)
+    (λ c. search needs) (λ c. search needs) vignette-row-requires (λ c. search needs) region-row-requires returns
+    (λ c. search needs) returns-2 (λ c. search needs) returns-3)

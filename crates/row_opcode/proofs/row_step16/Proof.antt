@@ -7,18 +7,6 @@ use Rattle.row_opcode.proofs.Planes.{row-left}
 use Rattle.row_opcode.proofs.row_step16.Statement.{statement}
 use Rattle.row_opcode.proofs.row_step16.Tie as tie
 
-enum-told : tie.Need-enum-told
-enum-told c = search needs
-
-enum-told-2 : tie.Need-enum-told-2
-enum-told-2 c = search needs
-
-enum-known-ready : tie.Need-enum-known-ready
-enum-known-ready c = search needs
-
-table-size-requires : tie.Need-table-size-requires
-table-size-requires c κs = search needs
-
 region-row16-requires : tie.Need-region-row16-requires
 region-row16-requires c κs =
     let u = c .before .before .before in
@@ -43,9 +31,6 @@ returns-2 c =
     row-left (a .g .x0) (a .g .planes) (a .g .y) (a .row .now) (rule16Of (a .op) (a .body .now))
     (leaves16 (a .op) _ (w .plan) (a .body .now))
 
-same-length : tie.Need-same-length
-same-length c = search needs
-
 returns-3 : tie.Need-returns-3
 returns-3 c =
     let u = c .before .before .before .before .before .before in
@@ -59,12 +44,5 @@ pub row-step16-spec : {M : Type 1} → statement M
 row-step16-spec =
     tie.close
     (tie.spec
-    enum-told
-    enum-told-2
-    enum-known-ready
-    table-size-requires
-    region-row16-requires
-    returns
-    returns-2
-    same-length
-    returns-3)
+    (λ c. search needs) (λ c. search needs) (λ c. search needs) (λ c κs. search needs) region-row16-requires returns
+    returns-2 (λ c. search needs) returns-3)

@@ -12,9 +12,6 @@ round-below-requires : tie.Need-round-below-requires
 round-below-requires c κs =
     let s = c .before in (omega (arith, c .last-of .ensures), s .pre .2 ∙ ap (λ (i : ℕ). wholeIn binary32 i) (sym (c .last-of .ensures)))
 
-returns : tie.Need-returns
-returns c = cc
-
 pub index-below-spec : {M : Type 1} → statement M
 index-below-spec = tie.close (tie.spec
-    (λ c κs. search needs) round-below-requires returns)
+    (λ c κs. search needs) round-below-requires (λ c. cc))

@@ -3,9 +3,6 @@ use borrow.Author.Needs.{needs}
 use Rattle.row_tables.proofs.index_of.Statement.{statement}
 use Rattle.row_tables.proofs.index_of.Tie as tie
 
-returns : tie.Need-returns
-returns c = cc
-
 pub index-of-spec : {M : Type 1} → statement M
 index-of-spec = tie.close (tie.spec
-    (λ c κs. search needs) (λ c κs. search needs) returns)
+    (λ c κs. search needs) (λ c κs. search needs) (λ c. cc))

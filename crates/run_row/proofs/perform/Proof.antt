@@ -25,9 +25,6 @@ Inv-loop list row₀ g width scale n k₀ c₀ row k c =
 abbrev μ-loop : tie.MeasureT-loop
 μ-loop list row₀ g width scale n k₀ c₀ row k c = n - k
 
-count-requires : tie.Need-count-requires Inv-loop μ-loop
-count-requires c κs = search needs
-
 loop-holds : tie.Need-loop-holds Inv-loop μ-loop
 loop-holds c =
     let b3 = c .before .before .before in
@@ -39,12 +36,6 @@ loop-holds c =
           (begin _ (c .count .ensures)),
     )
 
-step-requires : tie.Need-step-requires Inv-loop μ-loop
-step-requires c κs = search needs
-
-enum-known-entry : tie.Need-enum-known-entry Inv-loop μ-loop
-enum-known-entry c = search needs
-
 perform-one-requires : tie.Need-perform-one-requires Inv-loop μ-loop
 perform-one-requires c κs =
     let b4 = c .before .before .before .before in
@@ -53,12 +44,6 @@ perform-one-requires c κs =
       sound _ _ (b4 .step .ensures) (c .before .before .entry .given .1) .counts,
       still-spans (b8 .before .before .pre .1) (b4 .before .before .loop .inv .1),
     )
-
-add-k : tie.Need-add-k Inv-loop μ-loop
-add-k c = omega arith
-
-loop-less : tie.Need-loop-less Inv-loop μ-loop
-loop-less c = omega arith
 
 loop-again : tie.Need-loop-again Inv-loop μ-loop
 loop-again c =
@@ -69,9 +54,6 @@ loop-again c =
       more _ _ _ _ _ _ _ (item _ _ _ _ (b8 .loop-test .taken) (b4 .before .before .before .step .ensures) (b4 .before .entry .given .1)) _
           (c .before .before .perform-one .ensures) ∙ b8 .before .loop .inv .2,
     )
-
-enum-told : tie.Need-enum-told Inv-loop μ-loop
-enum-told c = search needs
 
 same-length : tie.Need-same-length Inv-loop μ-loop
 same-length c = c .before .before .before .before .loop .inv .1
@@ -97,18 +79,5 @@ pub perform-spec : {M : Type 1} → statement M
 perform-spec =
     tie.close
     (tie.spec
-    Inv-loop
-    μ-loop
-    count-requires
-    loop-holds
-    step-requires
-    enum-known-entry
-    perform-one-requires
-    add-k
-    loop-less
-    loop-again
-    enum-told
-    same-length
-    returns
-    same-length-2
-    returns-2)
+    Inv-loop μ-loop (λ c κs. search needs) loop-holds (λ c κs. search needs) (λ c. search needs) perform-one-requires
+    (λ c. omega arith) (λ c. omega arith) loop-again (λ c. search needs) same-length returns same-length-2 returns-2)

@@ -23,17 +23,8 @@ Inv-loop list part codes₀ n j₀ k₀ c₀ codes j k c =
 abbrev μ-loop : tie.MeasureT-loop
 μ-loop list part codes₀ n j₀ k₀ c₀ codes j k c = n - k
 
-count-requires : tie.Need-count-requires Inv-loop μ-loop
-count-requires c κs = search needs
-
 loop-holds : tie.Need-loop-holds Inv-loop μ-loop
 loop-holds c = (omega arith, omega arith, refl, partly-start _ 0 (ap (namesOf (partOf (c .before .before .before .args .part))) (begin _ (c .count .ensures))))
-
-step-requires : tie.Need-step-requires Inv-loop μ-loop
-step-requires c κs = search needs
-
-enum-known-op : tie.Need-enum-known-op Inv-loop μ-loop
-enum-known-op c = search needs
 
 keep-requires : tie.Need-keep-requires Inv-loop μ-loop
 keep-requires c κs =
@@ -45,12 +36,6 @@ keep-requires c κs =
       b6 .before .before .before .before .pre,
       count-bound (now (b6 .before .before .before .before .args .list)),
     )
-
-add-k : tie.Need-add-k Inv-loop μ-loop
-add-k c = omega arith
-
-loop-less : tie.Need-loop-less Inv-loop μ-loop
-loop-less c = omega arith
 
 loop-again : tie.Need-loop-again Inv-loop μ-loop
 loop-again c =
@@ -66,9 +51,6 @@ loop-again c =
           (item _ _ _ _ (b4 .before .before .before .before .loop-test .taken) (b4 .before .before .before .step .ensures) (b4 .before .op .given .1)))
           (b9 .loop .inv .3) (k .ensures),
     )
-
-enum-told : tie.Need-enum-told Inv-loop μ-loop
-enum-told c = search needs
 
 same-length : tie.Need-same-length Inv-loop μ-loop
 same-length c = c .before .before .before .before .loop .inv .2
@@ -94,18 +76,5 @@ pub collect-spec : {M : Type 1} → statement M
 collect-spec =
     tie.close
     (tie.spec
-    Inv-loop
-    μ-loop
-    count-requires
-    loop-holds
-    step-requires
-    enum-known-op
-    keep-requires
-    add-k
-    loop-less
-    loop-again
-    enum-told
-    same-length
-    returns
-    same-length-2
-    returns-2)
+    Inv-loop μ-loop (λ c κs. search needs) loop-holds (λ c κs. search needs) (λ c. search needs) keep-requires
+    (λ c. omega arith) (λ c. omega arith) loop-again (λ c. search needs) same-length returns same-length-2 returns-2)

@@ -5,24 +5,6 @@ use Rattle.say_note.specs.Note.{pixel}
 use Rattle.say_note.proofs.is_pixel.Statement.{statement}
 use Rattle.say_note.proofs.is_pixel.Tie as tie
 
-class-of-requires : tie.Need-class-of-requires
-class-of-requires c κs = search needs
-
-enum-told : tie.Need-enum-told
-enum-told c = search needs
-
-enum-told-2 : tie.Need-enum-told-2
-enum-told-2 c = search needs
-
-enum-told-3 : tie.Need-enum-told-3
-enum-told-3 c = search needs
-
-enum-told-4 : tie.Need-enum-told-4
-enum-told-4 c = search needs
-
-enum-told-5 : tie.Need-enum-told-5
-enum-told-5 c = search needs
-
 returns : tie.Need-returns
 returns c = told pixel (c .before .before .class-of .ensures) (c .enum-told .given .1)
 
@@ -42,14 +24,5 @@ pub is-pixel-spec : {M : Type 1} → statement M
 is-pixel-spec =
     tie.close
     (tie.spec
-    class-of-requires
-    enum-told
-    enum-told-2
-    enum-told-3
-    enum-told-4
-    enum-told-5
-    returns
-    returns-2
-    returns-3
-    returns-4
-    returns-5)
+    (λ c κs. search needs) (λ c. search needs) (λ c. search needs) (λ c. search needs) (λ c. search needs)
+    (λ c. search needs) returns returns-2 returns-3 returns-4 returns-5)

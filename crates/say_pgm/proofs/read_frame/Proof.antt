@@ -7,17 +7,8 @@ use Rattle.say_pgm.proofs.Laws.{in-sizes}
 use Rattle.say_pgm.proofs.read_frame.Statement.{statement}
 use Rattle.say_pgm.proofs.read_frame.Tie as tie
 
-header-requires : tie.Need-header-requires
-header-requires c κs = search needs
-
-enum-known-width : tie.Need-enum-known-width
-enum-known-width c = search needs
-
 sized-requires : tie.Need-sized-requires
 sized-requires c κs = in-sizes _ _ _ _ _ (sym (c .before .before .before .header .ensures) ∙ c .before .width .given .1)
-
-enum-told : tie.Need-enum-told
-enum-told c = search needs
 
 returns : tie.Need-returns
 unfolding frameOf
@@ -36,4 +27,5 @@ returns-2 c =
 pub read-frame-spec : {M : Type 1} → statement M
 read-frame-spec =
     tie.close
-    (tie.spec header-requires enum-known-width sized-requires enum-told returns returns-2)
+    (tie.spec
+    (λ c κs. search needs) (λ c. search needs) sized-requires (λ c. search needs) returns returns-2)

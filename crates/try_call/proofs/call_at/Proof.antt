@@ -8,20 +8,8 @@ use Rattle.try_call.proofs.call_at.Tie as tie
 returns : tie.Need-returns
 returns c = read-past _ _ (omega arith)
 
-add-counted : tie.Need-add-counted
-add-counted c = search needs
-
-counted-requires : tie.Need-counted-requires
-counted-requires c κs = search needs
-
-enum-known-span : tie.Need-enum-known-span
-enum-known-span c = search needs
-
 with-list-requires : tie.Need-with-list-requires
 with-list-requires c κs = part-is _ (c .before .before .before .counted .ensures) (c .before .span .given .1)
-
-enum-told : tie.Need-enum-told
-enum-told c = search needs
 
 returns-2 : tie.Need-returns-2
 returns-2 c =
@@ -35,11 +23,5 @@ pub call-at-spec : {M : Type 1} → statement M
 call-at-spec =
     tie.close
     (tie.spec
-    returns
-    add-counted
-    counted-requires
-    enum-known-span
-    with-list-requires
-    enum-told
-    returns-2
-    returns-3)
+    returns (λ c. search needs) (λ c κs. search needs) (λ c. search needs) with-list-requires (λ c. search needs)
+    returns-2 returns-3)

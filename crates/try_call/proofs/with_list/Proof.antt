@@ -4,25 +4,10 @@ use borrow.Author.Needs.{needs}
 use Rattle.try_call.proofs.with_list.Statement.{statement}
 use Rattle.try_call.proofs.with_list.Tie as tie
 
-add-counted : tie.Need-add-counted
-add-counted c = search needs
-
-counted-requires : tie.Need-counted-requires
-counted-requires c κs = search needs
-
-enum-known-span : tie.Need-enum-known-span
-enum-known-span c = search needs
-
-fields-requires : tie.Need-fields-requires
-fields-requires c κs = search needs
-
 kept-requires : tie.Need-kept-requires
 kept-requires c κs =
     let b4 = c .before .before .before .before in
     rw (c .fields .ensures) (part-is _ (b4 .counted .ensures) (c .before .before .span .given .1) .order)
-
-enum-told : tie.Need-enum-told
-enum-told c = search needs
 
 returns : tie.Need-returns
 returns c =
@@ -36,11 +21,5 @@ pub with-list-spec : {M : Type 1} → statement M
 with-list-spec =
     tie.close
     (tie.spec
-    add-counted
-    counted-requires
-    enum-known-span
-    fields-requires
-    kept-requires
-    enum-told
-    returns
-    returns-2)
+    (λ c. search needs) (λ c κs. search needs) (λ c. search needs) (λ c κs. search needs) kept-requires
+    (λ c. search needs) returns returns-2)

@@ -45,9 +45,6 @@ loop-holds c =
       refl,
     )
 
-add-if1 : tie.Need-add-if1 Inv-loop μ-loop
-add-if1 c = omega (arith, c .before .loop .inv .2 .near, begun (c .before .before) .pre .0 .left)
-
 one-block-requires : tie.Need-one-block-requires Inv-loop μ-loop
 one-block-requires c κs =
     let h = c .before .before .before .before .before in
@@ -92,15 +89,6 @@ loop-again c =
       o .kept .1 .1 .1 .1 .1 .1 .1 .1 .1 .1 .1 .1 .0 ∙ h .loop .inv .5,
     )
 
-same-length : tie.Need-same-length Inv-loop μ-loop
-same-length c = c .before .before .loop .inv .3
-
-same-length-2 : tie.Need-same-length-2 Inv-loop μ-loop
-same-length-2 c = c .before .before .loop .inv .4
-
-same-length-3 : tie.Need-same-length-3 Inv-loop μ-loop
-same-length-3 c = c .before .before .loop .inv .5
-
 returns : tie.Need-returns Inv-loop μ-loop
 returns c =
     let h = c .before .before in
@@ -115,5 +103,7 @@ pub all-blocks-spec : {M : Type 1} → statement M
 all-blocks-spec =
     tie.close
     (tie.spec
-    Inv-loop μ-loop (λ c κs. search needs) loop-holds add-if1 one-block-requires loop-less loop-again same-length
-    same-length-2 same-length-3 returns)
+    Inv-loop μ-loop (λ c κs. search needs) loop-holds
+    (λ c. omega (arith, c .before .loop .inv .2 .near, begun (c .before .before) .pre .0 .left)) one-block-requires
+    loop-less loop-again (λ c. c .before .before .loop .inv .3) (λ c. c .before .before .loop .inv .4)
+    (λ c. c .before .before .loop .inv .5) returns)

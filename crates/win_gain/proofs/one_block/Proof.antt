@@ -36,9 +36,6 @@ near f =
     let l = pitched f in
     far-fits (s .args .w .x0) (s .args .from) (s .args .r) (f .fill-block .ensures .1) (l .larger .ensures) (s .pre .5) (s .pre .6) (omega (arith, l .larger .ensures, l .before .struct-known .given))
 
-next-block-requires : tie.Need-next-block-requires
-next-block-requires c κs = near (c .before .before .before .before .before .before .before .before .before .before)
-
 returns : tie.Need-returns
 returns c =
     let b = c .before in
@@ -61,4 +58,6 @@ one-block-spec =
     tie.close
     (tie.spec
     (λ c. search needs) (λ c κs. search needs) (λ c. search needs) (λ c. search needs) (λ c κs. search needs)
-    block-rows-requires next-block-requires (λ c. search needs) (λ c. search needs) (λ c. search needs) returns)
+    block-rows-requires
+    (λ c κs. near (c .before .before .before .before .before .before .before .before .before .before))
+    (λ c. search needs) (λ c. search needs) (λ c. search needs) returns)

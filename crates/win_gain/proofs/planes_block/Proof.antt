@@ -55,12 +55,6 @@ plane-block-requires c κs =
       x .row-axis .ensures,
     )
 
-add-p : tie.Need-add-p Inv-loop μ-loop
-add-p c = omega (arith, c .before .before .before .before .before .loop-test .taken)
-
-loop-less : tie.Need-loop-less Inv-loop μ-loop
-loop-less c = omega (arith, c .before .before .before .before .before .loop-test .taken)
-
 loop-again : tie.Need-loop-again Inv-loop μ-loop
 loop-again c =
     let w = c .before .before .before in
@@ -75,9 +69,6 @@ loop-again c =
       omega (arith, w .before .before .loop-test .taken),
       ap length done ∙ length-planes (a .g) (a .r) _ _ (a .row .now),
     )
-
-same-length : tie.Need-same-length Inv-loop μ-loop
-same-length c = c .before .loop .inv .3
 
 returns : tie.Need-returns Inv-loop μ-loop
 returns c =
@@ -94,4 +85,6 @@ planes-block-spec =
     tie.close
     (tie.spec
     Inv-loop μ-loop (λ c κs. search needs) (λ c κs. search needs) (λ c. search needs) loop-holds (λ c κs. search needs)
-    plane-block-requires add-p loop-less loop-again same-length returns)
+    plane-block-requires (λ c. omega (arith, c .before .before .before .before .before .loop-test .taken))
+    (λ c. omega (arith, c .before .before .before .before .before .loop-test .taken)) loop-again
+    (λ c. c .before .loop .inv .3) returns)

@@ -20,12 +20,6 @@ abbrev μ-loop : tie.MeasureT-loop
 abbrev Args : tie.At-loop Inv-loop μ-loop → tie.Start Inv-loop μ-loop
 Args h = h .before .before .before .before .before
 
-loop-holds : tie.Need-loop-holds Inv-loop μ-loop
-loop-holds c = rows-start _ _ _
-
-same-length : tie.Need-same-length Inv-loop μ-loop
-same-length c = c .before .before .before .loop .inv .same
-
 returns : tie.Need-returns Inv-loop μ-loop
 returns c =
     let h = c .before .before .before in
@@ -47,15 +41,6 @@ mul-row-step16 c =
     let h = c .before .before .before .before in
     let s = Args h in
     omega (arith, start-fits (s .args .w) _ _ (s .pre .0) (h .loop .inv .here) (h .loop .inv .near))
-
-sub-row-step16 : tie.Need-sub-row-step16 Inv-loop μ-loop
-sub-row-step16 c = omega (arith, c .smaller .ensures, c .before .if2 .left)
-
-part-row-step16-start : tie.Need-part-row-step16-start Inv-loop μ-loop
-part-row-step16-start c = omega (arith, c .smaller .ensures, c .before .if2 .left)
-
-part-row-step16-end : tie.Need-part-row-step16-end Inv-loop μ-loop
-part-row-step16-end c = omega (arith, c .smaller .ensures, c .before .before .before .before .loop .inv .same)
 
 place-at-requires : tie.Need-place-at-requires Inv-loop μ-loop
 place-at-requires c κs =
@@ -89,9 +74,6 @@ add-y c =
     let i = c .before .before .before .before .before .before .before in
     omega (arith, i .if1 .taken, Args (i .before .before) .pre .0 .highest)
 
-loop-less : tie.Need-loop-less Inv-loop μ-loop
-loop-less c = omega (arith, c .before .before .before .before .before .before .before .if1 .taken)
-
 loop-again : tie.Need-loop-again Inv-loop μ-loop
 loop-again c =
     let p = c .before .before .before in
@@ -104,16 +86,15 @@ loop-again c =
     (h .before .row-stride .ensures) (e .smaller .ensures) (omega (arith, e .before .if2 .left))
     (λ g. rule16Of (a .op) (a .body .now)) refl (p .place-at .ensures) (c .before .before .row-step16 .ensures)
 
-same-length-2 : tie.Need-same-length-2 Inv-loop μ-loop
-same-length-2 c = c .before .before .loop .inv .same
-
-returns-2 : tie.Need-returns-2 Inv-loop μ-loop
-returns-2 c = rows-all _ _ _ (c .before .before .loop .inv) (c .if1 .left)
-
 pub rows16-spec : {M : Type 1} → statement M
 rows16-spec =
     tie.close
     (tie.spec
-    Inv-loop μ-loop (λ c κs. search needs) (λ c κs. search needs) loop-holds same-length returns add-smaller
-    (λ c κs. search needs) mul-row-step16 sub-row-step16 part-row-step16-start part-row-step16-end place-at-requires
-    row-step16-requires add-at add-y loop-less loop-again same-length-2 returns-2)
+    Inv-loop μ-loop (λ c κs. search needs) (λ c κs. search needs) (λ c. rows-start _ _ _)
+    (λ c. c .before .before .before .loop .inv .same) returns add-smaller (λ c κs. search needs) mul-row-step16
+    (λ c. omega (arith, c .smaller .ensures, c .before .if2 .left))
+    (λ c. omega (arith, c .smaller .ensures, c .before .if2 .left))
+    (λ c. omega (arith, c .smaller .ensures, c .before .before .before .before .loop .inv .same)) place-at-requires
+    row-step16-requires add-at add-y
+    (λ c. omega (arith, c .before .before .before .before .before .before .before .if1 .taken)) loop-again
+    (λ c. c .before .before .loop .inv .same) (λ c. rows-all _ _ _ (c .before .before .loop .inv) (c .if1 .left)))
