@@ -70,7 +70,7 @@ fn size(s: &[u8], at: usize) -> usize
 }
 
 // The bytes behind the length word at a position, if the input has them all.
-fn counted(s: &[u8], at: usize) -> Part
+pub fn counted(s: &[u8], at: usize) -> Part
     ensures { λ r. ⌜ Counted (now (s .entry)) at r ⌝ }
 {
     if s.len() < 4 {

@@ -1,23 +1,12 @@
-// Reads lists of 4,096 and of 4,097 entries, built here, and prints what each call answers: document 01, 'Bench frames', the frame that is run.
+// What is said of the lists that stand in its input, each under its title: how it is read, which forms take it and how many opcodes each skips, and
+// its note. The input is a length and the title, a length and the list, again and again; words are big-endian. compare/lists writes it.
 use dng::Reading;
+use libc::STDIN_FILENO;
 use libc::STDOUT_FILENO;
-
-// An id of 2, WarpFisheye, in every entry; version, flags and length stay 0.
-fn fill(list: &mut [u8]) {
-    let mut at: usize = 7;
-    while at < list.len() {
-        list[at] = 2;
-        at += 16;
-    }
-}
-
-// The two low bytes of the count.
-fn set_count(list: &mut [u8], high: u8, low: u8) {
-    if 4 <= list.len() {
-        list[2] = high;
-        list[3] = low;
-    }
-}
+use list_survey::Survey;
+use try_call::Part;
+use try_call::Span;
+ghost use Rattle.try_call.specs.Calls.{Inside};
 
 fn number(text: &[u8], n: usize) {
     io::write_all(STDOUT_FILENO, text);
@@ -27,10 +16,10 @@ fn number(text: &[u8], n: usize) {
 fn print_reading(r: Reading) {
     match r {
         Reading::Whole { opcodes } => {
-            number(b": 0, opcodes ", opcodes);
+            number(b"0, opcodes ", opcodes);
         }
         Reading::Malformed { after } => {
-            number(b": 2, after ", after);
+            number(b"2, after ", after);
         }
     }
 }
@@ -44,34 +33,70 @@ fn print_taken(text: &[u8], taken: bool) {
     }
 }
 
-fn print(text: &[u8], list: &[u8]) {
-    io::write_all(STDOUT_FILENO, text);
-    let found = list_survey::read(list);
-    let survey = found.survey;
-    let reading = found.reading;
-    print_reading(reading);
-    number(b"; skipped ", survey.skips);
-    number(b", ", survey.skips16);
-    print_taken(b"; whole-number form ", survey.takes16);
-    print_taken(b", row form ", survey.takes_rows);
+fn print_survey(s: Survey) {
+    number(b"; skipped ", s.skips);
+    number(b", ", s.skips16);
+    print_taken(b"; whole-number form ", s.takes16);
+    print_taken(b", row form ", s.takes_rows);
     io::write_all(STDOUT_FILENO, b"\n");
 }
 
-// The same of the first bytes of a list.
-fn print_part(text: &[u8], list: &[u8], end: usize) {
-    if end <= list.len() {
-        print(text, &list[0..end]);
+fn print_note(list: &[u8]) {
+    let mut text = [0u8; 1024];
+    let end = say_note::note(list, &mut text);
+    io::write_all(STDOUT_FILENO, &text[..end]);
+}
+
+fn print_list(title: &[u8], list: &[u8]) {
+    io::write_all(STDOUT_FILENO, b"-- ");
+    io::write_all(STDOUT_FILENO, title);
+    io::write_all(STDOUT_FILENO, b"\n");
+    let found = list_survey::read(list);
+    let reading = found.reading;
+    print_reading(reading);
+    let survey = found.survey;
+    print_survey(survey);
+    print_note(list);
+}
+
+// The bytes behind the length word at a position, or none, at the end of the input, where it is broken.
+fn span_at(s: &[u8], at: usize) -> Span
+    ensures { λ r. ⌜ Inside (now (s .entry)) r ⌝ }
+{
+    match try_call::counted(s, at) {
+        Part::Bytes { span } => span,
+        Part::Broken => Span {
+            start: s.len(),
+            end: s.len(),
+        },
+    }
+}
+
+// One list; where the next one's title stands.
+fn print_next(s: &[u8], at: usize) -> usize {
+    let title = span_at(s, at);
+    let a = title.start;
+    let b = title.end;
+    let list = span_at(s, b);
+    let c = list.start;
+    let d = list.end;
+    print_list(&s[a..b], &s[c..d]);
+    d
+}
+
+fn print_all(s: &[u8]) {
+    let mut at: usize = 0;
+    let mut left: usize = s.len(); // more than there are lists
+    while 0 < left {
+        if at < s.len() {
+            at = print_next(s, at);
+        }
+        left -= 1;
     }
 }
 
 fn main() {
-    let mut list = [0u8; 65556];
-    fill(&mut list);
-    set_count(&mut list, 16, 0);
-    print(b"4096 entries", &list);
-    print_part(b"4096 entries, just all of them", &list, 65540);
-    print_part(b"4096 entries, the last one cut", &list, 65539);
-    set_count(&mut list, 16, 1);
-    print(b"4097 entries", &list);
-    print_part(b"no bytes", &list, 0);
+    let mut input = [0u8; 327680];
+    let n = io::read_full(STDIN_FILENO, &mut input);
+    print_all(&input[..n]);
 }
