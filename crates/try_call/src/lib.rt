@@ -70,7 +70,7 @@ fn size(s: &[u8], at: usize) -> usize
 }
 
 // The bytes behind the length word at a position, if the input has them all.
-pub fn counted(s: &[u8], at: usize) -> Part
+fn counted(s: &[u8], at: usize) -> Part
     ensures { λ r. ⌜ Counted (now (s .entry)) at r ⌝ }
 {
     if s.len() < 4 {
@@ -88,6 +88,19 @@ pub fn counted(s: &[u8], at: usize) -> Part
         span: Span {
             start: at + 4,
             end: at + 4 + n,
+        },
+    }
+}
+
+// The same, or none, at the end of the input, where it is broken.
+pub fn span_at(s: &[u8], at: usize) -> Span
+    ensures { λ r. ⌜ Inside (now (s .entry)) r ⌝ }
+{
+    match counted(s, at) {
+        Part::Bytes { span } => span,
+        Part::Broken => Span {
+            start: s.len(),
+            end: s.len(),
         },
     }
 }

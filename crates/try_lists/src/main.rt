@@ -4,9 +4,6 @@ use dng::Reading;
 use libc::STDIN_FILENO;
 use libc::STDOUT_FILENO;
 use list_survey::Survey;
-use try_call::Part;
-use try_call::Span;
-ghost use Rattle.try_call.specs.Calls.{Inside};
 
 fn number(text: &[u8], n: usize) {
     io::write_all(STDOUT_FILENO, text);
@@ -59,25 +56,12 @@ fn print_list(title: &[u8], list: &[u8]) {
     print_note(list);
 }
 
-// The bytes behind the length word at a position, or none, at the end of the input, where it is broken.
-fn span_at(s: &[u8], at: usize) -> Span
-    ensures { λ r. ⌜ Inside (now (s .entry)) r ⌝ }
-{
-    match try_call::counted(s, at) {
-        Part::Bytes { span } => span,
-        Part::Broken => Span {
-            start: s.len(),
-            end: s.len(),
-        },
-    }
-}
-
 // One list; where the next one's title stands.
 fn print_next(s: &[u8], at: usize) -> usize {
-    let title = span_at(s, at);
+    let title = try_call::span_at(s, at);
     let a = title.start;
     let b = title.end;
-    let list = span_at(s, b);
+    let list = try_call::span_at(s, b);
     let c = list.start;
     let d = list.end;
     print_list(&s[a..b], &s[c..d]);

@@ -1,10 +1,10 @@
--- `try_lists::span_at` meets its contract: what was counted lies inside. Assumes nothing.
+-- `try_call::span_at` meets its contract: what was counted lies inside. Assumes nothing.
 use mathlib.Core.Path.{subst}
 use denote.Ref.{now}
 use borrow.Author.Needs.{needs}
 use Rattle.try_call.specs.Calls.{partIn}
-use Rattle.try_lists.proofs.span_at.Statement.{statement}
-use Rattle.try_lists.proofs.span_at.Tie as tie
+use Rattle.try_call.proofs.span_at.Statement.{statement}
+use Rattle.try_call.proofs.span_at.Tie as tie
 
 returns : tie.Need-returns
 returns c =
