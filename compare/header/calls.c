@@ -44,7 +44,7 @@ int main(void) {
     is("f32 mean", f[1] == 14.5f, 1);
     is("f32 name", names[0], 2);
     is("f32 next", names[1], 0xee);
-    is("f32 scratch", marks[0], 0);
+    is("f32 run, scratch", marks[0], 0);
 
     n = rolbhunga_run_u16(list, sizeof list, u, 3, w, 1, marks, 1, names, 2);
     is("u16", n.number, ROLBHUNGA_DONE);
