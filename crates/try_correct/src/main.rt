@@ -30,7 +30,7 @@ fn print_answer(a: Answer, form: Form, names: &[u8], held: usize) {
     print_text(&text, n);
 }
 
-fn print_mended(m: Mended, names: &[u8], maxval: usize, over: usize) {
+fn print_mended(m: Mended, names: &[u8; 8], maxval: usize, over: usize) {
     match m {
         Mended::Whole { answer } => {
             print_answer(
