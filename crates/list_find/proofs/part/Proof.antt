@@ -1,80 +1,24 @@
+-- `list_find::part` meets its contract, by where the part lies. Assumes nothing.
+use denote.Ref.{now}
+use native.Mathlib.Omega.{arith}
+use Rattle.list_find.proofs.Laws.{part-past, part-across, part-inside}
 use borrow.Author.Needs.{needs}
 use Rattle.list_find.proofs.part.Statement.{statement}
 use Rattle.list_find.proofs.part.Tie as tie
-use Rattle.list_find.proofs.part.Reads as reads
-use Rattle.list_find.proofs.part.Lts as lts
 
--- src/lib.rt:398:16
-sub-result : tie.Need-sub-result
-sub-result c = search needs
-
--- src/lib.rt:398:16
-part-result-start : tie.Need-part-result-start
-part-result-start c = search needs
-
--- src/lib.rt:398:16
-part-result-end : tie.Need-part-result-end
-part-result-end c = search needs
-
--- src/lib.rt:398:9
 returns : tie.Need-returns
-returns c = ?
+returns c = let a = c .before .before .args in part-past (now (a .file)) (a .start) (a .len) (omega arith)
 
--- src/lib.rt:400:8
-sub-if2 : tie.Need-sub-if2
-sub-if2 c = search needs
-
--- src/lib.rt:401:16
-sub-result-2 : tie.Need-sub-result-2
-sub-result-2 c = search needs
-
--- src/lib.rt:401:16
-part-result-start-2 : tie.Need-part-result-start-2
-part-result-start-2 c = search needs
-
--- src/lib.rt:401:16
-part-result-end-2 : tie.Need-part-result-end-2
-part-result-end-2 c = search needs
-
--- src/lib.rt:401:9
 returns-2 : tie.Need-returns-2
-returns-2 c = ?
+returns-2 c = let a = c .before .before .before .args in part-across (now (a .file)) (a .start) (a .len) (omega arith)
 
--- src/lib.rt:403:15
-add-end : tie.Need-add-end
-add-end c = search needs
-
--- src/lib.rt:404:5
-sub-result-3 : tie.Need-sub-result-3
-sub-result-3 c = search needs
-
--- src/lib.rt:404:5
-part-result-start-3 : tie.Need-part-result-start-3
-part-result-start-3 c = search needs
-
--- src/lib.rt:404:5
-part-result-end-3 : tie.Need-part-result-end-3
-part-result-end-3 c = search needs
-
--- src/lib.rt:393:1
 returns-3 : tie.Need-returns-3
-returns-3 c = ?
+returns-3 c = let a = c .before .before .before .args in part-inside (now (a .file)) (a .start) (a .len)
 
 pub part-spec : {M : Type 1} → statement M
 part-spec =
     tie.close
     (tie.spec
-    sub-result
-    part-result-start
-    part-result-end
-    returns
-    sub-if2
-    sub-result-2
-    part-result-start-2
-    part-result-end-2
-    returns-2
-    add-end
-    sub-result-3
-    part-result-start-3
-    part-result-end-3
-    returns-3)
+    (λ c. search needs) (λ c. search needs) (λ c. search needs) returns (λ c. search needs) (λ c. search needs)
+    (λ c. search needs) (λ c. search needs) returns-2 (λ c. search needs) (λ c. search needs) (λ c. search needs)
+    (λ c. search needs) returns-3)
