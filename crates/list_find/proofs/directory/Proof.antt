@@ -1,58 +1,52 @@
+-- `list_find::directory` meets its contract. Assumes nothing.
+use native.Mathlib.Omega.{arith}
+use Rattle.list_find.proofs.Laws.{whole-room}
+use Rattle.list_find.proofs.Fine.{going-whole, dir-stop, dir-on}
 use borrow.Author.Needs.{needs}
 use Rattle.list_find.proofs.directory.Statement.{statement}
 use Rattle.list_find.proofs.directory.Tie as tie
-use Rattle.list_find.proofs.directory.Reads as reads
-use Rattle.list_find.proofs.directory.Lts as lts
-use Rattle.list_find.proofs.all_subs.Reads as all-subs-reads
-use Rattle.list_find.proofs.half.Reads as half-reads
-use Rattle.list_find.proofs.visit.Reads as visit-reads
 
--- src/lib.rt:313:11
-visit-requires : tie.Need-visit-requires
-visit-requires c κs = search needs
+abbrev went : tie.After-half → tie.After-directories
+went c = c .before .before .before
 
--- src/lib.rt:314:24
-enum-known-found : tie.Need-enum-known-found
-enum-known-found c = search needs
+abbrev start : tie.After-visit → tie.Start
+start c = c .before .before .before
 
--- src/lib.rt:315:25
-enum-known-directories : tie.Need-enum-known-directories
-enum-known-directories c = search needs
-
--- src/lib.rt:320:13
-half-requires : tie.Need-half-requires
-half-requires c κs = search needs
-
--- src/lib.rt:321:13
 add-all-subs : tie.Need-add-all-subs
-add-all-subs c = ?
+add-all-subs c =
+    let d = went c in
+    let v = d .before .before in
+    omega (arith, whole-room _ _ (going-whole _ _ _ _ (v .visit .ensures) (d .directories .given .1)))
 
--- src/lib.rt:315:42
 all-subs-requires : tie.Need-all-subs-requires
-all-subs-requires c κs = ?
+all-subs-requires c κs =
+    let d = went c in
+    let v = d .before .before in
+    (
+      omega (arith, whole-room _ _ (going-whole _ _ _ _ (v .visit .ensures) (d .directories .given .1)), c .half .ensures .0),
+      start v .pre,
+    )
 
--- src/lib.rt:301:1
 returns : tie.Need-returns
-returns c = ?
+returns c =
+    let f = c .before in
+    let v = f .before .before in
+    (dir-stop _ _ _ _ (v .visit .ensures) (f .found .given .1), start v .pre)
 
--- src/lib.rt:301:1
-same-length : tie.Need-same-length
-same-length c = search needs
-
--- src/lib.rt:301:1
 returns-2 : tie.Need-returns-2
-returns-2 c = ?
+returns-2 c =
+    let a = c .before .before in
+    let h = a .before in
+    let d = went h in
+    let v = d .before .before in
+    (
+      dir-on _ _ _ _ (v .visit .ensures) (d .directories .given .1) (h .half .ensures .0) (a .all-subs .ensures .0),
+      a .all-subs .ensures .1,
+    )
 
 pub directory-spec : {M : Type 1} → statement M
 directory-spec =
     tie.close
     (tie.spec
-    visit-requires
-    enum-known-found
-    enum-known-directories
-    half-requires
-    add-all-subs
-    all-subs-requires
-    returns
-    same-length
-    returns-2)
+    (λ c κs. search needs) (λ c. search needs) (λ c. search needs) (λ c κs. search needs) add-all-subs
+    all-subs-requires returns (λ c. search needs) returns-2)

@@ -1,54 +1,44 @@
+-- `list_find::find` meets its contract. Assumes nothing.
+use denote.Ref.{now}
+use Prim.Native.Nat.{ℕ}
+use mathlib.Core.Path.{ap, _∙_}
+use native.Mathlib.Omega.{arith}
+use borrow.Author.Tests.{not-true, not-false}
+use Rattle.num_zeros.proofs.Laws.{known-none}
+use Rattle.list_find.specs.Walk.{fileOf, tagOf, chain}
+use Rattle.list_find.proofs.Fine.{headed-room, found-none, found-walk}
 use borrow.Author.Needs.{needs}
 use Rattle.list_find.proofs.find.Statement.{statement}
 use Rattle.list_find.proofs.find.Tie as tie
-use Rattle.list_find.proofs.find.Reads as reads
-use Rattle.list_find.proofs.find.Lts as lts
-use Rattle.list_find.proofs.is_headed.Reads as is-headed-reads
-use Rattle.list_find.proofs.tag_of.Reads as tag-of-reads
-use Rattle.list_find.proofs.walk.Reads as walk-reads
-use Rattle.list_find.proofs.word.Reads as word-reads
 
--- src/lib.rt:384:9
-is-headed-requires : tie.Need-is-headed-requires
-is-headed-requires c κs = search needs
-
--- src/lib.rt:385:9
 returns : tie.Need-returns
-returns c = ?
+returns c = found-none _ _ (c .before .is-headed .ensures) (not-true _ (c .if1 .taken))
 
--- src/lib.rt:387:16
 shared-slice-read-most : tie.Need-shared-slice-read-most
-shared-slice-read-most c = ?
+shared-slice-read-most c =
+    let d = c .before in omega (arith, headed-room _ (d .before .is-headed .ensures) (not-false _ (d .if1 .left)))
 
--- src/lib.rt:389:16
-slice-aggregate-walk : tie.Need-slice-aggregate-walk
-slice-aggregate-walk c = search needs
-
--- src/lib.rt:389:34
-tag-of-requires : tie.Need-tag-of-requires
-tag-of-requires c κs = search needs
-
--- src/lib.rt:389:49
 word-requires : tie.Need-word-requires
-word-requires c κs = ?
+word-requires c κs =
+    let d = c .before .before .before in omega (arith, headed-room _ (d .before .is-headed .ensures) (not-false _ (d .if1 .left)))
 
--- src/lib.rt:389:5
 walk-requires : tie.Need-walk-requires
-walk-requires c κs = ?
+walk-requires c κs = known-none _ 8192
 
--- src/lib.rt:381:1
 returns-2 : tie.Need-returns-2
-returns-2 c = ?
+returns-2 c =
+    let w = c .before in
+    let n = w .before in
+    let g = n .before in
+    let d = g .before .before .before in
+    let a = d .before .before .before .args in
+    let f = fileOf (now (a .file)) in
+    found-walk _ _ (d .before .is-headed .ensures) (not-false _ (d .if1 .left))
+    (w .walk .ensures ∙ ap (λ (t : ℕ). chain f t 65 (n .word .result) 0) (g .tag-of .ensures) ∙ ap (λ (at : ℕ). chain f (tagOf (a .which)) 65 at 0) (n .word .ensures .0))
 
 pub find-spec : {M : Type 1} → statement M
 find-spec =
     tie.close
     (tie.spec
-    is-headed-requires
-    returns
-    shared-slice-read-most
-    slice-aggregate-walk
-    tag-of-requires
-    word-requires
-    walk-requires
-    returns-2)
+    (λ c κs. search needs) returns shared-slice-read-most (λ c. search needs) (λ c κs. search needs) word-requires
+    walk-requires returns-2)
