@@ -16,9 +16,10 @@ use Rattle.list_find.specs.declared.Which.{Which}
 use Rattle.list_find.specs.Walk.{File, size, fileOf, u32, tagOf, entriesIn, nextAt, whole, countAt, valueAt, inside, isList, isSubs, listAt, ownFrom, visit, subOf, subsFrom, subsAt, anySubs, allSubs, directory, onward, chain, headed, foundIn}
 use Rattle.list_find.proofs.Laws.{subs-done, all-done}
 
+-- of an answer that the walk gives; it never says that the file is not TIFF
 abbrev pub Lies : ℕ → Found → Type 0
 Lies n (At start len) = start + len ≤ n
-Lies n NotTiff = Unit
+Lies n NotTiff = ⊥
 Lies n Outside = Unit
 Lies n TooMany = Unit
 Lies n Missing = Unit
@@ -213,10 +214,6 @@ headed-room s h t = go (leb 8 (length s)) _ refl (sym h ∙ t)
     go true c e q = leb-true 8 (length s) e
     go false c e q = absurd (let z : _≡_ {A = ℕ} 0 1 = cc in omega arith)
 
-pub found-lies : (s : List ℕ) (which : Which) → Lies (length s) (foundIn s which)
+pub found-lies : (s : List ℕ) (which : Which) → headed s ≡ true → Lies (length s) (foundIn s which)
 unfolding foundIn
-found-lies s which = go (headed s)
-  where
-    go : (b : Bool) → Lies (length s) (cond b (chain (fileOf s) (tagOf which) 65 (u32 (fileOf s) 4) 0) NotTiff)
-    go true = chain-lies (fileOf s) (tagOf which) 65 (u32 (fileOf s) 4) 0
-    go false = tt
+found-lies s which h = simp h (chain-lies (fileOf s) (tagOf which) 65 (u32 (fileOf s) 4) 0)
