@@ -13,8 +13,7 @@ use Rattle.list_find.specs.declared.Looked.the-variants.{Done, Going}
 use Rattle.list_find.specs.declared.Found.{Found}
 use Rattle.list_find.specs.declared.Found.the-variants.{At, NotTiff, Outside, TooMany, Missing}
 use Rattle.list_find.specs.declared.Which.{Which}
-use Rattle.list_find.specs.Walk.{File, size, fileOf, u32, tagOf, entriesIn, nextAt, whole, countAt, valueAt, inside, isList, isSubs, listAt, ownFrom, visit, subOf, subsFrom, subsAt, anySubs, allSubs, directory, onward, chain, headed, foundIn}
-use Rattle.list_find.proofs.Laws.{subs-done, all-done}
+use Rattle.list_find.specs.Walk.{File, size, fileOf, u32, tagOf, entriesIn, nextAt, whole, countAt, valueAt, inside, isList, isSubs, after, listAt, ownFrom, visit, subOf, subsFrom, subsAt, anySubs, allSubs, directory, onward, chain, headed, foundIn}
 
 -- of an answer that the walk gives; it never says that the file is not TIFF
 abbrev pub Lies : ℕ → Found → Type 0
@@ -70,37 +69,42 @@ sub-fine f tag at k h = go (eqb at 0)
     go true = (omega arith, h)
     go false = lower f k (suc k) (visit f tag at k) (omega arith) (visit-fine f tag at k)
 
-subs-fine : (f : File) (tag n o k : ℕ) (l : Looked) → Fine f k l → Fine f k (subsFrom f tag n o l)
+-- and so on with what comes after
+after-fine : (f : File) (k : ℕ) (l : Looked) (rest : ℕ → Looked) → Fine f k l → ((j : ℕ) → j ≤ 64 → Fine f j (rest j)) → Fine f k (after l rest)
+after-fine f k (Done a) rest x y = x
+after-fine f k (Going j) rest x y = lower f k j (rest j) (x .0) (y j (x .1))
+
+subs-fine : (f : File) (tag n o k : ℕ) → k ≤ 64 → Fine f k (subsFrom f tag n o k)
 unfolding subsFrom
-subs-fine f tag zero o k l x = x
-subs-fine f tag (suc n) o k (Done a) x = x
-subs-fine f tag (suc n) o k (Going j) x =
-    subs-fine f tag n (o + 4) k (subOf f tag (u32 f o) j)
-    (lower f k j (subOf f tag (u32 f o) j) (x .0) (sub-fine f tag (u32 f o) j (x .1)))
+subs-fine f tag zero o k h = (omega arith, h)
+subs-fine f tag (suc n) o k h =
+    after-fine f k (subOf f tag (u32 f o) k) (λ (j : ℕ). subsFrom f tag n (o + 4) j) (sub-fine f tag (u32 f o) k h)
+    (λ j l. subs-fine f tag n (o + 4) j l)
 
 any-fine : (f : File) (tag e k : ℕ) → k ≤ 64 → Fine f k (anySubs f tag e k)
 unfolding anySubs subsAt
 any-fine f tag e k h =
     go (isSubs f e) (inside f e (4 * countAt f e))
-    (subs-fine f tag (countAt f e) (valueAt f e (4 * countAt f e)) k (Going k) (omega arith, h))
+    (subs-fine f tag (countAt f e) (valueAt f e (4 * countAt f e)) k h)
   where
     go :
-        (b c : Bool) → Fine f k (subsFrom f tag (countAt f e) (valueAt f e (4 * countAt f e)) (Going k))
-        → Fine f k (cond b (cond c (subsFrom f tag (countAt f e) (valueAt f e (4 * countAt f e)) (Going k)) (Done Outside)) (Going k))
+        (b c : Bool) → Fine f k (subsFrom f tag (countAt f e) (valueAt f e (4 * countAt f e)) k)
+        → Fine f k (cond b (cond c (subsFrom f tag (countAt f e) (valueAt f e (4 * countAt f e)) k) (Done Outside)) (Going k))
     go true true x = x
     go true false x = tt
     go false c x = (omega arith, h)
 
-all-fine : (f : File) (tag n e k : ℕ) (l : Looked) → Fine f k l → Fine f k (allSubs f tag n e l)
+all-fine : (f : File) (tag n e k : ℕ) → k ≤ 64 → Fine f k (allSubs f tag n e k)
 unfolding allSubs
-all-fine f tag zero e k l x = x
-all-fine f tag (suc n) e k (Done a) x = x
-all-fine f tag (suc n) e k (Going j) x =
-    all-fine f tag n (e + 12) k (anySubs f tag e j) (lower f k j (anySubs f tag e j) (x .0) (any-fine f tag e j (x .1)))
+all-fine f tag zero e k h = (omega arith, h)
+all-fine f tag (suc n) e k h =
+    after-fine f k (anySubs f tag e k) (λ (j : ℕ). allSubs f tag n (e + 12) j) (any-fine f tag e k h) (λ j l. all-fine f tag n (e + 12) j l)
 
 pub directory-fine : (f : File) (tag at k : ℕ) → Fine f (suc k) (directory f tag at k)
 unfolding directory
-directory-fine f tag at k = all-fine f tag (entriesIn f at) (at + 2) (suc k) (visit f tag at k) (visit-fine f tag at k)
+directory-fine f tag at k =
+    after-fine f (suc k) (visit f tag at k) (λ (j : ℕ). allSubs f tag (entriesIn f at) (at + 2) j) (visit-fine f tag at k)
+    (λ j l. all-fine f tag (entriesIn f at) (at + 2) j l)
 
 -- ---- the chain
 
@@ -156,18 +160,21 @@ module _ (f : File) (tag at k : ℕ) where
   unfolding directory
   directory-whole {j} = go (visit f tag at k) refl
     where
-      go : (l : Looked) → visit f tag at k ≡ l → allSubs f tag (entriesIn f at) (at + 2) l ≡ Going j → whole f at ≡ true
-      go (Done a) e q = let z = sym (all-done f tag (entriesIn f at) (at + 2) a) ∙ q in cc
+      go :
+          (l : Looked) → visit f tag at k ≡ l → after l (λ (i : ℕ). allSubs f tag (entriesIn f at) (at + 2) i) ≡ Going j → whole f at ≡ true
+      go (Done a) e q = cc
       go (Going i) e q = visit-whole e
 
   pub dir-stop : {a : Found} {r : Looked} → r ≡ visit f tag at k → r ≡ Done a → Done a ≡ directory f tag at k
   unfolding directory
-  dir-stop {a} h g = sym (ap (allSubs f tag (entriesIn f at) (at + 2)) (sym h ∙ g) ∙ all-done f tag (entriesIn f at) (at + 2) a)
+  dir-stop h g = ap (λ (l : Looked). after l (λ (i : ℕ). allSubs f tag (entriesIn f at) (at + 2) i)) (sym (sym h ∙ g))
 
-  pub dir-on : {j n : ℕ} {r q : Looked} → r ≡ visit f tag at k → r ≡ Going j → n ≡ entriesIn f at → q ≡ allSubs f tag n (at + 2) (Going j)
+  pub dir-on : {j n : ℕ} {r q : Looked} → r ≡ visit f tag at k → r ≡ Going j → n ≡ entriesIn f at → q ≡ allSubs f tag n (at + 2) j
       → q ≡ directory f tag at k
   unfolding directory
-  dir-on {j} h g e i = i ∙ ap (λ (m : ℕ). allSubs f tag m (at + 2) (Going j)) e ∙ sym (ap (allSubs f tag (entriesIn f at) (at + 2)) (sym h ∙ g))
+  dir-on {j} h g e i =
+      i ∙ ap (λ (m : ℕ). allSubs f tag m (at + 2) j) e
+      ∙ ap (λ (l : Looked). after l (λ (i : ℕ). allSubs f tag (entriesIn f at) (at + 2) i)) (sym (sym h ∙ g))
 
   module _ {r : Looked} (d : r ≡ directory f tag at k) where
     pub turn-whole : {j : ℕ} → r ≡ Going j → whole f at ≡ true

@@ -17,7 +17,7 @@ use Rattle.list_find.specs.declared.Looked.{Looked}
 use Rattle.list_find.specs.declared.Looked.the-variants.{Done, Going}
 use Rattle.list_find.specs.declared.Found.{Found}
 use Rattle.list_find.specs.declared.Found.the-variants.{At, NotTiff, Outside, TooMany, Missing}
-use Rattle.list_find.specs.Walk.{File, fileWith, u16, u32, size, entriesIn, nextAt, whole, valueAt, inside, countAt, listAt, isList, ownFrom, visit, subOf, subsFrom, subsAt, anySubs, isSubs, allSubs}
+use Rattle.list_find.specs.Walk.{File, fileWith, u16, u32, size, entriesIn, nextAt, whole, valueAt, inside, countAt, listAt, isList, after, ownFrom, visit, subOf, subsFrom, subsAt, anySubs, isSubs, allSubs}
 use Rattle.list_find.specs.Skips.{Skipped}
 
 -- four bytes are two and two
@@ -108,11 +108,6 @@ module _ (f : File) (tag k : ℕ) where
   unfolding subOf
   sub-gone {at} h q = simp (ne-eqb at 0 h) q
 
-pub subs-done : (f : File) (tag n o : ℕ) (a : Found) → subsFrom f tag n o (Done a) ≡ Done a
-unfolding subsFrom
-subs-done f tag zero o a = refl
-subs-done f tag (suc n) o a = refl
-
 -- offsets that are all 0
 zero-word : (f : File) (o : ℕ) → Zeros (f .bytes) o (o + 4) → u32 f o ≡ 0
 zero-word f o z = go (f .most)
@@ -121,47 +116,44 @@ zero-word f o z = go (f .most)
     go true = big-zero (f .bytes) o 4 z
     go false = little-zero (f .bytes) o 4 z
 
--- one offset more
-subs-suc : (f : File) (tag n o k : ℕ) → subsFrom f tag (suc n) o (Going k) ≡ subsFrom f tag n (o + 4) (subOf f tag (u32 f o) k)
+subs-suc : (f : File) (tag n o k : ℕ) → subsFrom f tag (suc n) o k ≡ after (subOf f tag (u32 f o) k) (λ (j : ℕ). subsFrom f tag n (o + 4) j)
 unfolding subsFrom
 subs-suc f tag n o k = refl
 
-pub subs-zeros :
-    (f : File) (tag d m o k : ℕ) → Zeros (f .bytes) o (o + 4 * d)
-    → subsFrom f tag (d + m) o (Going k) ≡ subsFrom f tag m (o + 4 * d) (Going k)
+pub subs-zeros : (f : File) (tag d m o k : ℕ) → Zeros (f .bytes) o (o + 4 * d) → subsFrom f tag (d + m) o k ≡ subsFrom f tag m (o + 4 * d) k
 subs-zeros f tag zero m o k z = simp (zero-add, mul-zero, add-zero)
 subs-zeros f tag (suc d) m o k z =
     let w : u32 f o ≡ 0 = zero-word f o (zeros-part (omega arith) (omega arith) z) in
     let y : Zeros (f .bytes) (o + 4) (o + 4 + 4 * d) = zeros-part (omega arith) (omega arith) z in
-    ap (λ (p : ℕ). subsFrom f tag p o (Going k)) (suc-add d m) ∙ subs-suc f tag (d + m) o k
-    ∙ ap (subsFrom f tag (d + m) (o + 4)) (sym (sub-none f tag k w)) ∙ subs-zeros f tag d m (o + 4) k y
-    ∙ ap (λ (p : ℕ). subsFrom f tag m p (Going k)) (omega arith)
+    ap (λ (p : ℕ). subsFrom f tag p o k) (suc-add d m) ∙ subs-suc f tag (d + m) o k
+    ∙ ap (λ (l : Looked). after l (λ (j : ℕ). subsFrom f tag (d + m) (o + 4) j)) (sym (sub-none f tag k w))
+    ∙ subs-zeros f tag d m (o + 4) k y ∙ ap (λ (p : ℕ). subsFrom f tag m p k) (omega arith)
 
 module _ (f : File) (tag n o k i : ℕ) (h : i < n) {r : Looked} {w : ℕ} (e : w ≡ u32 f (o + 4 * i)) (q : r ≡ subOf f tag w k) where
-  subs-one : subsFrom f tag (n - i) (o + 4 * i) (Going k) ≡ subsFrom f tag (n - (i + 1)) (o + 4 * i + 4) r
-  subs-one =
-      ap (λ (p : ℕ). subsFrom f tag p (o + 4 * i) (Going k)) (omega arith) ∙ subs-suc f tag (n - (i + 1)) (o + 4 * i) k
-      ∙ ap (subsFrom f tag (n - (i + 1)) (o + 4 * i + 4)) (ap (λ (p : ℕ). subOf f tag p k) (sym e) ∙ sym q)
+  -- one offset
+  subs-one : subsFrom f tag (n - i) (o + 4 * i) k ≡ after r (λ (j : ℕ). subsFrom f tag (n - (i + 1)) (o + 4 * i + 4) j)
+  unfolding subsFrom
+  subs-one = let m : n - i ≡ suc (n - (i + 1)) = omega arith in rw m (rw (q, e))
 
-  pub subs-stop : {a : Found} → r ≡ Done a → subsFrom f tag (n - i) (o + 4 * i) (Going k) ≡ Done a
-  subs-stop {a} d = subs-one ∙ ap (subsFrom f tag (n - (i + 1)) (o + 4 * i + 4)) d ∙ subs-done f tag (n - (i + 1)) (o + 4 * i + 4) a
+  pub subs-stop : {a : Found} → r ≡ Done a → subsFrom f tag (n - i) (o + 4 * i) k ≡ Done a
+  subs-stop d = subs-one ∙ ap (λ (l : Looked). after l (λ (j : ℕ). subsFrom f tag (n - (i + 1)) (o + 4 * i + 4) j)) d
 
   -- and those behind it that are 0
-  pub subs-on : {j x : ℕ} → r ≡ Going j → Skipped (f .bytes) n o i x
-      → subsFrom f tag (n - i) (o + 4 * i) (Going k) ≡ subsFrom f tag (n - x) (o + 4 * x) (Going j)
+  pub subs-on : {j x : ℕ} → r ≡ Going j → Skipped (f .bytes) n o i x → subsFrom f tag (n - i) (o + 4 * i) k ≡ subsFrom f tag (n - x) (o + 4 * x) j
   subs-on {j} {x} g s =
       let d : n - (i + 1) ≡ x - (i + 1) + (n - x) = omega (arith, s .from, s .most) in
       let a : o + 4 * i + 4 ≡ o + 4 * (i + 1) = omega arith in
       let b : o + 4 * x ≡ o + 4 * (i + 1) + 4 * (x - (i + 1)) = omega (arith, s .from) in
       let z : Zeros (f .bytes) (o + 4 * (i + 1)) (o + 4 * (i + 1) + 4 * (x - (i + 1))) = rw b at (s .zeros) in
-      subs-one ∙ simp (g, d, a) (subs-zeros f tag (x - (i + 1)) (n - x) (o + 4 * (i + 1)) j z)
-      ∙ ap (λ (p : ℕ). subsFrom f tag (n - x) p (Going j)) (sym b)
+      subs-one ∙ ap (λ (l : Looked). after l (λ (i′ : ℕ). subsFrom f tag (n - (i + 1)) (o + 4 * i + 4) i′)) g
+      ∙ simp (d, a) (subs-zeros f tag (x - (i + 1)) (n - x) (o + 4 * (i + 1)) j z)
+      ∙ ap (λ (p : ℕ). subsFrom f tag (n - x) p j) (sym b)
 
-pub subs-end : (f : File) (tag n o i k : ℕ) → n ≤ i → subsFrom f tag (n - i) (o + 4 * i) (Going k) ≡ Going k
+pub subs-end : (f : File) (tag n o i k : ℕ) → n ≤ i → subsFrom f tag (n - i) (o + 4 * i) k ≡ Going k
 unfolding subsFrom
 subs-end f tag n o i k h = let m : n - i ≡ 0 = omega arith in simp m
 
-pub subs-begin : (f : File) (tag n o k : ℕ) → subsFrom f tag (n - 0) (o + 4 * 0) (Going k) ≡ subsFrom f tag n o (Going k)
+pub subs-begin : (f : File) (tag n o k : ℕ) → subsFrom f tag (n - 0) (o + 4 * 0) k ≡ subsFrom f tag n o k
 subs-begin f tag n o k = simp (sub-zero, mul-zero, add-zero)
 
 module _ (f : File) (tag e k : ℕ) {n o : ℕ} {b : Bool} (i : n ≡ countAt f e) (j : o ≡ valueAt f e (4 * n)) (h : b ≡ leb (o + 4 * n) (size f)) where
@@ -169,7 +161,7 @@ module _ (f : File) (tag e k : ℕ) {n o : ℕ} {b : Bool} (i : n ≡ countAt f 
   unfolding subsAt inside
   subs-outside t = simp (sym i, sym j, sym h ∙ t)
 
-  pub subs-inside : b ≡ true → {r : Looked} → r ≡ subsFrom f tag n o (Going k) → r ≡ subsAt f tag e k
+  pub subs-inside : b ≡ true → {r : Looked} → r ≡ subsFrom f tag n o k → r ≡ subsAt f tag e k
   unfolding subsAt inside
   subs-inside t q = simp (sym i, sym j, sym h ∙ t) q
 
@@ -184,30 +176,23 @@ module _ (f : File) (tag e k : ℕ) {b : Bool} (h : b ≡ isSubs f e) where
 
 -- ---- the entries of a directory once more, for SubIFDs
 
-pub all-done : (f : File) (tag n e : ℕ) (a : Found) → allSubs f tag n e (Done a) ≡ Done a
-unfolding allSubs
-all-done f tag zero e a = refl
-all-done f tag (suc n) e a = refl
-
-all-suc : (f : File) (tag n e k : ℕ) → allSubs f tag (suc n) e (Going k) ≡ allSubs f tag n (e + 12) (anySubs f tag e k)
-unfolding allSubs
-all-suc f tag n e k = refl
-
 module _ (f : File) (tag n e k i : ℕ) (h : i < n) {r : Looked} (q : r ≡ anySubs f tag e k) where
-  pub all-on : allSubs f tag (n - i) e (Going k) ≡ allSubs f tag (n - (i + 1)) (e + 12) r
-  all-on =
-      ap (λ (p : ℕ). allSubs f tag p e (Going k)) (omega arith) ∙ all-suc f tag (n - (i + 1)) e k
-      ∙ ap (allSubs f tag (n - (i + 1)) (e + 12)) (sym q)
+  all-one : allSubs f tag (n - i) e k ≡ after r (λ (j : ℕ). allSubs f tag (n - (i + 1)) (e + 12) j)
+  unfolding allSubs
+  all-one = let m : n - i ≡ suc (n - (i + 1)) = omega arith in rw m (rw q)
 
-  pub all-stop : {a : Found} → r ≡ Done a → allSubs f tag (n - i) e (Going k) ≡ Done a
-  all-stop {a} d = all-on ∙ ap (allSubs f tag (n - (i + 1)) (e + 12)) d ∙ all-done f tag (n - (i + 1)) (e + 12) a
+  pub all-stop : {a : Found} → r ≡ Done a → allSubs f tag (n - i) e k ≡ Done a
+  all-stop d = all-one ∙ ap (λ (l : Looked). after l (λ (j : ℕ). allSubs f tag (n - (i + 1)) (e + 12) j)) d
 
-pub all-end : (f : File) (tag n e i k : ℕ) → n ≤ i → allSubs f tag (n - i) e (Going k) ≡ Going k
+  pub all-on : {j : ℕ} → r ≡ Going j → allSubs f tag (n - i) e k ≡ allSubs f tag (n - (i + 1)) (e + 12) j
+  all-on d = all-one ∙ ap (λ (l : Looked). after l (λ (j : ℕ). allSubs f tag (n - (i + 1)) (e + 12) j)) d
+
+pub all-end : (f : File) (tag n e i k : ℕ) → n ≤ i → allSubs f tag (n - i) e k ≡ Going k
 unfolding allSubs
 all-end f tag n e i k h = let m : n - i ≡ 0 = omega arith in simp m
 
-pub all-begin : (f : File) (tag n e k : ℕ) → allSubs f tag (n - 0) e (Going k) ≡ allSubs f tag n e (Going k)
-all-begin f tag n e k = ap (λ (m : ℕ). allSubs f tag m e (Going k)) (omega arith)
+pub all-begin : (f : File) (tag n e k : ℕ) → allSubs f tag (n - 0) e k ≡ allSubs f tag n e k
+all-begin f tag n e k = ap (λ (m : ℕ). allSubs f tag m e k) (omega arith)
 
 -- what num_zeros passed over, in offsets
 pub skipped-of : {s : List ℕ} {n o i p : ℕ} → i < n → Passed s (o + 4 * (i + 1)) (o + 4 * n) p → Skipped s n o i ((p - o) / 4)

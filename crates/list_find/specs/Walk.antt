@@ -84,52 +84,56 @@ isList f tag e = eqb (tagAt f e) tag && (eqb (typeAt f e) 7 || eqb (typeAt f e) 
 unfoldable pub isSubs : File → (e : ℕ) → Bool
 isSubs f e = eqb (tagAt f e) 330 && (eqb (typeAt f e) 4 || eqb (typeAt f e) 13)
 
--- ---- the walk: Done, with an answer; or Going, with so many directories gone to
+-- ---- the walk: Done, with an answer, or Going, with so many directories gone to
 
+-- what comes after, where there is no answer yet
+abbrev pub after : Looked → (ℕ → Looked) → Looked
+after (Done a) rest = Done a
+after (Going k) rest = rest k
+
+-- the list that an entry holds, as a part of the file
 unfoldable pub listAt : File → (e : ℕ) → Found
 listAt f e = cond (inside f e (countAt f e)) (At (valueAt f e (countAt f e)) (countAt f e)) Outside
 
--- the first of n entries from e on that is the list (the `let` is there so that a computation ends with it)
+-- the first of n entries from e on that is the list decides (here and below a `let` is there so that a computation ends with its answer)
 unfoldable pub ownFrom : File → (tag n e k : ℕ) → Looked
 ownFrom f tag zero e k = Going k
 ownFrom f tag (suc n) e k = let rest = ownFrom f tag n (e + 12) k in cond (isList f tag e) (Done (listAt f e)) rest
 
--- going to the directory at `at` after k others, and over its own entries
+-- after k directories: going to the one at `at`, which is whole in the file before any entry counts, and over its own entries
 unfoldable pub visit : File → (tag at k : ℕ) → Looked
 visit f tag at k =
     cond (leb 64 k) (Done TooMany)
     (cond (whole f at) (ownFrom f tag (entriesIn f at) (at + 2) (suc k)) (Done Outside))
 
--- the SubIFD at one offset; offset 0 is passed over
+-- the SubIFD at one offset, its chain not followed; offset 0 is passed over
 unfoldable pub subOf : File → (tag at k : ℕ) → Looked
 subOf f tag at k = let gone = visit f tag at k in cond (eqb at 0) (Going k) gone
 
 -- the SubIFDs at n offsets from o on, in order
-unfoldable pub subsFrom : File → (tag n o : ℕ) → Looked → Looked
-subsFrom f tag zero o seen = seen
-subsFrom f tag (suc n) o (Done a) = Done a
-subsFrom f tag (suc n) o (Going k) = subsFrom f tag n (o + 4) (subOf f tag (u32 f o) k)
+unfoldable pub subsFrom : File → (tag n o k : ℕ) → Looked
+subsFrom f tag zero o k = Going k
+subsFrom f tag (suc n) o k = after (subOf f tag (u32 f o) k) (λ (j : ℕ). subsFrom f tag n (o + 4) j)
 
--- the SubIFDs of an entry, whose offsets lie all inside the file
+-- the SubIFDs of an entry, if it has any: all of their offsets lie inside the file
 unfoldable pub subsAt : File → (tag e k : ℕ) → Looked
 subsAt f tag e k =
-    let subs = subsFrom f tag (countAt f e) (valueAt f e (4 * countAt f e)) (Going k) in
+    let subs = subsFrom f tag (countAt f e) (valueAt f e (4 * countAt f e)) k in
     cond (inside f e (4 * countAt f e)) subs (Done Outside)
 
 unfoldable pub anySubs : File → (tag e k : ℕ) → Looked
 anySubs f tag e k = let subs = subsAt f tag e k in cond (isSubs f e) subs (Going k)
 
 -- the SubIFDs of n entries from e on, in order
-unfoldable pub allSubs : File → (tag n e : ℕ) → Looked → Looked
-allSubs f tag zero e seen = seen
-allSubs f tag (suc n) e (Done a) = Done a
-allSubs f tag (suc n) e (Going k) = allSubs f tag n (e + 12) (anySubs f tag e k)
+unfoldable pub allSubs : File → (tag n e k : ℕ) → Looked
+allSubs f tag zero e k = Going k
+allSubs f tag (suc n) e k = after (anySubs f tag e k) (λ (j : ℕ). allSubs f tag n (e + 12) j)
 
--- a directory of the chain: its own entries, then its SubIFDs
+-- a directory's own entries, then its SubIFDs
 unfoldable pub directory : File → (tag at k : ℕ) → Looked
-directory f tag at k = allSubs f tag (entriesIn f at) (at + 2) (visit f tag at k)
+directory f tag at k = after (visit f tag at k) (λ (j : ℕ). allSubs f tag (entriesIn f at) (at + 2) j)
 
--- then the next directory. Each turn goes to one directory at least, so that 65 turns are never all taken
+-- then the next directory; offset 0 ends the chain. Each turn goes to one directory at least, so that 65 turns are never all taken
 abbrev pub onward : (ℕ → Found) → Looked → Found
 onward rest (Done a) = a
 onward rest (Going k) = rest k

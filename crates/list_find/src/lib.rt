@@ -5,7 +5,6 @@ ghost use Prim.Native.Nat.{_+_, _*_, _≤_, _<_};
 ghost use lib.Dec.{leb};
 ghost use lib.ListN.{length};
 ghost use Rattle.num_zeros.specs.Zeros.{Known};
-ghost use Rattle.list_find.specs.declared.Looked.the-variants.{Going};
 ghost use Rattle.list_find.specs.Skips.{Skipped};
 ghost use Rattle.list_find.specs.Walk.{
   tagOf,
@@ -210,7 +209,7 @@ fn subs(
 ) -> Looked
     requires { ⌜ o + 4 * n ≤ length (now file) ⌝ }
     requires { ⌜ Known (now file) (now known) ⌝ }
-    ensures { λ r. ⌜ r ≡ subsFrom (fileWith most (now (file .entry))) tag n o (Going k) ⌝ }
+    ensures { λ r. ⌜ r ≡ subsFrom (fileWith most (now (file .entry))) tag n o k ⌝ }
     ensures { λ r. ⌜ Known (now (file .entry)) (now (known .exit)) ⌝ }
 {
     let mut i: usize = 0;
@@ -274,7 +273,7 @@ fn all_subs(
 ) -> Looked
     requires { ⌜ e + 12 * n ≤ length (now file) ⌝ }
     requires { ⌜ Known (now file) (now known) ⌝ }
-    ensures { λ r. ⌜ r ≡ allSubs (fileWith most (now (file .entry))) tag n e (Going k) ⌝ }
+    ensures { λ r. ⌜ r ≡ allSubs (fileWith most (now (file .entry))) tag n e k ⌝ }
     ensures { λ r. ⌜ Known (now (file .entry)) (now (known .exit)) ⌝ }
 {
     let mut i: usize = 0;

@@ -1,12 +1,11 @@
 -- `list_find::all_subs` meets its contract. The loop's invariant: what the entries from here on give is the whole, and the table is right.
 -- Assumes nothing.
 use Prim.Native.Nat.{_+_, _-_, _*_, _≤_}
-use mathlib.Core.Path.{_≡_, refl, sym, ap, _∙_}
+use mathlib.Core.Path.{_≡_, refl, sym, _∙_}
 use native.Mathlib.Omega.{arith}
 use borrow.Author.Needs.{needs}
 use lib.ListN.{length}
 use Rattle.num_zeros.specs.Zeros.{Known}
-use Rattle.list_find.specs.declared.Looked.the-variants.{Going}
 use Rattle.list_find.specs.Walk.{fileWith, allSubs}
 use Rattle.list_find.proofs.Laws.{all-begin, all-stop, all-on, all-end}
 use Rattle.list_find.proofs.all_subs.Statement.{statement}
@@ -16,7 +15,7 @@ abbrev Inv-loop : tie.InvT-loop
 Inv-loop file known₀ most tag n e k i₀ at₀ gone₀ known i at gone =
     (i ≤ n)
     × (at ≡ e + 12 * i)
-    × (allSubs (fileWith most file) tag (n - i) at (Going gone) ≡ allSubs (fileWith most file) tag n e (Going k))
+    × (allSubs (fileWith most file) tag (n - i) at gone ≡ allSubs (fileWith most file) tag n e k)
     × Known file known
     × (length known ≡ length known₀)
 
@@ -75,7 +74,7 @@ loop-again c =
     (
       omega (arith, l .loop-test .taken),
       omega (arith, i .1),
-      ap (allSubs _ _ _ _) (sym (c .before .directories .given .1)) ∙ sym (all-on _ _ _ _ _ _ (l .loop-test .taken) (s .any-subs .ensures .0)) ∙ i .2,
+      sym (all-on _ _ _ _ _ _ (l .loop-test .taken) (s .any-subs .ensures .0) (c .before .directories .given .1)) ∙ i .2,
       s .any-subs .ensures .1,
       s .any-subs .kept .1 .0 ∙ i .4,
     )

@@ -7,7 +7,6 @@ use native.Mathlib.Omega.{arith}
 use borrow.Author.Needs.{needs}
 use lib.ListN.{length}
 use Rattle.num_zeros.specs.Zeros.{Known}
-use Rattle.list_find.specs.declared.Looked.the-variants.{Going}
 use Rattle.list_find.specs.Walk.{fileWith, subsFrom}
 use Rattle.list_find.proofs.Laws.{subs-begin, subs-stop, subs-on, subs-end}
 use Rattle.list_find.proofs.subs.Statement.{statement}
@@ -16,7 +15,7 @@ use Rattle.list_find.proofs.subs.Tie as tie
 abbrev Inv-loop : tie.InvT-loop
 Inv-loop file known₀ most tag n o k i₀ gone₀ known i gone =
     (i ≤ n)
-    × (subsFrom (fileWith most file) tag (n - i) (o + 4 * i) (Going gone) ≡ subsFrom (fileWith most file) tag n o (Going k))
+    × (subsFrom (fileWith most file) tag (n - i) (o + 4 * i) gone ≡ subsFrom (fileWith most file) tag n o k)
     × Known file known
     × (length known ≡ length known₀)
 
