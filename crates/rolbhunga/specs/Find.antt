@@ -1,12 +1,13 @@
 -- What `rolbhunga_find` promises: `foundIn` of list_find, in numbers.
 use Prim.Native.Nat.{ℕ}
 use mathlib.Core.Bool.{cond}
-use mathlib.Core.List.{List}
+use mathlib.Core.List.{List, []}
+use mathlib.Core.Path.{_≡_, refl}
 use lib.Dec.{eqb}
 use Rattle.list_find.specs.declared.Which.the-variants.{List1, List2, List3}
 use Rattle.list_find.specs.declared.Found.{Found}
 use Rattle.list_find.specs.declared.Found.the-variants.{At, NotTiff, Outside, TooMany, Missing}
-use Rattle.list_find.specs.Walk.{numberOf, foundIn}
+use Rattle.list_find.specs.Walk.{numberOf, headed, foundIn}
 use Rattle.rolbhunga.specs.declared.find.FindNumbers.{FindNumbers}
 
 -- a refusal has a number alone
@@ -25,3 +26,13 @@ unfoldable pub foundFor : List ℕ → ℕ → FindNumbers
 foundFor s which =
     cond (eqb which 1) (told (foundIn s List1))
     (cond (eqb which 2) (told (foundIn s List2)) (cond (eqb which 3) (told (foundIn s List3)) (none 1)))
+
+pub record Worked : Type 0 where
+  pub found : told (At 18 4) ≡ record { number = 0; start = 18; length = 4 }
+  pub asked : foundFor [] 3 ≡ none 30
+  pub nothing : foundFor [] 0 ≡ none 1
+  pub other : foundFor [] 4 ≡ none 1
+
+pub worked : Worked
+unfolding headed foundIn foundFor
+worked = record { found = refl; asked = refl; nothing = refl; other = refl }
