@@ -178,11 +178,11 @@ fn kind(r: &mut Rng, right: [u16; 2]) -> u16 {
 // An offset for so many bytes in a file of `len`: mostly `good`, else at the file's ends.
 fn offset(r: &mut Rng, good: u32, size: u64, len: usize) -> u32 {
     let end = (len as u64).saturating_sub(size) as u32;
-    match r.below(12) {
-        0 => end,
-        1 => end.wrapping_add(1),
-        2 => r.pick(&[0, 1, 7, len as u32, len as u32 + 1, u32::MAX, u32::MAX - 3, 1 << 31]),
-        3 => r.below(len + 2) as u32,
+    match r.below(30) {
+        0 | 1 => end,
+        2 => end.wrapping_add(1),
+        3 => r.pick(&[0, 1, 7, len as u32, len as u32 + 1, u32::MAX, u32::MAX - 3, 1 << 31]),
+        4 => r.below(len + 2) as u32,
         _ => good,
     }
 }
@@ -204,7 +204,8 @@ fn small(r: &mut Rng) -> Vec<u8> {
     let arrays: Vec<u32> = (0..5).map(|_| if r.once(4) { 0 } else { places[r.below(n)] as u32 }).collect();
     let array_at = value_at + r.below(20);
     let good = places[r.below(n)] as u32;
-    let first = offset(r, if r.once(4) { good } else { places[0] as u32 }, 6, len);
+    let good = if r.once(4) { good } else { places[0] as u32 };
+    let first = offset(r, good, 6, len);
     m.four(if r.once(40) { 0 } else { first });
     for (d, s) in sizes.iter().enumerate() {
         m.pad(places[d], r);
@@ -279,6 +280,8 @@ fn many(r: &mut Rng) -> Vec<u8> {
 // Stretches of zeros, and arrays of SubIFDs that name them from many places, again and again; some reach into what is not zero.
 fn zeros(r: &mut Rng, len: usize) -> Vec<u8> {
     let mut m = Made::new(r.once(2));
+    // where offsets are aligned, those of the leaf are met whole
+    let align = r.pick(&[1, 4, 4, 4]);
     let entries = r.within(1, 40);
     let leaf = 8 + 6 + 12 * entries;
     let from = leaf + 6 + 12;
@@ -292,19 +295,19 @@ fn zeros(r: &mut Rng, len: usize) -> Vec<u8> {
     }
     for _ in 0..entries {
         let (a, b) = runs[r.below(runs.len())];
-        let start = if r.once(4) { r.within(from, len) } else { r.within(a, b) };
+        let start = if r.once(4) { r.within(from, len) } else { r.within(a, b) } / align * align;
         let end = if r.once(4) { r.within(start, len) } else { r.within(start, b.max(start)) };
-        let count = (end - start) / 4 + usize::from(r.once(20));
+        let count = (end - start) / 4 + usize::from(r.once(400));
         m.entry(330, 4, count as u32, start as u32);
     }
     m.four(if r.once(3) { 8 } else { 0 });
     m.directory(&[(if r.once(2) { 51008 } else { 51009 }, 7, 4, 0)], 0);
     // zero, but for some offsets of the leaf and some bytes of chance
     m.bytes.resize(len, 0);
-    let dense = r.pick(&[0, 1, 3, 20]);
+    let dense = r.pick(&[0, 1, 1, 3, 20]);
     for _ in 0..dense {
-        let at = r.within(from, len - 8);
-        if !r.once(3) {
+        let at = r.within(from, len - 8) / align * align;
+        if !r.once(9) {
             let mut a = Made { big: m.big, bytes: Vec::new() };
             a.four(leaf as u32);
             m.bytes[at..at + 4].copy_from_slice(&a.bytes);
@@ -490,7 +493,8 @@ fn formed(r: &mut Rng) -> (Vec<u8>, [Option<Vec<u8>>; 3]) {
     let mut m = Made::new(r.once(2));
     let place = r.below(3);
     let lists: [Option<Vec<u8>>; 3] = [0, 1, 2].map(|_| {
-        let n = if r.once(4) { r.within(1, 4) } else { r.within(5, 90) };
+        // exiftool prints a single byte as a number
+        let n = if r.once(4) { r.within(2, 4) } else { r.within(5, 90) };
         (!r.once(5)).then(|| (0..n).map(|_| r.next() as u8).collect())
     });
     let held = lists.iter().flatten().count();
@@ -504,7 +508,7 @@ fn formed(r: &mut Rng) -> (Vec<u8>, [Option<Vec<u8>>; 3]) {
     let second_at = 8 + 6 + 12 * count(0);
     let mut value_at = second_at + if dirs == 2 { 6 + 12 * count(1) } else { 0 };
     m.four(8);
-    let mut tail = Vec::new();
+    let mut tail: Vec<u8> = Vec::new();
     for d in 0..dirs {
         let mut entries = if d == 0 { plain.clone() } else { plain[..3].to_vec() };
         if d == 0 && place == 1 {

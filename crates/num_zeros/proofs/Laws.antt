@@ -1,16 +1,17 @@
 -- Stretches of zeros: put together, read as words, and kept in a table. Assumes nothing.
 use Prim.Native.Nat.{ℕ, zero, suc, _+_, _-_, _*_, _/_, _%_, _^_, _≤_, _<_}
 use mathlib.Core.Path.{_≡_, refl, sym, ap, _∙_}
-use mathlib.Core.Bool.{Bool, true, false, cond}
+use mathlib.Core.Bool.{Bool, true, false, _&&_, cond}
 use mathlib.Core.List.{List}
 use native.Mathlib.Omega.{arith}
 use native.Mathlib.Nat.{add-zero, add-suc, zero-mul, one-mul, add-mul, le-trans, mul-le-mul-right, le-mul-of-pos-right, mul-comm, lt-mul-div-succ, div-mul-le-self, lt-of-lt-of-le}
 use native.Mathlib.Decide.{decLt}
 use borrow.Author.Tests.{le-leb, lt-leb, eqb-true, eqb-false}
 use lib.Dec.{leb, eqb}
-use lib.ListN.{length, getD, set, replicate, length-replicate, getD-replicate, List·getD-eq-default}
+use lib.ListN.{length, getD, set, take, drop, replicate, length-replicate, getD-replicate, List·getD-eq-default}
 use lib.Seq.{set-out, getD-set-same, getD-set-other}
 use Rattle.num_words.specs.Words.{big, little}
+use Rattle.num_words.proofs.Laws.{part}
 use Rattle.num_zeros.specs.Zeros.{Zeros, Passed, Known, Counted, blockOf, noted}
 
 below-or : {C : Type 0} (a b : ℕ) → (a < b → C) → (b ≤ a → C) → C
@@ -31,6 +32,10 @@ zeros-then {s} {a} {b} {c} {d} h x y =
 -- a part of one
 pub zeros-part : {s : List ℕ} {a b c d : ℕ} → a ≤ c → d ≤ b → Zeros s a b → Zeros s c d
 zeros-part h k x = record { all = λ i l m. x .all i (omega (arith, h, l)) (omega (arith, k, m)) }
+
+both : (a b : Bool) → (a && b) ≡ true → (a ≡ true) × (b ≡ true)
+both true b h = (refl, h)
+both false b h = (h, absurd (let z : _≡_ {A = ℕ} 0 1 = cc in omega arith))
 
 zeros-one : (s : List ℕ) (a : ℕ) → getD s a 0 ≡ 0 → Zeros s a (suc a)
 zeros-one s a e = record { all = λ i l m. let p : i ≡ a = omega (arith, l, m) in rw p e }
@@ -55,6 +60,38 @@ module _ (s : List ℕ) (a : ℕ) where
   little-zero zero z = refl
   little-zero (suc k) z =
       simp (little-zero k (zeros-part (omega arith) (omega arith) z), z .all (a + k) (omega arith) (omega arith), zero-mul)
+
+-- four numbers of eight bytes, as a part of the list has them
+module _ (s : List ℕ) (at : ℕ) where
+  in-part : (k : ℕ) {x : ℕ} → k + 8 ≤ 32 → x ≡ big 8 (take (at + 32 - at) (drop at s)) k → eqb x 0 ≡ true → Zeros s (at + k) (at + k + 8)
+  in-part k h e t = zeros-word 8 s (at + k) (sym (part 8 s (at + 32 - at) at k (omega arith)) ∙ sym e ∙ eqb-true _ 0 t)
+
+  pub zeros-blank :
+      {a b c d : ℕ} → a ≡ big 8 (take (at + 32 - at) (drop at s)) 0 → b ≡ big 8 (take (at + 32 - at) (drop at s)) 8
+      → c ≡ big 8 (take (at + 32 - at) (drop at s)) 16 → d ≡ big 8 (take (at + 32 - at) (drop at s)) 24
+      → ((eqb a 0 && eqb b 0) && (eqb c 0 && eqb d 0)) ≡ true → Zeros s at (at + 32)
+  zeros-blank {a} {b} {c} {d} i j k l t =
+      let x = both (eqb a 0 && eqb b 0) (eqb c 0 && eqb d 0) t in
+      let y = both (eqb a 0) (eqb b 0) (x .0) in
+      let z = both (eqb c 0) (eqb d 0) (x .1) in
+      zeros-part (omega arith) (omega arith)
+      (zeros-then (omega arith) (zeros-then (omega arith) (in-part 0 (omega arith) i (y .0)) (in-part 8 (omega arith) j (y .1)))
+      (zeros-then (omega arith) (in-part 16 (omega arith) k (z .0)) (in-part 24 (omega arith) l (z .1))))
+
+-- ---- what is passed
+
+pub passed-none : {s : List ℕ} {at end : ℕ} → at ≤ end → Passed s at end at
+passed-none h = record { from = omega arith; most = h; zeros = zeros-none _ (omega arith) }
+
+pub passed-sooner : {s : List ℕ} {at edge end p : ℕ} → edge ≤ end → Passed s at edge p → Passed s at end p
+passed-sooner h x = record { from = x .from; most = le-trans (x .most) h; zeros = x .zeros }
+
+pub passed-then : {s : List ℕ} {at end p r : ℕ} → Passed s at end p → Passed s p end r → Passed s at end r
+passed-then x y = record { from = le-trans (x .from) (y .from); most = y .most; zeros = zeros-then (omega arith) (x .zeros) (y .zeros) }
+
+-- k bytes more
+pub passed-more : {s : List ℕ} {at end p : ℕ} (k : ℕ) → p + k ≤ end → Passed s at end p → Zeros s p (p + k) → Passed s at end (p + k)
+passed-more k h x z = record { from = omega (arith, x .from); most = h; zeros = zeros-then (omega arith) (x .zeros) z }
 
 -- the last eight bytes before the end, over some that were passed
 pub last-eight : {s : List ℕ} {at end p : ℕ} → end < p + 8 → 8 ≤ end → Passed s at end p → big 8 s (end - 8) ≡ 0 → Passed s at end end
@@ -147,12 +184,6 @@ pub few-blocks : (last size n m : ℕ) → size ≡ blockOf n → last * size �
 few-blocks last size n m e h = le-trans (le-mul-of-pos-right last (omega (arith, e))) h
 
 -- ---- from a place to another, by the blocks of both
-
-pub passed-none : {s : List ℕ} {at end : ℕ} → at ≤ end → Passed s at end at
-passed-none h = record { from = omega arith; most = h; zeros = zeros-none _ (omega arith) }
-
-pub passed-sooner : {s : List ℕ} {at edge end p : ℕ} → edge ≤ end → Passed s at edge p → Passed s at end p
-passed-sooner h x = record { from = x .from; most = le-trans (x .most) h; zeros = x .zeros }
 
 module _ (s : List ℕ) {size : ℕ} (e : size ≡ blockOf (length s)) where
   -- the block of n begins at n or before, and the one behind it past n

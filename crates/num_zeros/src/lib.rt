@@ -2,9 +2,10 @@
 // zero, so that a stretch that is named again and again is not read again: what a call reads is at most two blocks, and blocks that are not in
 // the table yet.
 ghost use mathlib.Core.Path.{_≡_};
+ghost use mathlib.Core.Bool.{true};
 ghost use Prim.Native.Nat.{_+_, _*_, _≤_};
 ghost use lib.ListN.{length, getD};
-ghost use Rattle.num_zeros.specs.Zeros.{blockOf, Known, Passed, Counted, noted};
+ghost use Rattle.num_zeros.specs.Zeros.{Zeros, blockOf, Known, Passed, Counted, noted};
 
 // How many bytes a block has: a table of 8,192 entries has one for each block.
 fn block(n: usize) -> usize
@@ -13,7 +14,32 @@ fn block(n: usize) -> usize
     n / 65536 * 8 + 8
 }
 
-// By eights, as long as they are zero.
+// Whether 32 bytes are zero. They are a part of their own, so that one look at its length serves all four numbers.
+fn is_blank(s: &[u8], at: usize) -> bool
+    requires { ⌜ at + 32 ≤ length (now s) ⌝ }
+    ensures { λ r. ⌜ (r ≡ true → Zeros (now (s .entry)) at (at + 32)) ⌝ }
+{
+    let end = at + 32;
+    let part = &s[at..end];
+    ((num_words::u64_at(part, 0) == 0) & (num_words::u64_at(part, 8) == 0))
+        & ((num_words::u64_at(part, 16) == 0) & (num_words::u64_at(part, 24) == 0))
+}
+
+// As long as they are zero, by 32 and by 8.
+fn wides(s: &[u8], at: usize, end: usize) -> usize
+    requires { ⌜ (at ≤ end) × (end ≤ length (now s)) ⌝ }
+    ensures { λ r. ⌜ Passed (now (s .entry)) at end r ⌝ }
+{
+    let mut p = at;
+    while 32 <= end - p {
+        if !is_blank(s, p) {
+            return p;
+        }
+        p += 32;
+    }
+    p
+}
+
 fn eights(s: &[u8], at: usize, end: usize) -> usize
     requires { ⌜ (at ≤ end) × (end ≤ length (now s)) ⌝ }
     ensures { λ r. ⌜ Passed (now (s .entry)) at end r ⌝ }
@@ -28,12 +54,12 @@ fn eights(s: &[u8], at: usize, end: usize) -> usize
     p
 }
 
-// The same to the end itself: the last eight bytes are read over some of those before.
+// The same to the end itself: there the last eight bytes are read over some of those before.
 fn stretch(s: &[u8], at: usize, end: usize) -> usize
     requires { ⌜ (at ≤ end) × (end ≤ length (now s)) ⌝ }
     ensures { λ r. ⌜ Passed (now (s .entry)) at end r ⌝ }
 {
-    let p = eights(s, at, end);
+    let p = eights(s, wides(s, at, end), end);
     if 8 <= end - p {
         return p;
     }

@@ -4,7 +4,7 @@ use mathlib.Core.Path.{sym, _∙_}
 use native.Mathlib.Omega.{arith}
 use borrow.Author.Needs.{needs}
 use Rattle.num_zeros.specs.Zeros.{Passed}
-use Rattle.num_zeros.proofs.Laws.{zeros-none, zeros-then, zeros-word}
+use Rattle.num_zeros.proofs.Laws.{zeros-word, passed-none, passed-more}
 use Rattle.num_zeros.proofs.eights.Statement.{statement}
 use Rattle.num_zeros.proofs.eights.Tie as tie
 
@@ -14,22 +14,15 @@ Inv-loop s at end p₀ p = Passed s at end p
 abbrev μ-loop : tie.MeasureT-loop
 μ-loop s at end p₀ p = end - p
 
-loop-holds : tie.Need-loop-holds Inv-loop μ-loop
-loop-holds c = record { from = omega arith; most = omega arith; zeros = zeros-none _ (omega arith) }
-
 loop-again : tie.Need-loop-again Inv-loop μ-loop
 loop-again c =
     let l = c .before .before in
     let i = l .before .loop .inv in
-    record {
-      from = omega (arith, i .from);
-      most = omega (arith, i .most, l .loop-test .taken);
-      zeros = zeros-then (omega arith) (i .zeros) (zeros-word 8 _ _ (sym (c .before .u64-at .ensures) ∙ c .if1 .left));
-    }
+    passed-more 8 (omega (arith, i .most, l .loop-test .taken)) i (zeros-word 8 _ _ (sym (c .before .u64-at .ensures) ∙ c .if1 .left))
 
 pub eights-spec : {M : Type 1} → statement M
 eights-spec =
     tie.close
     (tie.spec
-    Inv-loop μ-loop loop-holds (λ c. omega arith) (λ c κs. search needs) (λ c. search needs) (λ c. omega arith)
+    Inv-loop μ-loop (λ c. passed-none (c .before .pre .0)) (λ c. omega arith) (λ c κs. search needs) (λ c. search needs) (λ c. omega arith)
     (λ c. omega arith) loop-again (λ c. search needs))
