@@ -463,7 +463,7 @@ fn store(folder: &str) {
     let mut left = BTreeMap::new();
     for k in 0..20_000 {
         let (what, file) = made(1, k);
-        if file.len() > 6000 {
+        if file.len() > 2500 {
             continue;
         }
         let key = (what, Which::ALL.map(|w| second(&file, w).err().unwrap_or(0)));
@@ -555,14 +555,14 @@ fn write_formed(folder: &str, files: u64) {
 
 // ---- what a hostile file costs
 
-// Files of n bytes that name zeros as often as they can; `turns` directories of the chain, which is one directory again and again.
+// Files of n bytes that name zeros as often as they can, in one directory that is its own next one.
 fn worst(n: usize, what: &str) -> Vec<u8> {
     let mut m = Made::new(what.ends_with("MM"));
     m.four(8);
     let half = (n / 2 - 16) / 12;
     let entries = match what {
         w if w.starts_with("entries") => ((n - 64) / 12).min(65_535),
-        w if w.starts_with("small") => ((n - 4096) / 12).min(65_535),
+        w if w.starts_with("small") || w.starts_with("edges") => ((n - 4096) / 12).min(65_535),
         _ => half.min(65_535),
     };
     m.two(entries as u16);
@@ -593,6 +593,12 @@ fn worst(n: usize, what: &str) -> Vec<u8> {
                 let edge = (n / block - 4) * block;
                 (edge - block + 1, edge + block - 1)
             }
+            // the same, from shortly before another edge, behind a byte that is not zero
+            w if w.starts_with("edges") => {
+                let block = n / 65_536 * 8 + 8;
+                let edge = (n / block - 4) * block;
+                (edge - block - 6, edge + block - 1)
+            }
             _ => unreachable!(),
         };
         m.entry(330, 4, ((end - start) / 4) as u32, start as u32);
@@ -602,11 +608,15 @@ fn worst(n: usize, what: &str) -> Vec<u8> {
     if what.starts_with("two") {
         m.bytes[from + (n - from) / 2] = 1;
     }
+    if what.starts_with("edges") {
+        let block = n / 65_536 * 8 + 8;
+        m.bytes[(n / block - 5) * block - 7] = 1;
+    }
     m.bytes
 }
 
 fn time(n: usize, only: Option<&String>) {
-    for what in ["entries MM", "entries II", "same MM", "two MM", "places MM", "small MM", "small II"] {
+    for what in ["entries MM", "entries II", "same MM", "two MM", "places MM", "small MM", "edges MM", "edges II"] {
         if only.map_or(false, |o| o != what) {
             continue;
         }

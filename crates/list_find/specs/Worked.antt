@@ -161,13 +161,35 @@ own : (most : Bool) → Own most
 unfolding big little whole valueAt inside isList isSubs listAt ownFrom visit subOf subsFrom subsAt anySubs allSubs directory chain headed foundIn
 own true =
     record {
-      inline = refl; asked2 = refl; asked3 = refl; other = refl; five = refl; past = refl; nothing = refl; first = refl; far = refl;
-      bytes = refl; ascii = refl; decides = refl; unread = refl;
+      inline = refl;
+      asked2 = refl;
+      asked3 = refl;
+      other = refl;
+      five = refl;
+      past = refl;
+      nothing = refl;
+      first = refl;
+      far = refl;
+      bytes = refl;
+      ascii = refl;
+      decides = refl;
+      unread = refl;
     }
 own false =
     record {
-      inline = refl; asked2 = refl; asked3 = refl; other = refl; five = refl; past = refl; nothing = refl; first = refl; far = refl;
-      bytes = refl; ascii = refl; decides = refl; unread = refl;
+      inline = refl;
+      asked2 = refl;
+      asked3 = refl;
+      other = refl;
+      five = refl;
+      past = refl;
+      nothing = refl;
+      first = refl;
+      far = refl;
+      bytes = refl;
+      ascii = refl;
+      decides = refl;
+      unread = refl;
     }
 
 directories : (most : Bool) → Directories most
@@ -181,13 +203,35 @@ subs : (most : Bool) → Subs most
 unfolding big little whole valueAt inside isList isSubs listAt ownFrom visit subOf subsFrom subsAt anySubs allSubs directory chain headed foundIn
 subs true =
     record {
-      one = refl; ifd = refl; short = refl; own-first = refl; outside = refl; before-next = refl; array = refl; both = refl;
-      partly = refl; many = refl; no-chain = refl; no-deeper = refl; cut = refl;
+      one = refl;
+      ifd = refl;
+      short = refl;
+      own-first = refl;
+      outside = refl;
+      before-next = refl;
+      array = refl;
+      both = refl;
+      partly = refl;
+      many = refl;
+      no-chain = refl;
+      no-deeper = refl;
+      cut = refl;
     }
 subs false =
     record {
-      one = refl; ifd = refl; short = refl; own-first = refl; outside = refl; before-next = refl; array = refl; both = refl;
-      partly = refl; many = refl; no-chain = refl; no-deeper = refl; cut = refl;
+      one = refl;
+      ifd = refl;
+      short = refl;
+      own-first = refl;
+      outside = refl;
+      before-next = refl;
+      array = refl;
+      both = refl;
+      partly = refl;
+      many = refl;
+      no-chain = refl;
+      no-deeper = refl;
+      cut = refl;
     }
 
 limit : Limit

@@ -72,8 +72,7 @@ fn word(file: &[u8], most: bool, at: usize) -> usize
     if most {
         num_words::u32_at(file, at) as usize
     } else {
-        num_words::u16_from(file, at) as usize
-            + num_words::u16_from(file, at + 2) as usize * 65536
+        num_words::u16_from(file, at) as usize + num_words::u16_from(file, at + 2) as usize * 65536
     }
 }
 
@@ -297,14 +296,7 @@ fn all_subs(
 // ---- the chain
 
 // A directory's own entries, then its SubIFDs.
-fn directory(
-    file: &[u8],
-    known: &mut [u16],
-    most: bool,
-    tag: usize,
-    at: usize,
-    k: usize,
-) -> Looked
+fn directory(file: &[u8], known: &mut [u16], most: bool, tag: usize, at: usize, k: usize) -> Looked
     requires { ⌜ Known (now file) (now known) ⌝ }
     ensures { λ r. ⌜ r ≡ directory (fileWith most (now (file .entry))) tag at k ⌝ }
     ensures { λ r. ⌜ Known (now (file .entry)) (now (known .exit)) ⌝ }

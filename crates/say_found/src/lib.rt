@@ -41,7 +41,11 @@ fn put_found(out: &mut [u8], at: usize, found: Found) -> usize
     match found {
         Found::At { start, len } => put_place(out, at, start, len),
         Found::NotTiff => num_text::put(out, at, b"30: not a TIFF file\n"),
-        Found::Outside => num_text::put(out, at, b"31: an offset or a size lies outside the file\n"),
+        Found::Outside => num_text::put(
+            out,
+            at,
+            b"31: an offset or a size lies outside the file\n",
+        ),
         Found::TooMany => num_text::put(out, at, b"32: more than 64 directories\n"),
         Found::Missing => num_text::put(out, at, b"33: not in the file\n"),
     }

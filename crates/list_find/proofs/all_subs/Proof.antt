@@ -50,8 +50,7 @@ same-length c = let s = stopped c in s .any-subs .kept .1 .0 ∙ turn s .before 
 returns : tie.Need-returns Inv-loop μ-loop
 returns c =
     let s = stopped c in
-    let l = turn s in
-    (
+    let l = turn s in (
       sym (all-stop _ _ _ _ _ _ (l .loop-test .taken) (s .any-subs .ensures .0) (c .before .found .given .1)) ∙ l .before .loop .inv .2,
       s .any-subs .ensures .1,
     )
@@ -70,8 +69,7 @@ loop-again : tie.Need-loop-again Inv-loop μ-loop
 loop-again c =
     let s = looked c in
     let l = turn s in
-    let i = l .before .loop .inv in
-    (
+    let i = l .before .loop .inv in (
       omega (arith, l .loop-test .taken),
       omega (arith, i .1),
       sym (all-on _ _ _ _ _ _ (l .loop-test .taken) (s .any-subs .ensures .0) (c .before .directories .given .1)) ∙ i .2,

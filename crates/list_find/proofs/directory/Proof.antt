@@ -21,8 +21,7 @@ add-all-subs c =
 all-subs-requires : tie.Need-all-subs-requires
 all-subs-requires c κs =
     let d = went c in
-    let v = d .before .before in
-    (
+    let v = d .before .before in (
       omega (arith, whole-room _ _ (going-whole _ _ _ _ (v .visit .ensures) (d .directories .given .1)), c .half .ensures .0),
       start v .pre,
     )
@@ -38,8 +37,7 @@ returns-2 c =
     let a = c .before .before in
     let h = a .before in
     let d = went h in
-    let v = d .before .before in
-    (
+    let v = d .before .before in (
       dir-on _ _ _ _ (v .visit .ensures) (d .directories .given .1) (h .half .ensures .0) (a .all-subs .ensures .0),
       a .all-subs .ensures .1,
     )

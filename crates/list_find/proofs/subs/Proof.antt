@@ -48,8 +48,7 @@ returns : tie.Need-returns Inv-loop μ-loop
 returns c =
     let s = c .before .before .before in
     let l = turn s in
-    let i = l .before .loop .inv in
-    (
+    let i = l .before .loop .inv in (
       sym (subs-stop _ _ _ _ _ _ (l .loop-test .taken) (s .before .word .ensures .0) (s .sub .ensures) (c .before .found .given .1)) ∙ i .1,
       i .2,
     )
@@ -72,12 +71,11 @@ loop-again c =
     let d = n .before .before .before in
     let s = d .before .before in
     let l = turn s in
-    let i = l .before .loop .inv in
-    (
+    let i = l .before .loop .inv in (
       n .next-sub .ensures .0 .most,
       sym
-      (subs-on _ _ _ _ _ _ (l .loop-test .taken) (s .before .word .ensures .0) (s .sub .ensures) (d .directories .given .1) (n .next-sub .ensures .0))
-      ∙ i .1,
+          (subs-on _ _ _ _ _ _ (l .loop-test .taken) (s .before .word .ensures .0) (s .sub .ensures) (d .directories .given .1) (n .next-sub .ensures .0))
+          ∙ i .1,
       n .next-sub .ensures .1,
       n .next-sub .kept .1 .0 ∙ i .3,
     )

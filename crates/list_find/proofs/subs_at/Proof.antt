@@ -20,8 +20,7 @@ returns c =
     let s = c .before .before in
     let d = s .before .before in
     let b = d .before in
-    let v = b .before in
-    (
+    let v = b .before in (
       subs-inside _ _ _ _ (v .before .word .ensures .0) (v .value-at .ensures) (b .is-inside .ensures) (d .if1 .taken) (s .subs .ensures .0),
       s .subs .ensures .1,
     )
@@ -29,8 +28,7 @@ returns c =
 returns-2 : tie.Need-returns-2
 returns-2 c =
     let b = c .before in
-    let v = b .before in
-    (
+    let v = b .before in (
       subs-outside _ _ _ _ (v .before .word .ensures .0) (v .value-at .ensures) (b .is-inside .ensures) (c .if1 .left),
       start b .pre .1,
     )

@@ -60,8 +60,7 @@ loop-again c =
     let g = c .before .before in
     let d = went g in
     let l = turn d in
-    let i = l .before .loop .inv in
-    (
+    let i = l .before .loop .inv in (
       turn-more _ _ _ _ (d .directory .ensures .0) (g .directories .given .1) .1,
       sym (chain-on _ _ _ _ (d .directory .ensures .0) (l .loop-test .taken) (g .directories .given .1) (c .next .ensures)) ∙ i .1,
       d .directory .ensures .1,
