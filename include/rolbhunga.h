@@ -6,7 +6,7 @@
  * Link with the archive that `rt staticlib rolbhunga` writes (x86-64). size_t has 64 bits.
  *
  * A buffer crosses as its first element and its length in elements. The pointer is not null and is aligned for its type, also where the
- * length is 0. No two buffers of a call overlap, and no other thread touches them until it returns; only the list is never written.
+ * length is 0. No two buffers of a call overlap, and no other thread touches them until it returns; what is `const` is never written.
  *
  * Answers (the field `number`)
  *     0  done
@@ -128,12 +128,12 @@ rolbhunga_row_numbers rolbhunga_bytes_row(const uint8_t *list, size_t list_len, 
 
 /* ---- a list inside a DNG file
  *
- * Answers of rolbhunga_find (the field `number`), in this order
+ * Answers of rolbhunga_find (the field `number`): 1 is tested first, then 30; 31, 32 and 33 come as they are met in reading order
  *     0  found: the list is the `length` bytes of the file from `start` on
  *     1  `which` is not 1, 2 or 3
  *    30  not a TIFF file: not II or MM, 42 and the offset of a first directory
  *    31  an offset or a size lies outside the file: of a directory that is gone to, of the list, or of a directory's SubIFD offsets
- *    32  more than 64 directories, each one gone to counted, also where it is gone to again
+ *    32  more than 64 directories, each one gone to counted, also where it is gone to again; the 65th also where it is not whole
  *    33  no such list, after all directories
  * `start` and `length` are 0 in all but 0. */
 #define ROLBHUNGA_NOT_TIFF 30u

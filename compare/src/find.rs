@@ -415,10 +415,10 @@ fn compare(cases: u64, seed: u64) {
             file[k / 8] ^= 1 << (k % 8);
             try_one(&file, "flip");
         }
-        for len in [1 << 20, 3 << 20] {
-            for k in 0..8 {
-                try_one(&zeros(&mut Rng::new(seed ^ 0x55, k), len), "megabytes");
-            }
+        // one megabyte and three, where a block of the table has hundreds of bytes
+        for k in 0..8 {
+            let (number, len) = (2 * k + u64::from(big), if big { 1 << 20 } else { 3 << 20 });
+            try_one(&zeros(&mut Rng::new(seed ^ 0x55, number), len), "megabytes");
         }
     }
     for k in 0..cases {
@@ -537,7 +537,7 @@ fn formed(r: &mut Rng) -> (Vec<u8>, [Option<Vec<u8>>; 3]) {
     (m.bytes, lists)
 }
 
-// Writes FOLDER/K.dng, and FOLDER/K.1 and so on as `find` takes them out; exiftool's stand beside them later.
+// Writes FOLDER/K.dng, and FOLDER/K.ours1 and so on as `find` takes them out; exiftool's stand beside them later, as K.theirs1.
 fn write_formed(folder: &str, files: u64) {
     for k in 0..files {
         let (file, lists) = formed(&mut Rng::new(105, k));
@@ -599,6 +599,15 @@ fn worst(n: usize, what: &str) -> Vec<u8> {
                 let edge = (n / block - 4) * block;
                 (edge - block - 6, edge + block - 1)
             }
+            // all of the rest from the end of a block on, and a few bytes across that edge, in turn
+            w if w.starts_with("pair") => {
+                let block = n / 65_536 * 8 + 8;
+                let edge = (from / block + 2) * block;
+                match k % 2 {
+                    0 => (edge - 8, n),
+                    _ => (edge - 8, edge + 8),
+                }
+            }
             _ => unreachable!(),
         };
         m.entry(330, 4, ((end - start) / 4) as u32, start as u32);
@@ -616,7 +625,7 @@ fn worst(n: usize, what: &str) -> Vec<u8> {
 }
 
 fn time(n: usize, only: Option<&String>) {
-    for what in ["entries MM", "entries II", "same MM", "two MM", "places MM", "small MM", "edges MM", "edges II"] {
+    for what in ["entries MM", "entries II", "same MM", "two MM", "places MM", "pair MM", "small MM", "edges MM", "edges II"] {
         if only.map_or(false, |o| o != what) {
             continue;
         }

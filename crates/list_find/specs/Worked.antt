@@ -1,5 +1,5 @@
 -- Worked values, which the checker computes: small files, one for each sentence of document 02, M-105, and each reading of it (docs/DECISIONS).
-use Prim.Native.Nat.{ℕ, _+_, _*_, _/_, _%_}
+use Prim.Native.Nat.{ℕ, zero, suc, _+_, _*_, _/_, _%_}
 use mathlib.Core.Path.{_≡_, refl}
 use mathlib.Core.Bool.{Bool, true, false, cond}
 use mathlib.Core.List.{List, [], _∷_, _++_}
@@ -98,7 +98,7 @@ pub record Directories (most : Bool) : Type 0 where
   pub followed : foundIn (head most 8 ++ dir1 most (list1 most 2) 99) List2 ≡ Outside
   -- at an odd offset
   pub odd : foundIn (head most 9 ++ (0 ∷ []) ++ dir1 most (list1 most 2) 0) List1 ≡ At 19 2
-  -- a directory that is its own next one, and a last one that is the 64th
+  -- a directory that is its own next one
   pub loop : foundIn (head most 8 ++ dir0 most 8) List1 ≡ TooMany
 
 pub record Subs (most : Bool) : Type 0 where
@@ -119,6 +119,11 @@ pub record Subs (most : Bool) : Type 0 where
   -- two entries, in order
   pub both :
       foundIn (head most 8 ++ dir2 most (sub most 1 38) (sub most 1 44) 0 ++ dir0 most 0 ++ dir1 most (list1 most 2) 0) List1 ≡ At 54 2
+  -- the first of them is gone to before the second is looked at
+  pub first-found :
+      foundIn (head most 8 ++ dir2 most (sub most 1 38) (sub most 9 99) 0 ++ dir1 most (list1 most 2) 0) List1 ≡ At 48 2
+  pub first-outside :
+      foundIn (head most 8 ++ dir2 most (sub most 9 99) (sub most 1 38) 0 ++ dir1 most (list1 most 2) 0) List1 ≡ Outside
   -- offsets partly outside: at once, before the first SubIFD
   pub partly : foundIn (head most 8 ++ dir1 most (sub most 2 44) 0 ++ dir1 most (list1 most 2) 0 ++ four most 26) List1 ≡ Outside
   -- four times the count does not wrap
@@ -135,7 +140,15 @@ abbrev again : (n last : ℕ) → List ℕ
 again n last =
     head true 8 ++ dir1 true (sub true (n + 1) 32) 0 ++ dir0 true 0 ++ fours true (replicate n 26) ++ four true last
 
+-- n directories of no entries, each the next one of the one before, from `at` on
+abbrev links : (n at : ℕ) → List ℕ
+links zero at = dir0 true 0
+links (suc n) at = dir0 true (at + 6) ++ links n (at + 6)
+
 pub record Limit : Type 0 where
+  -- a chain of 64, and of 65
+  pub chain64 : foundIn (head true 8 ++ links 63 8) List1 ≡ Missing
+  pub chain65 : foundIn (head true 8 ++ links 64 8) List1 ≡ TooMany
   -- every visit counts, also to one directory again: 64 with the first, and none asked for
   pub full : foundIn (again 62 26) List1 ≡ Missing
   -- a 65th, also where it would not be whole; offset 0 does not count
@@ -211,6 +224,8 @@ subs true =
       before-next = refl;
       array = refl;
       both = refl;
+      first-found = refl;
+      first-outside = refl;
       partly = refl;
       many = refl;
       no-chain = refl;
@@ -227,6 +242,8 @@ subs false =
       before-next = refl;
       array = refl;
       both = refl;
+      first-found = refl;
+      first-outside = refl;
       partly = refl;
       many = refl;
       no-chain = refl;
@@ -236,7 +253,7 @@ subs false =
 
 limit : Limit
 unfolding big little whole valueAt inside isList isSubs listAt ownFrom visit subOf subsFrom subsAt anySubs allSubs directory chain headed foundIn
-limit = record { full = refl; over = refl; unseen = refl; zero = refl; last = refl }
+limit = record { chain64 = refl; chain65 = refl; full = refl; over = refl; unseen = refl; zero = refl; last = refl }
 
 numbers : Numbers
 numbers = record { found = refl; tiff = refl; outside = refl; many = refl; missing = refl; part = refl }

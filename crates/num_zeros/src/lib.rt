@@ -1,6 +1,6 @@
 // Stretches of zeros among bytes, passed over in wide steps. The bytes are cut into blocks, and a lent table keeps which of them were found to be
-// zero, so that a stretch that is named again and again is not read again: what a call reads is at most two blocks, and blocks that are not in
-// the table yet.
+// zero, so that a stretch that is named again and again is not read again: where all is zero, a call reads less than two blocks, and those that
+// are not in the table yet; where something is not, the block that has it twice more. An entry of the table never falls.
 ghost use mathlib.Core.Path.{_≡_};
 ghost use mathlib.Core.Bool.{true};
 ghost use Prim.Native.Nat.{_+_, _*_, _≤_};
@@ -155,7 +155,8 @@ pub fn past(s: &[u8], known: &mut [u16], at: usize, end: usize) -> usize
     let size = block(s.len());
     let j = at / size + 1;
     let last = end / size;
-    if last < j {
+    // No whole block lies between: what the table has of block j stays.
+    if last <= j {
         return stretch(s, at, end);
     }
     let edge = j * size;

@@ -2,7 +2,7 @@
 use denote.Ref.{now}
 use Prim.Native.Nat.{ℕ, _*_, _/_, _≤_}
 use native.Mathlib.Omega.{arith}
-use native.Mathlib.Nat.{le-trans, div-le-self}
+use native.Mathlib.Nat.{le-trans, le-of-lt, div-le-self}
 use borrow.Author.Needs.{needs}
 use Rattle.num_zeros.proofs.Laws.{passed-none, block-behind, block-within, passed-sooner, passed-all, passed-on}
 use Rattle.num_zeros.proofs.past.Statement.{statement}
@@ -25,20 +25,20 @@ add-j : tie.Need-add-j
 add-j c = omega (arith, div-le-self (start c .args .at) (c .block .result), start c .pre .0, start c .good .0 .0)
 
 mul-edge : tie.Need-mul-edge
-mul-edge c = let b = c .before in omega (arith, within b _ (c .if2 .left), start b .fits .end)
+mul-edge c = let b = c .before in omega (arith, within b _ (le-of-lt (c .if2 .left)), start b .fits .end)
 
 stretch-requires-2 : tie.Need-stretch-requires-2
 stretch-requires-2 c κs =
     let b = c .before in
     let a = start b in
-    let e = within b _ (c .if2 .left) in
+    let e = within b _ (le-of-lt (c .if2 .left)) in
     (omega (arith, block-behind (now (a .args .s)) (b .block .ensures) (a .args .at)), le-trans e (a .pre .0 .1))
 
 returns-3 : tie.Need-returns-3
 returns-3 c =
     let x = c .before in
     let b = x .before .before in
-    (passed-sooner (within b _ (x .before .if2 .left)) (x .stretch2 .ensures), start b .pre .1)
+    (passed-sooner (within b _ (le-of-lt (x .before .if2 .left))) (x .stretch2 .ensures), start b .pre .1)
 
 kept-blocks-requires : tie.Need-kept-blocks-requires
 kept-blocks-requires c κs =
