@@ -128,12 +128,13 @@ rolbhunga_row_numbers rolbhunga_bytes_row(const uint8_t *list, size_t list_len, 
 
 /* ---- a list inside a DNG file
  *
- * Answers of rolbhunga_find (the field `number`): 1 is tested first, then 30; 31, 32 and 33 come as they are met in reading order
+ * Answers of rolbhunga_find (the field `number`): 1 is tested first, then 30; 31 to 33 as they are met in reading order.
  *     0  found: the list is the `length` bytes of the file from `start` on
  *     1  `which` is not 1, 2 or 3
  *    30  not a TIFF file: not II or MM, 42 and the offset of a first directory
- *    31  an offset or a size lies outside the file: of a directory that is gone to, of the list, or of a directory's SubIFD offsets
- *    32  more than 64 directories, each one gone to counted, also where it is gone to again; the 65th also where it is not whole
+ *    31  an offset or a size lies outside the file: of a directory that is gone to, of the list, or of an entry's SubIFD
+ *        offsets
+ *    32  more than 64 directories: each one gone to counts, also where it is gone to again; the 65th is not looked at
  *    33  no such list, after all directories
  * `start` and `length` are 0 in all but 0. */
 #define ROLBHUNGA_NOT_TIFF 30u
@@ -147,8 +148,9 @@ typedef struct rolbhunga_found {
     size_t length;
 } rolbhunga_found;
 
-/* Finds OpcodeList1, OpcodeList2 or OpcodeList3 (`which`: 1, 2, 3) in a DNG file, in either byte order; the file may be any bytes. The first one
- * is taken, in the order of a directory's own entries, its SubIFDs, the next directory. It may have no bytes. A call takes about 18 KB of stack. */
+/* Finds OpcodeList1, OpcodeList2 or OpcodeList3 (`which`: 1, 2, 3) in a DNG file, in either byte order; the file may be
+ * any bytes. The first one is taken, in the order of a directory's own entries, its SubIFDs, the next directory; it may
+ * have no bytes. A call takes about 17 KB of stack. */
 rolbhunga_found rolbhunga_find(const uint8_t *file, size_t file_len, uint32_t which);
 
 #ifdef __cplusplus

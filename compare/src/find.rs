@@ -43,8 +43,8 @@ impl Walk<'_> {
         if at + size > self.len() { Err(31) } else { Ok(at) }
     }
 
-    // 32 "more than 64 directories"; "a directory not whole in the file, its next offset included, is 31 before any entry counts"; then "its own
-    // entries", of "type 7 or 1".
+    // 32 "more than 64 directories"; "a directory not whole in the file, its next offset included, is 31 before any
+    // entry counts"; then "its own entries", of "type 7 or 1".
     fn own(&mut self, at: u64) -> Seen {
         if self.gone == 64 {
             return Err(32);
@@ -63,7 +63,8 @@ impl Walk<'_> {
         Ok(None)
     }
 
-    // "then its SubIFDs in order", of type "4 or 13"; offset 0 "is passed over in 330"; "a SubIFD's own chain is not followed".
+    // "then its SubIFDs in order", of type "4 or 13"; offset 0 "is passed over in 330"; "a SubIFD's own chain is not
+    // followed".
     fn subs(&mut self, at: u64) -> Seen {
         for i in 0..self.entries(at) {
             let e = at + 2 + 12 * i;
@@ -85,7 +86,8 @@ impl Walk<'_> {
         Ok(None)
     }
 
-    // "Order: a directory's own entries, then its SubIFDs in order, then the next directory"; "offset 0 ends a chain (also the first)".
+    // "Order: a directory's own entries, then its SubIFDs in order, then the next directory"; "offset 0 ends a chain
+    // (also the first)".
     fn chain(&mut self, mut at: u64) -> Result<(u64, u64), u32> {
         while at != 0 {
             if let Some(found) = self.own(at)? {
@@ -216,7 +218,8 @@ fn small(r: &mut Rng) -> Vec<u8> {
                 0 => (r.next() as u16, r.below(14) as u16, r.next() as u32, r.next() as u32),
                 1 | 2 => {
                     let k = kind(r, [4, 13]);
-                    let count = if r.once(12) { r.pick(&[1 << 30, 1 << 31, u32::MAX, 6, 20]) } else { r.below(6) as u32 };
+                    let count = r.below(6) as u32;
+                    let count = if r.once(12) { r.pick(&[1 << 30, 1 << 31, u32::MAX, 6, 20]) } else { count };
                     let good = if count == 1 { places[r.below(n)] as u32 } else { array_at as u32 };
                     let value = if r.once(8) { 0 } else { offset(r, good, 4 * u64::from(count), len) };
                     (330, k, count, value)
@@ -224,13 +227,18 @@ fn small(r: &mut Rng) -> Vec<u8> {
                 _ => {
                     let k = kind(r, [7, 1]);
                     let count = if r.once(3) { r.below(30) as u32 } else { r.below(6) as u32 };
-                    let count = if r.once(20) { r.pick(&[u32::MAX, 1 << 31, len as u32, len as u32 + 1]) } else { count };
+                    let odd = [u32::MAX, 1 << 31, len as u32, len as u32 + 1];
+                    let count = if r.once(20) { r.pick(&odd) } else { count };
                     (r.pick(&LISTS), k, count, offset(r, value_at as u32, u64::from(count), len))
                 }
             });
         }
         let good = places[r.below(n)] as u32;
-        let next = if r.once(2) { 0 } else if d + 1 < n && r.once(2) { places[d + 1] as u32 } else { offset(r, good, 6, len) };
+        let next = match r.below(4) {
+            0 | 1 => 0,
+            2 if d + 1 < n => places[d + 1] as u32,
+            _ => offset(r, good, 6, len),
+        };
         m.directory(&entries, next);
     }
     m.pad(len, r);
@@ -277,7 +285,8 @@ fn many(r: &mut Rng) -> Vec<u8> {
     m.bytes
 }
 
-// Stretches of zeros, and arrays of SubIFDs that name them from many places, again and again; some reach into what is not zero.
+// Stretches of zeros, and arrays of SubIFDs that name them from many places, again and again; some reach into what is
+// not zero.
 fn zeros(r: &mut Rng, len: usize) -> Vec<u8> {
     let mut m = Made::new(r.once(2));
     // where offsets are aligned, those of the leaf are met whole
@@ -504,7 +513,8 @@ fn formed(r: &mut Rng) -> (Vec<u8>, [Option<Vec<u8>>; 3]) {
         _ => (2, 1),
     };
     // where the directories stand, and the values behind them
-    let count = |d: usize| if d == 0 { plain.len() + usize::from(place == 1) } else { 3 } + if d == target { held } else { 0 };
+    let own = |d: usize| if d == 0 { plain.len() + usize::from(place == 1) } else { 3 };
+    let count = |d: usize| own(d) + if d == target { held } else { 0 };
     let second_at = 8 + 6 + 12 * count(0);
     let mut value_at = second_at + if dirs == 2 { 6 + 12 * count(1) } else { 0 };
     m.four(8);
@@ -537,7 +547,8 @@ fn formed(r: &mut Rng) -> (Vec<u8>, [Option<Vec<u8>>; 3]) {
     (m.bytes, lists)
 }
 
-// Writes FOLDER/K.dng, and FOLDER/K.ours1 and so on as `find` takes them out; exiftool's stand beside them later, as K.theirs1.
+// Writes FOLDER/K.dng, and FOLDER/K.ours1 and so on as `find` takes them out; exiftool's, K.theirs1, stand beside them
+// later.
 fn write_formed(folder: &str, files: u64) {
     for k in 0..files {
         let (file, lists) = formed(&mut Rng::new(105, k));
@@ -625,11 +636,12 @@ fn worst(n: usize, what: &str) -> Vec<u8> {
 }
 
 fn time(n: usize, only: Option<&String>) {
-    for what in ["entries MM", "entries II", "same MM", "two MM", "places MM", "pair MM", "small MM", "edges MM", "edges II"] {
-        if only.map_or(false, |o| o != what) {
+    let kinds = ["entries", "same", "two", "places", "pair", "small", "edges"];
+    for what in kinds.into_iter().flat_map(|k| [format!("{k} MM"), format!("{k} II")]) {
+        if only.map_or(false, |o| *o != what) {
             continue;
         }
-        let file = worst(n, what);
+        let file = worst(n, &what);
         assert!(file.len() == n);
         let t = Instant::now();
         let answer = ours(&file, Which::List1);

@@ -15,6 +15,7 @@ pub record Promises : Type 0 where
   pub determined : (s : List ℕ) (which : Which) (a b : Found) → a ≡ foundIn s which → b ≡ foundIn s which → a ≡ b
   -- a list that is found lies inside the file, and `part` hands out all of it
   pub inside : (s : List ℕ) (which : Which) (start len : ℕ) → foundIn s which ≡ At start len → start + len ≤ length s
-  pub handed : (s : List ℕ) (which : Which) (start len : ℕ) → foundIn s which ≡ At start len → length (partOf s start len) ≡ len
+  pub handed :
+      (s : List ℕ) (which : Which) (start len : ℕ) → foundIn s which ≡ At start len → length (partOf s start len) ≡ len
   -- 30 exactly where the header is not TIFF's
   pub tiff : (s : List ℕ) (which : Which) → (foundIn s which ≡ NotTiff) ↔ (headed s ≡ false)

@@ -1,5 +1,6 @@
--- The opcode lists inside a DNG file. Document 02, M-105, on the structure of TIFF 6.0, section 2. Positions count from the file's first byte;
--- a byte past the end counts as 0, and whether a number lies inside the file is asked here.
+-- The opcode lists inside a DNG file. Document 02, M-105, on the structure of TIFF 6.0, section 2. Positions count
+-- from the file's first byte; a byte past the end counts as 0, and whether a number lies inside the file is asked
+-- here.
 use Prim.Native.Nat.{ℕ, zero, suc, _+_, _*_}
 use mathlib.Core.Bool.{Bool, _&&_, _||_, cond}
 use mathlib.Core.List.{List}
@@ -95,12 +96,14 @@ after (Going k) rest = rest k
 unfoldable pub listAt : File → (e : ℕ) → Found
 listAt f e = cond (inside f e (countAt f e)) (At (valueAt f e (countAt f e)) (countAt f e)) Outside
 
--- the first of n entries from e on that is the list decides (here and below a `let` is there so that a computation ends with its answer)
+-- the first of n entries from e on that is the list decides (here and below a `let` is there so that a computation
+-- ends with its answer)
 unfoldable pub ownFrom : File → (tag n e k : ℕ) → Looked
 ownFrom f tag zero e k = Going k
 ownFrom f tag (suc n) e k = let rest = ownFrom f tag n (e + 12) k in cond (isList f tag e) (Done (listAt f e)) rest
 
--- after k directories: going to the one at `at`, which is whole in the file before any entry counts, and over its own entries
+-- after k directories: going to the one at `at`, which is whole in the file before any entry counts, and over its own
+-- entries
 unfoldable pub visit : File → (tag at k : ℕ) → Looked
 visit f tag at k =
     cond (leb 64 k) (Done TooMany)
@@ -133,7 +136,8 @@ allSubs f tag (suc n) e k = after (anySubs f tag e k) (λ (j : ℕ). allSubs f t
 unfoldable pub directory : File → (tag at k : ℕ) → Looked
 directory f tag at k = after (visit f tag at k) (λ (j : ℕ). allSubs f tag (entriesIn f at) (at + 2) j)
 
--- then the next directory; offset 0 ends the chain. Each turn goes to one directory at least, so that 65 turns are never all taken
+-- then the next directory; offset 0 ends the chain. Each turn goes to one directory at least, so that 65 turns are
+-- never all taken
 abbrev pub onward : (ℕ → Found) → Looked → Found
 onward rest (Done a) = a
 onward rest (Going k) = rest k

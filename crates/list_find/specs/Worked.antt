@@ -1,4 +1,5 @@
--- Worked values, which the checker computes: small files, one for each sentence of document 02, M-105, and each reading of it (docs/DECISIONS).
+-- Worked values, which the checker computes: small files, one for each sentence of document 02, M-105, and each
+-- reading of it (docs/DECISIONS).
 use Prim.Native.Nat.{ℕ, zero, suc, _+_, _*_, _/_, _%_}
 use mathlib.Core.Path.{_≡_, refl}
 use mathlib.Core.Bool.{Bool, true, false, cond}
@@ -48,6 +49,10 @@ list1 most n = entry most 51008 7 n 0
 abbrev sub : Bool → (n at : ℕ) → List ℕ
 sub most n at = entry most 330 4 n at
 
+-- what is found in a file whose first directory stands at 8
+abbrev found : Bool → List ℕ → Found
+found most rest = foundIn (head most 8 ++ rest) List1
+
 -- ---- the walk
 
 pub record Header : Type 0 where
@@ -66,74 +71,75 @@ pub record Header : Type 0 where
 
 -- in a big-endian and in a little-endian file
 pub record Own (most : Bool) : Type 0 where
-  pub inline : foundIn (head most 8 ++ dir1 most (list1 most 4) 0) List1 ≡ At 18 4
+  pub inline : found most (dir1 most (list1 most 4) 0) ≡ At 18 4
   pub asked2 : foundIn (head most 8 ++ dir1 most (entry most 51009 7 4 0) 0) List2 ≡ At 18 4
   pub asked3 : foundIn (head most 8 ++ dir1 most (entry most 51022 7 4 0) 0) List3 ≡ At 18 4
   -- another list than the one asked for
   pub other : foundIn (head most 8 ++ dir1 most (list1 most 4) 0) List2 ≡ Missing
   -- five bytes stand elsewhere: up to the file's end, and one past it
-  pub five : foundIn (head most 8 ++ dir1 most (entry most 51008 7 5 26) 0 ++ (1 ∷ 2 ∷ 3 ∷ 4 ∷ 5 ∷ [])) List1 ≡ At 26 5
-  pub past : foundIn (head most 8 ++ dir1 most (entry most 51008 7 5 26) 0 ++ (1 ∷ 2 ∷ 3 ∷ 4 ∷ [])) List1 ≡ Outside
+  pub five : found most (dir1 most (entry most 51008 7 5 26) 0 ++ (1 ∷ 2 ∷ 3 ∷ 4 ∷ 5 ∷ [])) ≡ At 26 5
+  pub past : found most (dir1 most (entry most 51008 7 5 26) 0 ++ (1 ∷ 2 ∷ 3 ∷ 4 ∷ [])) ≡ Outside
   -- a count of 0: found, no bytes, where the value would stand
-  pub nothing : foundIn (head most 8 ++ dir1 most (list1 most 0) 0) List1 ≡ At 18 0
+  pub nothing : found most (dir1 most (list1 most 0) 0) ≡ At 18 0
   -- a list may stand at offset 0
-  pub first : foundIn (head most 8 ++ dir1 most (entry most 51008 7 5 0) 0) List1 ≡ At 0 5
+  pub first : found most (dir1 most (entry most 51008 7 5 0) 0) ≡ At 0 5
   -- offset and size are added without wrapping
-  pub far : foundIn (head most 8 ++ dir1 most (entry most 51008 7 4294967295 4294967295) 0) List1 ≡ Outside
+  pub far : found most (dir1 most (entry most 51008 7 4294967295 4294967295) 0) ≡ Outside
   -- types 7 and 1; another is passed over
-  pub bytes : foundIn (head most 8 ++ dir1 most (entry most 51008 1 4 0) 0) List1 ≡ At 18 4
-  pub ascii : foundIn (head most 8 ++ dir2 most (entry most 51008 2 4 0) (list1 most 3) 0) List1 ≡ At 30 3
+  pub bytes : found most (dir1 most (entry most 51008 1 4 0) 0) ≡ At 18 4
+  pub ascii : found most (dir2 most (entry most 51008 2 4 0) (list1 most 3) 0) ≡ At 30 3
   -- the first one of a right type decides, also where it lies outside
-  pub decides : foundIn (head most 8 ++ dir2 most (entry most 51008 7 5 99) (list1 most 3) 0) List1 ≡ Outside
+  pub decides : found most (dir2 most (entry most 51008 7 5 99) (list1 most 3) 0) ≡ Outside
   -- an entry of another tag is not looked into
-  pub unread : foundIn (head most 8 ++ dir2 most (entry most 273 4 9 4294967295) (list1 most 3) 0) List1 ≡ At 30 3
+  pub unread : found most (dir2 most (entry most 273 4 9 4294967295) (list1 most 3) 0) ≡ At 30 3
 
 pub record Directories (most : Bool) : Type 0 where
   -- a directory not whole in the file: its next offset cut, and a first offset at the file's end
-  pub cut : foundIn (head most 8 ++ two most 1 ++ list1 most 4 ++ (0 ∷ 0 ∷ 0 ∷ [])) List1 ≡ Outside
+  pub cut : found most (two most 1 ++ list1 most 4 ++ (0 ∷ 0 ∷ 0 ∷ [])) ≡ Outside
   pub after : foundIn (head most 8) List1 ≡ Outside
   -- the next directory; a next offset outside is refused only where it is followed
-  pub chained : foundIn (head most 8 ++ dir0 most 14 ++ dir1 most (list1 most 2) 0) List1 ≡ At 24 2
-  pub unfollowed : foundIn (head most 8 ++ dir1 most (list1 most 2) 99) List1 ≡ At 18 2
+  pub chained : found most (dir0 most 14 ++ dir1 most (list1 most 2) 0) ≡ At 24 2
+  pub unfollowed : found most (dir1 most (list1 most 2) 99) ≡ At 18 2
   pub followed : foundIn (head most 8 ++ dir1 most (list1 most 2) 99) List2 ≡ Outside
   -- at an odd offset
   pub odd : foundIn (head most 9 ++ (0 ∷ []) ++ dir1 most (list1 most 2) 0) List1 ≡ At 19 2
   -- a directory that is its own next one
-  pub loop : foundIn (head most 8 ++ dir0 most 8) List1 ≡ TooMany
+  pub loop : found most (dir0 most 8) ≡ TooMany
 
 pub record Subs (most : Bool) : Type 0 where
-  pub one : foundIn (head most 8 ++ dir1 most (sub most 1 26) 0 ++ dir1 most (list1 most 2) 0) List1 ≡ At 36 2
+  pub one : found most (dir1 most (sub most 1 26) 0 ++ dir1 most (list1 most 2) 0) ≡ At 36 2
   -- type 13 as well as 4, and no other
-  pub ifd : foundIn (head most 8 ++ dir1 most (entry most 330 13 1 26) 0 ++ dir1 most (list1 most 2) 0) List1 ≡ At 36 2
-  pub short : foundIn (head most 8 ++ dir1 most (entry most 330 3 1 26) 0 ++ dir1 most (list1 most 2) 0) List1 ≡ Missing
+  pub ifd : found most (dir1 most (entry most 330 13 1 26) 0 ++ dir1 most (list1 most 2) 0) ≡ At 36 2
+  pub short : found most (dir1 most (entry most 330 3 1 26) 0 ++ dir1 most (list1 most 2) 0) ≡ Missing
   -- own entries come first, whatever stands before them
-  pub own-first : foundIn (head most 8 ++ dir2 most (sub most 1 38) (list1 most 3) 0 ++ dir1 most (list1 most 2) 0) List1 ≡ At 30 3
-  pub outside : foundIn (head most 8 ++ dir2 most (sub most 9 99) (list1 most 3) 0) List1 ≡ At 30 3
+  pub own-first : found most (dir2 most (sub most 1 38) (list1 most 3) 0 ++ dir1 most (list1 most 2) 0) ≡ At 30 3
+  pub outside : found most (dir2 most (sub most 9 99) (list1 most 3) 0) ≡ At 30 3
   -- then the SubIFDs, before the next directory: list 1 of two bytes in the SubIFD, of three in the next
   pub before-next :
-      foundIn (head most 8 ++ dir1 most (sub most 1 44) 26 ++ dir1 most (list1 most 3) 0 ++ dir1 most (list1 most 2) 0) List1 ≡ At 54 2
+      found most (dir1 most (sub most 1 44) 26 ++ dir1 most (list1 most 3) 0 ++ dir1 most (list1 most 2) 0) ≡ At 54 2
   -- several, in order, from where they stand; offset 0 is passed over
   pub array :
-      foundIn (head most 8 ++ dir1 most (sub most 3 26) 0 ++ fours most (0 ∷ 38 ∷ 44 ∷ []) ++ dir0 most 0 ++ dir1 most (list1 most 2) 0) List1
+      found most
+      (dir1 most (sub most 3 26) 0 ++ fours most (0 ∷ 38 ∷ 44 ∷ []) ++ dir0 most 0 ++ dir1 most (list1 most 2) 0)
       ≡ At 54 2
   -- two entries, in order
   pub both :
-      foundIn (head most 8 ++ dir2 most (sub most 1 38) (sub most 1 44) 0 ++ dir0 most 0 ++ dir1 most (list1 most 2) 0) List1 ≡ At 54 2
+      found most (dir2 most (sub most 1 38) (sub most 1 44) 0 ++ dir0 most 0 ++ dir1 most (list1 most 2) 0) ≡ At 54 2
   -- the first of them is gone to before the second is looked at
   pub first-found :
-      foundIn (head most 8 ++ dir2 most (sub most 1 38) (sub most 9 99) 0 ++ dir1 most (list1 most 2) 0) List1 ≡ At 48 2
+      found most (dir2 most (sub most 1 38) (sub most 9 99) 0 ++ dir1 most (list1 most 2) 0) ≡ At 48 2
   pub first-outside :
-      foundIn (head most 8 ++ dir2 most (sub most 9 99) (sub most 1 38) 0 ++ dir1 most (list1 most 2) 0) List1 ≡ Outside
+      found most (dir2 most (sub most 9 99) (sub most 1 38) 0 ++ dir1 most (list1 most 2) 0) ≡ Outside
   -- offsets partly outside: at once, before the first SubIFD
-  pub partly : foundIn (head most 8 ++ dir1 most (sub most 2 44) 0 ++ dir1 most (list1 most 2) 0 ++ four most 26) List1 ≡ Outside
+  pub partly : found most (dir1 most (sub most 2 44) 0 ++ dir1 most (list1 most 2) 0 ++ four most 26) ≡ Outside
   -- four times the count does not wrap
-  pub many : foundIn (head most 8 ++ dir1 most (sub most 1073741824 0) 0) List1 ≡ Outside
+  pub many : found most (dir1 most (sub most 1073741824 0) 0) ≡ Outside
   -- neither a SubIFD's chain nor its own SubIFDs are followed, and its next offset may lie anywhere
-  pub no-chain : foundIn (head most 8 ++ dir1 most (sub most 1 26) 0 ++ dir0 most 32 ++ dir1 most (list1 most 2) 0) List1 ≡ Missing
+  pub no-chain : found most (dir1 most (sub most 1 26) 0 ++ dir0 most 32 ++ dir1 most (list1 most 2) 0) ≡ Missing
   pub no-deeper :
-      foundIn (head most 8 ++ dir1 most (sub most 1 26) 0 ++ dir1 most (sub most 1 44) 99 ++ dir1 most (list1 most 2) 0) List1 ≡ Missing
+      found most (dir1 most (sub most 1 26) 0 ++ dir1 most (sub most 1 44) 99 ++ dir1 most (list1 most 2) 0) ≡ Missing
   -- a SubIFD that is not whole
-  pub cut : foundIn (head most 8 ++ dir1 most (sub most 1 26) 0) List1 ≡ Outside
+  pub cut : found most (dir1 most (sub most 1 26) 0) ≡ Outside
 
 -- a first directory at 8 whose n SubIFDs are the one at 26 again and again, and one more at an offset of its own
 abbrev again : (n last : ℕ) → List ℕ

@@ -1,4 +1,5 @@
-// The opcode lists inside a DNG file: a walk over its TIFF directories. `most` says that the first byte of a number weighs most.
+// The opcode lists inside a DNG file: a walk over its TIFF directories. `most` says that the first byte of a number
+// weighs most.
 ghost use mathlib.Core.Path.{_≡_};
 ghost use mathlib.Core.Bool.{true};
 ghost use Prim.Native.Nat.{_+_, _*_, _≤_, _<_};
@@ -38,6 +39,14 @@ pub enum Which {
     List3,
 }
 
+impl Which {
+    pub const TAG1: usize = 51008;
+
+    pub const TAG2: usize = 51009;
+
+    pub const TAG3: usize = 51022;
+}
+
 // Where it stands in the file, or why it was not found.
 pub enum Found {
     At { start: usize, len: usize },
@@ -51,6 +60,20 @@ pub enum Found {
 pub enum Looked {
     Done { found: Found },
     Going { directories: usize },
+}
+
+impl Looked {
+    pub const MAX_DIRECTORIES: usize = 64;
+    // The tag of SubIFDs, and the types that count: UNDEFINED and BYTE of a list, LONG and IFD of SubIFDs.
+    pub const SUB_IFDS: usize = 330;
+
+    pub const UNDEFINED: usize = 7;
+
+    pub const BYTE: usize = 1;
+
+    pub const LONG: usize = 4;
+
+    pub const IFD: usize = 13;
 }
 
 // ---- numbers
@@ -104,7 +127,7 @@ fn is_list(file: &[u8], most: bool, tag: usize, e: usize) -> bool
     ensures { λ r. ⌜ r ≡ isList (fileWith most (now (file .entry))) tag e ⌝ }
 {
     let kind = half(file, most, e + 2);
-    (half(file, most, e) == tag) & ((kind == 7) | (kind == 1))
+    (half(file, most, e) == tag) & ((kind == Looked::UNDEFINED) | (kind == Looked::BYTE))
 }
 
 fn is_subs(file: &[u8], most: bool, e: usize) -> bool
@@ -112,7 +135,7 @@ fn is_subs(file: &[u8], most: bool, e: usize) -> bool
     ensures { λ r. ⌜ r ≡ isSubs (fileWith most (now (file .entry))) e ⌝ }
 {
     let kind = half(file, most, e + 2);
-    (half(file, most, e) == 330) & ((kind == 4) | (kind == 13))
+    (half(file, most, e) == Looked::SUB_IFDS) & ((kind == Looked::LONG) | (kind == Looked::IFD))
 }
 
 // The list that an entry holds, as a part of the file.
@@ -159,7 +182,7 @@ fn is_whole(file: &[u8], most: bool, at: usize) -> bool
 fn visit(file: &[u8], most: bool, tag: usize, at: usize, k: usize) -> Looked
     ensures { λ r. ⌜ r ≡ visit (fileWith most (now (file .entry))) tag at k ⌝ }
 {
-    if 64 <= k {
+    if Looked::MAX_DIRECTORIES <= k {
         return Looked::Done {
             found: Found::TooMany,
         };
@@ -172,8 +195,8 @@ fn visit(file: &[u8], most: bool, tag: usize, at: usize, k: usize) -> Looked
     own(file, most, tag, half(file, most, at), at + 2, k + 1)
 }
 
-// ---- SubIFDs. Offsets 0 are passed over and count to no limit, so that a file can name stretches of zeros again and again: `known` keeps
-// which were found to be zero.
+// ---- SubIFDs. Offsets 0 are passed over and count to no limit, so that a file can name stretches of zeros again and
+// again: `known` keeps which were found to be zero.
 
 // One offset of a SubIFD.
 fn sub(file: &[u8], most: bool, tag: usize, at: usize, k: usize) -> Looked
@@ -362,9 +385,9 @@ fn tag_of(which: Which) -> usize
     ensures { λ r. ⌜ r ≡ tagOf which ⌝ }
 {
     match which {
-        Which::List1 => 51008,
-        Which::List2 => 51009,
-        Which::List3 => 51022,
+        Which::List1 => Which::TAG1,
+        Which::List2 => Which::TAG2,
+        Which::List3 => Which::TAG3,
     }
 }
 

@@ -1,5 +1,6 @@
-// lists_in FILE [WHICH OUT]: where the opcode lists of the DNG file FILE lie, a line for each; with WHICH, 1 to 3, that list is written to OUT, and
-// its line is printed. OUT is written under another name first, so that it is never half written; on a refusal nothing is written.
+// lists_in FILE [WHICH OUT]: where the opcode lists of the DNG file FILE lie, a line for each; with WHICH, 1 to 3,
+// that list is written to OUT, and its line is printed. OUT is written under another name first, so that it is never
+// half written; on a refusal nothing is written.
 use libc::STDOUT_FILENO;
 use list_find::Found;
 use list_find::Which;
@@ -182,7 +183,8 @@ fn run_in(list: usize, file: &mut [u8; 7340032]) {
     run(list, file);
 }
 
-// The room for the file is here: seven of the eight megabytes of a default stack, so that a file has at most 7,340,031 bytes.
+// The room for the file is here: seven of the eight megabytes of a default stack, so that a file has at most 7,340,031
+// bytes.
 fn main() {
     let list = wanted();
     if 3 < list {

@@ -1,6 +1,7 @@
-// Stretches of zeros among bytes, passed over in wide steps. The bytes are cut into blocks, and a lent table keeps which of them were found to be
-// zero, so that a stretch that is named again and again is not read again: where all is zero, a call reads less than two blocks, and those that
-// are not in the table yet; where something is not, the block that has it twice more. An entry of the table never falls.
+// Stretches of zeros among bytes, passed over in wide steps. The bytes are cut into blocks, and a lent table keeps
+// which of them were found to be zero, so that a stretch that is named again and again is not read again: where all is
+// zero, a call reads less than two blocks, and those that are not in the table yet; where something is not, the block
+// that has it twice more. An entry of the table never falls.
 ghost use mathlib.Core.Path.{_≡_};
 ghost use mathlib.Core.Bool.{true};
 ghost use Prim.Native.Nat.{_+_, _*_, _≤_};
@@ -142,7 +143,8 @@ fn kept_blocks(s: &[u8], known: &mut [u16], size: usize, j: usize, last: usize) 
     k
 }
 
-// From `at` on up to `end`: where zeros cease, or sooner. Inside the block of `at` and inside that of `end` bytes are read, between them blocks.
+// From `at` on up to `end`: where zeros cease, or sooner. Inside the block of `at` and inside that of `end` bytes are
+// read, between them blocks.
 pub fn past(s: &[u8], known: &mut [u16], at: usize, end: usize) -> usize
     requires { ⌜ (at ≤ end) × (end ≤ length (now s)) ⌝ }
     requires { ⌜ Known (now s) (now known) ⌝ }

@@ -1,4 +1,5 @@
--- What is said of a list in a DNG file: its name, the number of document 02, M-105, and where it lies, or the refusal in words.
+-- What is said of a list in a DNG file: its name, the number of document 02, M-105, and where it lies, or the refusal
+-- in words.
 use Prim.Native.Nat.{ℕ, _+_, _≤_}
 use mathlib.Core.Path.{_≡_}
 use mathlib.Core.List.{List, _++_}
@@ -43,8 +44,8 @@ pub record Within (k : ℕ) (b : List ℕ) (at : ℕ) (p : List ℕ) (r : ℕ) (
   pub appended : Appended b at p r o
   pub short : r ≤ at + k
 
--- p stands at the start of the buffer, which was b and is o, and ends at r; the last two say that it lies in the buffer, as one asks who takes
--- that part of it
+-- p stands at the start of the buffer, which was b and is o, and ends at r; the last two say that it lies in the
+-- buffer, as one asks who takes that part of it
 pub record Said (p b : List ℕ) (r : ℕ) (o : List ℕ) : Type 0 where
   pub said : Appended b 0 p r o
   pub fits : r ≤ length o

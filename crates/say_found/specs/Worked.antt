@@ -12,7 +12,9 @@ pub record Worked : Type 0 where
   pub outside : lineOf List2 Outside ≡ text "OpcodeList2: 31: an offset or a size lies outside the file\n"
   pub many : lineOf List3 TooMany ≡ text "OpcodeList3: 32: more than 64 directories\n"
   pub missing : lineOf List3 Missing ≡ text "OpcodeList3: 33: not in the file\n"
-  pub empty : linesOf [] ≡ text "OpcodeList1: 30: not a TIFF file\nOpcodeList2: 30: not a TIFF file\nOpcodeList3: 30: not a TIFF file\n"
+  pub empty :
+      linesOf []
+      ≡ text "OpcodeList1: 30: not a TIFF file\nOpcodeList2: 30: not a TIFF file\nOpcodeList3: 30: not a TIFF file\n"
 
 pub worked : Worked
 unfolding count placeText lineOf linesOf decimal digitsIn headed foundIn

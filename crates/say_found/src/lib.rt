@@ -19,7 +19,9 @@ fn put_name(out: &mut [u8], at: usize, which: Which) -> usize
 // A label and a number.
 fn put_count(out: &mut [u8], at: usize, label: &[u8], n: usize) -> usize
     requires { ⌜ at + length (now label) + 20 ≤ length (now out) ⌝ }
-    ensures { λ r. ⌜ Within (length (now (label .entry)) + 20) (now (out .entry)) at (count (now (label .entry)) n) r (now (out .exit)) ⌝ }
+    ensures { λ r.
+        ⌜ Within (length (now (label .entry)) + 20) (now (out .entry)) at (count (now (label .entry)) n)
+        r (now (out .exit)) ⌝ }
 {
     let a = num_text::put(&mut *out, at, label);
     num_text::put_number(&mut *out, a, n as u64)

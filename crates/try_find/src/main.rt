@@ -1,5 +1,5 @@
-// The lists of the files that stand in its input, three lines for each. A file stands behind its length, a big-endian u32. compare/find wrote both
-// the input and the lines that are expected, by a second reading of document 02.
+// The lists of the files that stand in its input, three lines for each. A file stands behind its length, a big-endian
+// u32. compare/find wrote both the input and the lines that are expected, by a second reading of document 02.
 use libc::STDIN_FILENO;
 use libc::STDOUT_FILENO;
 

@@ -34,7 +34,8 @@ returns-2 c =
     let a = d .before .before .before .args in
     let f = fileOf (now (a .file)) in
     found-walk _ _ (d .before .is-headed .ensures) (not-false _ (d .if1 .left))
-    (w .walk .ensures ∙ ap (λ (t : ℕ). chain f t 65 (n .word .result) 0) (g .tag-of .ensures) ∙ ap (λ (at : ℕ). chain f (tagOf (a .which)) 65 at 0) (n .word .ensures .0))
+    (w .walk .ensures ∙ ap (λ (t : ℕ). chain f t 65 (n .word .result) 0) (g .tag-of .ensures)
+    ∙ ap (λ (at : ℕ). chain f (tagOf (a .which)) 65 at 0) (n .word .ensures .0))
 
 pub find-spec : {M : Type 1} → statement M
 find-spec =

@@ -50,8 +50,11 @@ returns-4 : tie.Need-returns-4
 returns-4 c =
     let k = c .before .before .before in
     let x = read k in
-    let b = x .before .before in
-    (passed-all _ (b .block .ensures) (x .stretch2 .ensures) (k .before .before .if3 .left) (k .kept-blocks .ensures) (start b .pre .0 .0) (c .if4 .taken), k .kept-blocks .ensures .known)
+    let b = x .before .before in (
+      passed-all _ (b .block .ensures) (x .stretch2 .ensures) (k .before .before .if3 .left) (k .kept-blocks .ensures)
+          (start b .pre .0 .0) (c .if4 .taken),
+      k .kept-blocks .ensures .known,
+    )
 
 mul-stretch : tie.Need-mul-stretch
 mul-stretch c = let b = read (c .before .before .before) .before .before in omega (arith, within b _ (c .if4 .left), start b .fits .end)
@@ -63,8 +66,11 @@ returns-5 : tie.Need-returns-5
 returns-5 c =
     let k = c .before .before .before .before in
     let x = read k in
-    let b = x .before .before in
-    (passed-on _ (b .block .ensures) (x .stretch2 .ensures) (k .before .before .if3 .left) (k .kept-blocks .ensures) (c .stretch3 .ensures), k .kept-blocks .ensures .known)
+    let b = x .before .before in (
+      passed-on _ (b .block .ensures) (x .stretch2 .ensures) (k .before .before .if3 .left) (k .kept-blocks .ensures)
+          (c .stretch3 .ensures),
+      k .kept-blocks .ensures .known,
+    )
 
 pub past-spec : {M : Type 1} → statement M
 past-spec =

@@ -9,7 +9,10 @@ use Rattle.num_zeros.proofs.stretch.Statement.{statement}
 use Rattle.num_zeros.proofs.stretch.Tie as tie
 
 -- by 32 and by 8
-read : (c : tie.After-eights) → Passed (now (c .before .before .before .args .s)) (c .before .before .before .args .at) (c .before .before .before .args .end) (c .eights .result)
+abbrev start : tie.After-eights → tie.Start
+start c = c .before .before .before
+
+read : (c : tie.After-eights) → Passed (now (start c .args .s)) (start c .args .at) (start c .args .end) (c .eights .result)
 read c = passed-then (c .before .wides .ensures) (c .eights .ensures)
 
 eights-requires : tie.Need-eights-requires
