@@ -6,7 +6,7 @@
  * Link with the archive that `rt staticlib rolbhunga` writes (x86-64). size_t has 64 bits.
  *
  * A buffer crosses as its first element and its length in elements. The pointer is not null and is aligned for its type, also where the
- * length is 0. No two buffers of a call overlap, and no other thread touches them until it returns; only the list is never written.
+ * length is 0. No two buffers of a call overlap, and no other thread touches them until it returns; what is `const` is never written.
  *
  * Answers (the field `number`)
  *     0  done
@@ -124,6 +124,33 @@ rolbhunga_numbers rolbhunga_bytes_u16(const uint8_t *list, size_t list_len, uint
 
 rolbhunga_row_numbers rolbhunga_bytes_row(const uint8_t *list, size_t list_len, uint8_t *bytes, size_t bytes_len,
                                           rolbhunga_row_window window, size_t y, float scale, float *work, size_t work_len);
+
+/* ---- a list inside a DNG file
+ *
+ * Answers of rolbhunga_find (the field `number`): 1 is tested first, then 30; 31 to 33 as they are met in reading order.
+ *     0  found: the list is the `length` bytes of the file from `start` on
+ *     1  `which` is not 1, 2 or 3
+ *    30  not a TIFF file: not II or MM, 42 and the offset of a first directory
+ *    31  an offset or a size lies outside the file: of a directory that is gone to, of the list, or of an entry's SubIFD
+ *        offsets
+ *    32  more than 64 directories: each one gone to counts, also where it is gone to again; the 65th is not looked at
+ *    33  no such list, after all directories
+ * `start` and `length` are 0 in all but 0. */
+#define ROLBHUNGA_NOT_TIFF 30u
+#define ROLBHUNGA_OUTSIDE 31u
+#define ROLBHUNGA_DIRECTORIES 32u
+#define ROLBHUNGA_MISSING 33u
+
+typedef struct rolbhunga_found {
+    uint32_t number;
+    size_t start;
+    size_t length;
+} rolbhunga_found;
+
+/* Finds OpcodeList1, OpcodeList2 or OpcodeList3 (`which`: 1, 2, 3) in a DNG file, in either byte order; the file may be
+ * any bytes. The first one is taken, in the order of a directory's own entries, its SubIFDs, the next directory; it may
+ * have no bytes. A call takes about 17 KB of stack. */
+rolbhunga_found rolbhunga_find(const uint8_t *file, size_t file_len, uint32_t which);
 
 #ifdef __cplusplus
 }

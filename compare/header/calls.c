@@ -16,6 +16,9 @@ static void is(const char *what, unsigned long long got, unsigned long long want
 static const uint8_t repair[] = {0, 0, 0, 2, 0, 0, 0, 4, 1, 3, 0, 0, 0, 0, 0, 0, 0, 0, 0, 8, 0, 0, 0, 0, 0, 0, 0, 0,
                                  0, 0, 0, 2, 1, 3, 0, 0, 0, 0, 0, 0, 0, 0, 0, 0};
 
+/* MM, 42, a directory at 8 with OpcodeList2, type 7, two bytes in the entry */
+static const uint8_t dng[] = {77, 77, 0, 42, 0, 0, 0, 8, 0, 1, 199, 65, 0, 7, 0, 0, 0, 2, 5, 6, 0, 0, 0, 0, 0, 0};
+
 int main(void) {
     uint8_t list[sizeof repair];
     rolbhunga_window w = {3, 1, 1, 3, 0, 0, 3, 1};
@@ -27,6 +30,7 @@ int main(void) {
     uint8_t names[2] = {0xee, 0xee}, b[12], b16[7] = {10, 0, 0, 0, 19, 0, 0xcc};
     rolbhunga_numbers n;
     rolbhunga_row_numbers r;
+    rolbhunga_found g;
     memcpy(list, repair, sizeof repair);
 
     n = rolbhunga_read(list, sizeof list);
@@ -70,5 +74,14 @@ int main(void) {
     is("bytes u16", n.number, ROLBHUNGA_DONE);
     is("bytes u16 mean", b16[2], 15);
     is("bytes left over", b16[6], 0xcc);
+
+    g = rolbhunga_find(dng, sizeof dng, 2);
+    is("find", g.number, ROLBHUNGA_DONE);
+    is("find start", g.start, 18);
+    is("find length", g.length, 2);
+    is("find another", rolbhunga_find(dng, sizeof dng, 1).number, ROLBHUNGA_MISSING);
+    is("find, cut", rolbhunga_find(dng, sizeof dng - 1, 2).number, ROLBHUNGA_OUTSIDE);
+    is("find, no header", rolbhunga_find(dng, 7, 3).number, ROLBHUNGA_NOT_TIFF);
+    is("find what", rolbhunga_find(dng, sizeof dng, 4).number, ROLBHUNGA_RANGE);
     return failed;
 }

@@ -54,8 +54,18 @@ pub struct RowNumbers {
     pub skipped: usize,
 }
 
+#[repr(C)]
+#[derive(Clone, Copy, Debug, PartialEq, Eq)]
+pub struct FindNumbers {
+    pub number: u32,
+    pub start: usize,
+    pub length: usize,
+}
+
 extern "C" {
     pub fn rolbhunga_read(list: *const u8, list_len: usize) -> Numbers;
+
+    pub fn rolbhunga_find(file: *const u8, file_len: usize, which: u32) -> FindNumbers;
 
     pub fn rolbhunga_run_f32(
         list: *const u8,

@@ -19,6 +19,9 @@
 //! assert_eq!(samples, [10.0, 14.5, 19.0]);
 //! ```
 pub mod ffi;
+mod find;
+
+pub use find::{find, FindError, Which};
 
 /// The number of the answer [`Answer::Work`].
 pub const WORK: u32 = 100;

@@ -1,0 +1,4 @@
+pub mod Walk
+pub mod Skips
+pub mod Worked
+pub mod Promises
