@@ -1,4 +1,5 @@
-// One kind of work on one side, for counting or for time: the same list, window and samples for both. See compare/bench.
+// One kind of work on one side, for counting or for time: the same list, window and samples for both. See
+// compare/bench.
 use dng_opcodes::{apply, apply_u16, parse, Opcode, PlaneImage, RowOps};
 use rolbhunga::{Frame, Reading, Room};
 use std::time::Instant;
@@ -27,8 +28,8 @@ const FORMS: [&str; 3] = ["", "-3", "-p2"];
 // What a list of `many` opcodes is made of, each over the same small window; `read` is the scale list, only read.
 const MANY: [&str; 5] = ["scale-row", "gain", "vignette", "constant", "read"];
 
-// Marks side by side, listed as rectangles of a window of 2048 by 1536: a column, a row, 125 of 2 by 2, 31 of 4 by 4, one of 32 by 32 and one
-// of 100 by 100, in which only the marks near the edge can be repaired.
+// Marks side by side, listed as rectangles of a window of 2048 by 1536: a column, a row, 125 of 2 by 2, 31 of 4 by 4,
+// one of 32 by 32 and one of 100 by 100, in which only the marks near the edge can be repaired.
 const BESIDE: [&str; 6] = ["column", "row", "2-by-2", "4-by-4", "32-by-32", "100-by-100"];
 
 extern "C" {
@@ -209,10 +210,11 @@ impl Work {
     }
 }
 
-// n points of a window of 2048 by 1536: by chance; or half of them in order, and then each of √n others as often as leaves so many in all, so
-// that the scratch, which has room for the distinct ones alone, is nearly full while they come; or ("full") three eighths of them in order, and
-// then an eighth as many others, out of order, again and again: the last quarter of the scratch fills while they come. Those of the last two lie
-// apart, so that what is counted is how they are gathered.
+// n points of a window of 2048 by 1536: by chance; or half of them in order, and then each of √n others as often as
+// leaves so many in all, so that the scratch, which has room for the distinct ones alone, is nearly full while they
+// come; or ("full") three eighths of them in order, and then an eighth as many others, out of order, again and again:
+// the last quarter of the scratch fills while they come. Those of the last two lie apart, so that what is counted is
+// how they are gathered.
 fn points(kind: &str, n: u32) -> Vec<u32> {
     if kind == "points" {
         let mut seed = 12_345u32;
@@ -302,8 +304,9 @@ fn beside(kind: &str, whole: bool, planes: usize, ours: bool) {
     assert!(done);
 }
 
-// One list of rectangles, with exactly the room that it needs: three quarters of a window in order, and then n times the same other one, which
-// stands behind the marks that are in order while the room is nearly full ("rows"); or n times one column of a window of four ("columns").
+// One list of rectangles, with exactly the room that it needs: three quarters of a window in order, and then n times
+// the same other one, which stands behind the marks that are in order while the room is nearly full ("rows"); or n
+// times one column of a window of four ("columns").
 fn overlapping(kind: &str, n: u32) {
     let columns = kind == "columns";
     let (w, h) = if columns { (4, 65_536) } else { (2048, 512) };

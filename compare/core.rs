@@ -1,5 +1,6 @@
-// What dng_opcodes.rs needs of the crate flashraw_core besides its file bytes.rs: an error type, a Result, and the functions of par.rs
-// as they are without threads (the file itself asks for a newer edition). compare/tools puts the path of bytes.rs in front of this: `#[path = ..] pub mod bytes;`.
+// What dng_opcodes.rs needs of the crate flashraw_core besides its file bytes.rs: an error type, a Result, and the
+// functions of par.rs as they are without threads (the file itself asks for a newer edition). compare/tools puts the
+// path of bytes.rs in front of this: `#[path = ..] pub mod bytes;`.
 pub use bytes::ByteOrder;
 
 #[derive(Debug)]

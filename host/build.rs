@@ -1,5 +1,5 @@
-// Links the archive that `rt staticlib rolbhunga` writes. ROLBHUNGA_LIB names the folder that holds librolbhunga.a, where it is not the
-// repository's own target/staticlib.
+// Links the archive that `rt staticlib rolbhunga` writes. ROLBHUNGA_LIB names the folder that holds librolbhunga.a,
+// where it is not the repository's own target/staticlib.
 use std::env;
 use std::path::Path;
 

@@ -1,25 +1,27 @@
 /* DNG opcode lists, run on image samples.
  *
- * Every function answers for every argument: a number out of its range, a malformed list or a buffer that is too short is an answer, and
- * nothing is touched that the answer does not name. What each does is proved of its code.
+ * Every function answers for every argument: a number out of its range, a malformed list or a buffer that is too short
+ * is an answer, and nothing is touched that the answer does not name. What each does is proved of its code.
  *
  * Link with the archive that `rt staticlib rolbhunga` writes (x86-64). size_t has 64 bits.
  *
- * A buffer crosses as its first element and its length in elements. The pointer is not null and is aligned for its type, also where the
- * length is 0. No two buffers of a call overlap, and no other thread touches them until it returns; what is `const` is never written.
+ * A buffer crosses as its first element and its length in elements. The pointer is not null and is aligned for its
+ * type, also where the length is 0. No two buffers of a call overlap, and no other thread touches them until it
+ * returns; what is `const` is never written.
  *
  * Answers (the field `number`)
  *     0  done
- *     1  a number is out of its range: width, height, stride and period at most 65,536; planes 1 to 8; x0, y0, full_width and
+ *     1  a number is out of its range: width, height, stride and period at most 65,536; planes 1 to 8; x0, y0,
+ *     full_width and
  *        full_height at most 16,777,216; of a row: its number at most 16,842,751, and at most width * planes samples
  *     2  the list is malformed; `entry` entries were read whole before that
  *     3  the form does not take this list
  *     4  the skip buffer `names` is shorter than the skipped opcodes
  *     5  the repair `opcode` marks more positions than `marks` has entries; nothing of it is written
  *        (6 is withdrawn: it is never given, and no other answer has its number)
- *   100  `work` has fewer entries than the bytes have whole samples (the functions over bytes alone; tested before all others)
- * They are tested in this order, 5 opcode by opcode. On 1 to 4 and on 100 the samples are as they were; on 5 they are as
- * after the opcodes before. Numbers that are not named here are 0.
+ *   100  `work` has fewer entries than the bytes have whole samples (the functions over bytes alone; tested before all
+ *   others) They are tested in this order, 5 opcode by opcode. On 1 to 4 and on 100 the samples are as they were; on 5
+ *   they are as after the opcodes before. Numbers that are not named here are 0.
  */
 #ifndef ROLBHUNGA_H
 #define ROLBHUNGA_H
@@ -43,9 +45,9 @@ extern "C" {
 /* A list has at most so many opcodes, so that a skip buffer of so many bytes is never too short. */
 #define ROLBHUNGA_MAX_OPCODES 4096u
 
-/* The window that a run changes: width by height pixels of `planes` samples each, rows `stride` pixels apart, its corner at (x0, y0) of an
- * image of full_width by full_height. Sample (x, y, plane) stands at (y * stride + x) * planes + plane. There may be fewer samples than
- * the window needs. */
+/* The window that a run changes: width by height pixels of `planes` samples each, rows `stride` pixels apart, its
+ * corner at (x0, y0) of an image of full_width by full_height. Sample (x, y, plane) stands at (y * stride + x) * planes
+ * + plane. There may be fewer samples than the window needs. */
 typedef struct rolbhunga_window {
     size_t width;
     size_t height;
@@ -67,14 +69,15 @@ typedef struct rolbhunga_row_window {
 } rolbhunga_row_window;
 
 /* period: the distance of the neighbours that a repair takes the mean of, 2 for a Bayer image; 0 counts as 1.
- * scale: what a sample is multiplied by to reach the list's 16-bit values, 1 for stored values, 65535 for values from 0 to 1. */
+ * scale: what a sample is multiplied by to reach the list's 16-bit values, 1 for stored values, 65535 for values from 0
+ * to 1. */
 typedef struct rolbhunga_settings {
     size_t period;
     float scale;
 } rolbhunga_settings;
 
-/* names: how many bytes of the skip buffer were written. repaired, left: the marked positions of all repairs that got a new value, and
- * those that had no sound neighbour. */
+/* names: how many bytes of the skip buffer were written. repaired, left: the marked positions of all repairs that got a
+ * new value, and those that had no sound neighbour. */
 typedef struct rolbhunga_numbers {
     uint32_t number;
     size_t entry;
@@ -97,23 +100,27 @@ rolbhunga_numbers rolbhunga_read(const uint8_t *list, size_t list_len);
 /* Runs a list on f32 samples.
  * marks: the scratch for a repair, which is 4 bytes a marked position and nothing else, as long as the list's largest
  * repair needs; width * height entries are always enough. It holds only zeros at every return.
- * names: on 0 it starts with one byte for each skipped opcode in list order, its id, 0 for one that is not known; it is otherwise as it was.
+ * names: on 0 it starts with one byte for each skipped opcode in list order, its id, 0 for one that is not known; it is
+ * otherwise as it was.
  * The run skips WarpRectilinear, WarpFisheye, TrimBounds, unknown opcodes, and a MapTable with no entries. */
 rolbhunga_numbers rolbhunga_run_f32(const uint8_t *list, size_t list_len, float *samples, size_t samples_len, rolbhunga_window window,
                                     rolbhunga_settings settings, uint32_t *marks, size_t marks_len, uint8_t *names,
                                     size_t names_len);
 
-/* The same on u16 samples, for lists of MapTable, opcodes that are not applied, and at most one repair. An empty MapTable has no name here. */
+/* The same on u16 samples, for lists of MapTable, opcodes that are not applied, and at most one repair. An empty
+ * MapTable has no name here. */
 rolbhunga_numbers rolbhunga_run_u16(const uint8_t *list, size_t list_len, uint16_t *samples, size_t samples_len, rolbhunga_window window,
                                     size_t period, uint32_t *marks, size_t marks_len, uint8_t *names, size_t names_len);
 
-/* Runs a list on one row, the row y of the image, as the f32 run would; for lists with no repair and no empty MapTable. Answers 0 to 3. */
+/* Runs a list on one row, the row y of the image, as the f32 run would; for lists with no repair and no empty MapTable.
+ * Answers 0 to 3. */
 rolbhunga_row_numbers rolbhunga_run_row(const uint8_t *list, size_t list_len, float *row, size_t row_len, rolbhunga_row_window window,
                                         size_t y, float scale);
 
-/* The same three on samples that stand in bytes, little-endian. `work` is typed room, an entry for each whole sample; it holds only zeros at
- * every return. Bytes left over after the last whole sample stay. On 1 to 4 and on 100 the bytes are as they were; otherwise every f32
- * sample is written back, and a NaN is then the pattern 7fc00000 hex, whatever it was before. */
+/* The same three on samples that stand in bytes, little-endian. `work` is typed room, an entry for each whole sample;
+ * it holds only zeros at every return. Bytes left over after the last whole sample stay. On 1 to 4 and on 100 the bytes
+ * are as they were; otherwise every f32 sample is written back, and a NaN is then the pattern 7fc00000 hex, whatever it
+ * was before. */
 rolbhunga_numbers rolbhunga_bytes_f32(const uint8_t *list, size_t list_len, uint8_t *bytes, size_t bytes_len, rolbhunga_window window,
                                       rolbhunga_settings settings, float *work, size_t work_len, uint32_t *marks, size_t marks_len,
                                       uint8_t *names, size_t names_len);
@@ -127,11 +134,13 @@ rolbhunga_row_numbers rolbhunga_bytes_row(const uint8_t *list, size_t list_len, 
 
 /* ---- a list inside a DNG file
  *
- * Answers of rolbhunga_find (the field `number`): 1 is tested first, then 30; 31 to 33 as they are met in reading order.
+ * Answers of rolbhunga_find (the field `number`): 1 is tested first, then 30; 31 to 33 as they are met in reading
+ * order.
  *     0  found: the list is the `length` bytes of the file from `start` on
  *     1  `which` is not 1, 2 or 3
  *    30  not a TIFF file: not II or MM, 42 and the offset of a first directory
- *    31  an offset or a size lies outside the file: of a directory that is gone to, of the list, or of an entry's SubIFD
+ *    31  an offset or a size lies outside the file: of a directory that is gone to, of the list, or of an entry's
+ *    SubIFD
  *        offsets
  *    32  more than 64 directories: each one gone to counts, also where it is gone to again; the 65th is not looked at
  *    33  no such list, after all directories

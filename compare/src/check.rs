@@ -1,5 +1,6 @@
-// One case through every exported function, held to what the oracle wants of it: answers, samples, names, and all that is not to be
-// touched. The typed forms go through the host's wrappers, the byte forms through the C functions, so that every number is seen.
+// One case through every exported function, held to what the oracle wants of it: answers, samples, names, and all that
+// is not to be touched. The typed forms go through the host's wrappers, the byte forms through the C functions, so that
+// every number is seen.
 use crate::cases::{Case, Lengths};
 use crate::doc01;
 use crate::oracle::{self, same, Oracle, Read, Want};

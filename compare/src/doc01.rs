@@ -1,5 +1,5 @@
-// Document 01 read a second time, apart from the Rust and from the definitions: the ranges, and what a repair marks, repairs and
-// leaves. The Rust has neither limits nor totals.
+// Document 01 read a second time, apart from the Rust and from the definitions: the ranges, and what a repair marks,
+// repairs and leaves. The Rust has neither limits nor totals.
 use dng_opcodes::Opcode;
 use rolbhunga::Frame;
 

@@ -1,5 +1,5 @@
-// The fixed list of cases that a program replays where there is no Rust: FOLDER/stdin has the cases, FOLDER/stdout what the Rust makes
-// of them. compare/README.md has the format.
+// The fixed list of cases that a program replays where there is no Rust: FOLDER/stdin has the cases, FOLDER/stdout what
+// the Rust makes of them. compare/README.md has the format.
 use crate::cases::{Case, Lengths};
 use crate::check::{float_bytes, float_result, whole_bytes};
 use crate::made;

@@ -66,8 +66,8 @@ fn many(n: usize, id: u32, body: &[u8]) -> Vec<u8> {
     list_of(&e)
 }
 
-// Listed points and rectangles that overlap, in windows about 16 times as tall as wide: taller ones are gathered by columns. The numbers come
-// from a fixed sequence, near the window and somewhat outside.
+// Listed points and rectangles that overlap, in windows about 16 times as tall as wide: taller ones are gathered by
+// columns. The numbers come from a fixed sequence, near the window and somewhat outside.
 fn narrow() -> Vec<(&'static str, Case)> {
     let mut r = Rng::new(16, 0);
     let mut v = Vec::new();

@@ -256,7 +256,8 @@ pub fn any_id(r: &mut Rng) -> u32 {
     }
 }
 
-// `kind` leans the list to a form: 0 any opcode, 1 what the whole-number form takes, 2 what the row form takes, 3 many repairs.
+// `kind` leans the list to a form: 0 any opcode, 1 what the whole-number form takes, 2 what the row form takes, 3 many
+// repairs.
 pub fn list(r: &mut Rng, a: &Around, kind: usize) -> Vec<u8> {
     let n = match r.below(16) {
         0 => 0,
@@ -367,8 +368,8 @@ pub fn damage(r: &mut Rng, l: &mut Vec<u8>) {
     }
 }
 
-// Polynomials that show what chance hides: zeros alone, of either sign, show the sign of each sum; a line that is 0 at one of the common
-// samples shows a step that is not rounded.
+// Polynomials that show what chance hides: zeros alone, of either sign, show the sign of each sum; a line that is 0 at
+// one of the common samples shows a step that is not rounded.
 pub fn sharpen(r: &mut Rng, l: &mut [u8]) {
     for at in starts(l) {
         let (id, body) = (u32::from_be_bytes([l[at], l[at + 1], l[at + 2], l[at + 3]]), at + 16);

@@ -1,6 +1,6 @@
 // What the Rust module makes of a case, asked opcode by opcode, and the answers that document 01 gives to it.
-// Allowed to differ, and nothing wider: an empty MapTable is named by the f32 run and refused by the row form (DIFFERENCES 1), and
-// what the Rust has no word for: the limits of document 01 and the lengths of the lent buffers.
+// Allowed to differ, and nothing wider: an empty MapTable is named by the f32 run and refused by the row form
+// (DIFFERENCES 1), and what the Rust has no word for: the limits of document 01 and the lengths of the lent buffers.
 use crate::cases::{Case, Lengths};
 use crate::doc01::{self, Need};
 use dng_opcodes::{apply, apply_u16, parse, u16_exact, Opcode, PlaneImage, RowOps};

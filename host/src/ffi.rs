@@ -2,8 +2,9 @@
 //!
 //! # Safety
 //!
-//! Every pointer is not null and aligned, and is valid for as many elements as the length behind it says, through the whole call; what a `*mut`
-//! lends overlaps nothing else that is lent. Nothing more is asked: the elements and the numbers may have any values.
+//! Every pointer is not null and aligned, and is valid for as many elements as the length behind it says, through the
+//! whole call; what a `*mut` lends overlaps nothing else that is lent. Nothing more is asked: the elements and the
+//! numbers may have any values.
 
 #[repr(C)]
 #[derive(Clone, Copy)]

@@ -1,8 +1,8 @@
 //! DNG opcode lists, run on image samples.
 //!
-//! Every call is safe for every argument: a number that is out of its range, a malformed list or a buffer that is too small is an
-//! [`Answer`]; no run panics. The work is done by a library whose functions are proved to meet their contracts; this crate only lends
-//! it slices and reads its answers.
+//! Every call is safe for every argument: a number that is out of its range, a malformed list or a buffer that is too
+//! small is an [`Answer`]; no run panics. The work is done by a library whose functions are proved to meet their
+//! contracts; this crate only lends it slices and reads its answers.
 //!
 //! ```
 //! use rolbhunga::{Answer, Frame, Scratch};
@@ -181,8 +181,8 @@ impl Scratch {
     }
 }
 
-/// The window of an image that a run changes, and how it does so. Made by [`Frame::new`] for a whole, tightly packed image; the
-/// other numbers are set one by one.
+/// The window of an image that a run changes, and how it does so. Made by [`Frame::new`] for a whole, tightly packed
+/// image; the other numbers are set one by one.
 ///
 /// ```
 /// use rolbhunga::Frame;
@@ -248,7 +248,8 @@ impl Frame {
         self
     }
 
-    /// What a sample is multiplied by to reach the list's 16-bit values: 1 for stored values, 65535 for values from 0 to 1.
+    /// What a sample is multiplied by to reach the list's 16-bit values: 1 for stored values, 65535 for values from 0
+    /// to 1.
     pub fn scale(mut self, scale: f32) -> Frame {
         self.scale = scale;
         self
@@ -330,8 +331,8 @@ impl Frame {
         })
     }
 
-    /// Runs a list on f32 samples that stand in bytes, little-endian. `work` has an entry for each whole sample and holds only zeros
-    /// afterwards; bytes left over stay. After a run a NaN is the pattern 7fc00000 hex.
+    /// Runs a list on f32 samples that stand in bytes, little-endian. `work` has an entry for each whole sample and
+    /// holds only zeros afterwards; bytes left over stay. After a run a NaN is the pattern 7fc00000 hex.
     pub fn bytes_f32(&self, list: &[u8], bytes: &mut [u8], work: &mut [f32], room: &mut Room<'_>) -> Answer {
         // As for `run_f32`.
         Answer::of(unsafe {

@@ -96,8 +96,8 @@ fn refusals() {
     assert_eq!((a, a.number()), (Answer::NotTaken, 3));
 }
 
-// One mark is enough for every plane of a position; a run that goes on past one repair can meet 5 at the next, and keeps
-// what the first wrote.
+// One mark is enough for every plane of a position; a run that goes on past one repair can meet 5 at the next, and
+// keeps what the first wrote.
 #[test]
 fn one_mark() {
     let mut s = [10.0, 20.0, 0.0, 0.0, 19.0, 29.0];

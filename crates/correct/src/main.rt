@@ -1,5 +1,5 @@
-// correct [--period N] [--f32 WIDTH HEIGHT] LIST FRAME OUT: runs the opcode list LIST on FRAME and writes the result to OUT. FRAME is a binary
-// greymap (PGM, P5) or, where a size is given, raw little-endian f32, which are run at scale 1.
+// correct [--period N] [--f32 WIDTH HEIGHT] LIST FRAME OUT: runs the opcode list LIST on FRAME and writes the result to
+// OUT. FRAME is a binary greymap (PGM, P5) or, where a size is given, raw little-endian f32, which are run at scale 1.
 // The window is the whole frame, at 0, 0. OUT is written under another name first, so that it is never half written.
 use dng::Answer;
 use dng::Settings;
@@ -22,7 +22,8 @@ fn front(s: &[u8], n: usize) -> &[u8] {
 
 // ---- the arguments
 
-// The period, the size of a raw f32 frame if one is given, and which argument LIST is: 0 where the arguments are not in order.
+// The period, the size of a raw f32 frame if one is given, and which argument LIST is: 0 where the arguments are not in
+// order.
 struct Options {
     period: usize,
     raw: bool,

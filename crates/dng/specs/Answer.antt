@@ -1,4 +1,5 @@
--- What comes back: the ranges, the order of the refusals, and what each answer leaves. Document 01, 'Taken and left' and 'What comes back'.
+-- What comes back: the ranges, the order of the refusals, and what each answer leaves. Document 01, 'Taken and left'
+-- and 'What comes back'.
 use Prim.Native.Nat.{ℕ, _*_}
 use mathlib.Core.Bool.{Bool, true, false, _&&_, cond}
 use mathlib.Core.List.{List, _++_}
@@ -37,7 +38,8 @@ rowInRange w y n =
     && (leb (w .x0) 16777216 && (leb (w .«full_width») 16777216 && (leb (w .«full_height») 16777216
     && (leb y 16842751 && leb n (w .width * w .planes)))))))
 
--- ---- the paper's number and values for each answer (6, of document 01, is withdrawn by M-104 and given to nothing); entry and opcode numbers, names and totals are 0 where they are not named
+-- ---- the paper's number and values for each answer (6, of document 01, is withdrawn by M-104 and given to nothing);
+-- entry and opcode numbers, names and totals are 0 where they are not named
 
 abbrev pub numbersOf : Answer → Numbers
 numbersOf (Ans.Done n r l) = record { number = 0; entry = 0; opcode = 0; names = n; repaired = r; left = l }
@@ -108,12 +110,14 @@ f32Out w set room list s names =
 abbrev pub u16Out : Window → (period : ℕ) → Room → List ℕ → List ℕ → List ℕ → Out ℕ
 u16Out w period room list s names = runOut u16Kind takes16 skipped16 w period room list s names
 
--- What a run promises of its result r and of what it leaves: the answer, the samples and the names are those of o, and the scratch holds zeros alone.
-pub record Ran {A : Type 0} (o : Out A) (room : Room) (r : Answer) (samples : List A) (names marks : List ℕ) : Type 0 where
-  pub answered : r ≡ o .answer
-  pub left : samples ≡ o .samples
-  pub named : names ≡ o .names
-  pub marksClear : marks ≡ replicate (room .marks) 0
+-- What a run promises of its result r and of what it leaves: the answer, the samples and the names are those of o, and
+-- the scratch holds zeros alone.
+pub record Ran {A : Type 0} (o : Out A) (room : Room) (r : Answer) (samples : List A) (names marks : List ℕ) : Type 0
+  where
+    pub answered : r ≡ o .answer
+    pub left : samples ≡ o .samples
+    pub named : names ≡ o .names
+    pub marksClear : marks ≡ replicate (room .marks) 0
 
 -- ---- a row: 1, 2, 3 in order, the row unchanged on each
 
@@ -127,13 +131,17 @@ rowFrameOf w scale = record { scale = scale; fullWidth = w .«full_width»; full
 abbrev pub rowRead : RowWindow → Float → (y : ℕ) → List ℕ → List Float → Reading → RowOut
 rowRead w scale y list row (R.Whole n) =
     cond (takesRows (itemsOf list))
-    (record { answer = Row.Done (length (namesOf skipped (itemsOf list))); row = rowOn (rowFrameOf w scale) (w .x0) (w .planes) y list (itemsOf list) row })
+    (record {
+      answer = Row.Done (length (namesOf skipped (itemsOf list)));
+      row = rowOn (rowFrameOf w scale) (w .x0) (w .planes) y list (itemsOf list) row;
+    })
     (record { answer = Row.NotTaken; row = row })
 rowRead w scale y list row (R.Malformed k) = record { answer = Row.Malformed k; row = row }
 
 unfoldable pub rowOut : RowWindow → Float → (y : ℕ) → List ℕ → List Float → RowOut
 rowOut w scale y list row =
-    cond (rowInRange w y (length row)) (rowRead w scale y list row (readingOf list)) (record { answer = Row.Range; row = row })
+    cond (rowInRange w y (length row)) (rowRead w scale y list row (readingOf list))
+    (record { answer = Row.Range; row = row })
 
 -- ---- the verdict: a frame is whole when a run answers 0 and skips nothing
 

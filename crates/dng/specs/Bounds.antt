@@ -1,4 +1,5 @@
--- What the rooms inside may rely on: what reading has checked of an opcode, and what a run has checked of a row. No caller is asked for either.
+-- What the rooms inside may rely on: what reading has checked of an opcode, and what a run has checked of a row. No
+-- caller is asked for either.
 use Prim.Native.Nat.{ℕ, _+_, _*_, _≤_, _<_, max}
 use mathlib.Core.Bool.{Bool, true, _&&_}
 use lib.Dec.{leb}
@@ -22,7 +23,8 @@ bounded (ScalePerRow r n) = leb n 16777216
 bounded (ScalePerColumn r n) = leb n 16777216
 bounded (Other i) = true
 
--- a row of n samples, p to a pixel, whose first pixel is the image column x0 of the image row y: inside the limits of document 01, 'Taken and left'
+-- a row of n samples, p to a pixel, whose first pixel is the image column x0 of the image row y: inside the limits of
+-- document 01, 'Taken and left'
 pub record RowFits (x0 p y n : ℕ) : Type 0 where
   pub some : 1 ≤ p
   pub few : p ≤ 8

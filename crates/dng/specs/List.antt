@@ -1,5 +1,6 @@
 -- The layout of an opcode list. DNG Specification, chapter on opcode lists; document 01, 'The list'.
--- Big-endian throughout. Positions count from the list's first byte. Bytes left over in a body or after the list are ignored, and so is the version.
+-- Big-endian throughout. Positions count from the list's first byte. Bytes left over in a body or after the list are
+-- ignored, and so is the version.
 use Prim.Native.Nat.{ℕ, zero, suc, _+_, _*_, max}
 use mathlib.Core.Bool.{Bool, false, _&&_, cond}
 use mathlib.Core.List.{List, [], _∷_}
@@ -36,7 +37,13 @@ f64At s at = ofBits binary64 (big 8 s at)
 
 abbrev pub headerAt : List ℕ → ℕ → Entry
 headerAt s at =
-    record { id = u32At s at; version = u32At s (at + 4); flags = u32At s (at + 8); at = at + 16; len = u32At s (at + 12) }
+    record {
+      id = u32At s at;
+      version = u32At s (at + 4);
+      flags = u32At s (at + 8);
+      at = at + 16;
+      len = u32At s (at + 12);
+    }
 
 unfoldable pub nextAt : List ℕ → Cursor → Next
 nextAt s c =
@@ -53,17 +60,39 @@ bodyOf s e = take (e .len) (drop (e .at) s)
 -- eight u32
 abbrev pub regionAt : List ℕ → ℕ → Region
 regionAt s at =
-    record { top = u32At s at; left = u32At s (at + 4); bottom = u32At s (at + 8); right = u32At s (at + 12); plane = u32At s (at + 16); planes = u32At s (at + 20); «row_pitch» = u32At s (at + 24); «col_pitch» = u32At s (at + 28) }
+    record {
+      top = u32At s at;
+      left = u32At s (at + 4);
+      bottom = u32At s (at + 8);
+      right = u32At s (at + 12);
+      plane = u32At s (at + 16);
+      planes = u32At s (at + 20);
+      «row_pitch» = u32At s (at + 24);
+      «col_pitch» = u32At s (at + 28);
+    }
 
 -- spacing v, h and origin v, h
 abbrev pub gridAt : List ℕ → ℕ → Grid
 gridAt s at =
-    record { «spacing_v» = f64At s at; «spacing_h» = f64At s (at + 8); «origin_v» = f64At s (at + 16); «origin_h» = f64At s (at + 24) }
+    record {
+      «spacing_v» = f64At s at;
+      «spacing_h» = f64At s (at + 8);
+      «origin_v» = f64At s (at + 16);
+      «origin_h» = f64At s (at + 24);
+    }
 
 -- k0..k4, cx, cy
 abbrev pub radialAt : List ℕ → ℕ → Radial
 radialAt s at =
-    record { k0 = f64At s at; k1 = f64At s (at + 8); k2 = f64At s (at + 16); k3 = f64At s (at + 24); k4 = f64At s (at + 32); cx = f64At s (at + 40); cy = f64At s (at + 48) }
+    record {
+      k0 = f64At s at;
+      k1 = f64At s (at + 8);
+      k2 = f64At s (at + 16);
+      k3 = f64At s (at + 24);
+      k4 = f64At s (at + 32);
+      cx = f64At s (at + 40);
+      cy = f64At s (at + 48);
+    }
 
 -- the opcode where its counts hold, a malformed body where not
 abbrev pub given : Bool → Opcode → Parsed
@@ -117,7 +146,8 @@ parsedAt s id at len =
     (cond (eqb id 3) (given (leb 56 len) (FixVignetteRadial (radialAt s at)))
     (cond (eqb id 4) (given (leb 8 len) (FixBadPixelsConstant (u32At s at) (u32At s (at + 4))))
     (cond (eqb id 5) (badListAt s at len)
-    (cond (eqb id 6) (given (leb 16 len) (TrimBounds (u32At s at) (u32At s (at + 4)) (u32At s (at + 8)) (u32At s (at + 12))))
+    (cond (eqb id 6) (given (leb 16 len) (TrimBounds (u32At s at) (u32At s (at + 4)) (u32At s (at + 8))
+    (u32At s (at + 12))))
     (cond (eqb id 7) (countedAt 2 MapTable s at len)
     (cond (eqb id 8) (polynomialAt s at len)
     (cond (eqb id 9) (gainAt s at len)
@@ -150,7 +180,8 @@ abbrev pub readOn : (Cursor → List Item) → Step → List Item
 readOn rest (S.Item e op next) = record { entry = e; op = op } ∷ rest next
 readOn rest S.Malformed = []
 
--- the entries that are read whole, one after another from a cursor on: n of them, or as many as stand before the first malformed one
+-- the entries that are read whole, one after another from a cursor on: n of them, or as many as stand before the first
+-- malformed one
 unfoldable pub readFrom : List ℕ → ℕ → Cursor → List Item
 readFrom s zero c = []
 readFrom s (suc n) c = readOn (λ (next : Cursor). readFrom s n next) (stepAt s c)
@@ -163,6 +194,8 @@ counted s = leb 4 (length s) && leb (u32At s 0) 4096
 unfoldable pub itemsOf : List ℕ → List Item
 itemsOf s = cond (counted s) (readFrom s (u32At s 0) (record { at = 4 })) []
 
--- A list is whole where its count can be read and kept and every entry is read whole. If not, it is malformed after those that were.
+-- A list is whole where its count can be read and kept and every entry is read whole. If not, it is malformed after
+-- those that were.
 unfoldable pub readingOf : List ℕ → Reading
-readingOf s = cond (counted s && eqb (length (itemsOf s)) (u32At s 0)) (R.Whole (u32At s 0)) (R.Malformed (length (itemsOf s)))
+readingOf s = cond (counted s && eqb (length (itemsOf s)) (u32At s 0)) (R.Whole (u32At s 0))
+    (R.Malformed (length (itemsOf s)))

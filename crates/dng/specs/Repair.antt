@@ -1,4 +1,5 @@
--- The repairs, FixBadPixelsConstant and FixBadPixelsList, over any sample kind A. Document 01, 'What each does to a value', Repair.
+-- The repairs, FixBadPixelsConstant and FixBadPixelsList, over any sample kind A. Document 01, 'What each does to a
+-- value', Repair.
 -- A repair is defined from the samples at its start, all at once. A position q of the window is y·width + x.
 use Prim.Native.Nat.{ℕ, zero, suc, _+_, _-_, _*_, _/_, _%_, max}
 use mathlib.Core.Bool.{Bool, true, false, not, _&&_, _||_, cond}
@@ -32,7 +33,8 @@ countBelow (suc n) f = cond (f n) 1 0 + countBelow n f
 abbrev pub positions : Window → ℕ
 positions w = w .width * w .height
 
--- too few samples for the whole window, or height 0: nothing, and no marks. The last row needs its width, not its stride
+-- too few samples for the whole window, or height 0: nothing, and no marks. The last row needs its width, not its
+-- stride
 unfoldable pub complete : Window → ℕ → Bool
 complete w n = active w && (leb 1 (w .height) && leb (((w .height - 1) * w .stride + w .width) * w .planes) n)
 
@@ -59,7 +61,8 @@ module _ {A : Type 0} where
   unfoldable pub badValue : A → Window → (A → Bool) → List A → ℕ → Bool
   badValue d w test s q = test (sampleAt d w s (q % w .width) (q / w .width) 0)
 
-  -- the positions that an opcode marks, from the values at its start; `test c` is how the sample kind compares with the constant c
+  -- the positions that an opcode marks, from the values at its start; `test c` is how the sample kind compares with the
+  -- constant c
   abbrev pub marksOn : A → Window → (ℕ → A → Bool) → Opcode → List ℕ → List A → ℕ → Bool
   marksOn d w test (WarpRectilinear n cx cy) b s q = false
   marksOn d w test WarpFisheye b s q = false
@@ -104,15 +107,18 @@ pub record Tally : Type 0 where
   pub sum : Float
   pub n : ℕ
 
-unfoldable pub tallyOn : (width height period : ℕ) → (ℕ → Bool) → (ℕ → ℕ → Float) → (x y : ℕ) → List (ℤ × ℤ) → Tally → Tally
+unfoldable pub tallyOn : (width height period : ℕ) → (ℕ → Bool) → (ℕ → ℕ → Float) → (x y : ℕ) → List (ℤ × ℤ) → Tally
+    → Tally
 tallyOn width height period bad value x y [] t = t
 tallyOn width height period bad value x y (d ∷ ds) t =
     tallyOn width height period bad value x y ds
-    (sound width height period bad x y d (λ xx yy. record { sum = add binary32 (t .sum) (value xx yy); n = t .n + 1 }) t)
+    (sound width height period bad x y d (λ xx yy. record { sum = add binary32 (t .sum) (value xx yy); n = t .n + 1 })
+    t)
 
 -- f32 sum from 0
 abbrev pub tallyAt : (width height period : ℕ) → (ℕ → Bool) → (ℕ → ℕ → Float) → (x y : ℕ) → Tally
-tallyAt width height period bad value x y = tallyOn width height period bad value x y steps (record { sum = nought; n = 0 })
+tallyAt width height period bad value x y = tallyOn width height period bad value x y steps
+    (record { sum = nought; n = 0 })
 
 -- one division
 abbrev pub meanOf : Tally → Float
@@ -129,7 +135,8 @@ module _ {A : Type 0} where
   repairAt d toFloat ofMean w period bad s j v =
       let x = columnOf w j in
       let y = rowOf w j in
-      let t = tallyAt (w .width) (w .height) (stepOf period) bad (λ xx yy. toFloat (sampleAt d w s xx yy (planeOf w j))) x y in
+      let t = tallyAt (w .width) (w .height) (stepOf period) bad
+      (λ xx yy. toFloat (sampleAt d w s xx yy (planeOf w j))) x y in
       cond (inWindow w j && bad (y * w .width + x)) (cond (eqb (t .n) 0) v (ofMean (meanOf t))) v
 
 -- how many sound neighbours a position has

@@ -57,7 +57,8 @@ nameOf (ScalePerRow r n) = 12
 nameOf (ScalePerColumn r n) = 13
 nameOf (Other i) = 0
 
--- ---- what a form skips: the f32 run ids 1, 2, 6, `Other` and an empty table; in the whole-number form an empty table has no name
+-- ---- what a form skips: the f32 run ids 1, 2, 6, `Other` and an empty table; in the whole-number form an empty table
+-- has no name
 
 abbrev pub skipped : Class → Bool
 skipped table = false
@@ -109,8 +110,8 @@ takesRows (i ∷ is) = rowTakes (classOf (i .op)) && takesRows is
 
 -- ---- the two sample kinds
 
--- What a run needs to know of its samples: a value for a place that is never looked at, the value as a float, a mean as it is stored,
--- how a sample compares with a constant, and the row-local rules.
+-- What a run needs to know of its samples: a value for a place that is never looked at, the value as a float, a mean as
+-- it is stored, how a sample compares with a constant, and the row-local rules.
 pub record Kind (A : Type 0) : Type 1 where
   pub none : A
   pub toFloat : A → Float
@@ -121,16 +122,29 @@ pub record Kind (A : Type 0) : Type 1 where
 -- f32: a sample is bad where it equals the constant as f32 over the scale
 abbrev pub f32Kind : Frame → Kind Float
 f32Kind fr =
-    record { none = nan; toFloat = λ v. v; ofMean = λ v. v; isBad = λ c v. eq v (div binary32 (wholeIn binary32 c) (fr .scale)); rule = ruleOf fr }
+    record {
+      none = nan;
+      toFloat = λ v. v;
+      ofMean = λ v. v;
+      isBad = λ c v. eq v (div binary32 (wholeIn binary32 c) (fr .scale));
+      rule = ruleOf fr;
+    }
 
 -- u16: compared as u32; means are rounded to whole and held to 0..65535
 abbrev pub u16Kind : Kind ℕ
 u16Kind =
-    record { none = 0; toFloat = λ v. wholeIn binary32 v; ofMean = λ v. roundHeld 65535 v; isBad = λ c v. eqb v c; rule = rule16Of }
+    record {
+      none = 0;
+      toFloat = λ v. wholeIn binary32 v;
+      ofMean = λ v. roundHeld 65535 v;
+      isBad = λ c v. eqb v c;
+      rule = rule16Of;
+    }
 
 -- ---- the run
 
--- how far a run has come: going on, with the totals so far, or stopped by 5 at an opcode, with the samples as they are then
+-- how far a run has come: going on, with the totals so far, or stopped by 5 at an opcode, with the samples as they are
+-- then
 pub data Progress (A : Type 0) : Type 0 where
   going : List A → (repaired left : ℕ) → Progress A
   marksFull : List A → (opcode : ℕ) → Progress A
@@ -144,7 +158,8 @@ module _ {A : Type 0} (kind : Kind A) (w : Window) (period : ℕ) (room : Room) 
   unfoldable pub repairOn : (ℕ → Bool) → (opcode : ℕ) → List A → (repaired left : ℕ) → Progress A
   repairOn bad k s r l =
       cond (leb (markedIn w bad) (room .marks))
-      (going (each (repairAt (kind .none) (kind .toFloat) (kind .ofMean) w period bad s) s) (r + repairedIn w period bad) (l + leftIn w period bad))
+      (going (each (repairAt (kind .none) (kind .toFloat) (kind .ofMean) w period bad s) s)
+      (r + repairedIn w period bad) (l + leftIn w period bad))
       (marksFull s k)
 
   -- One opcode, over the whole window. One that is never applied, and a table with no entries, change nothing.

@@ -6,7 +6,8 @@ use Rattle.pointwise.specs.Select.{selects, onColumns}
 use Rattle.dng.specs.declared.Region.{Region}
 use Rattle.dng.specs.declared.Window.{Window}
 
--- What an opcode makes of one sample: whether its pixel is whole, its image row y, its image column x, its plane, and its value.
+-- What an opcode makes of one sample: whether its pixel is whole, its image row y, its image column x, its plane, and
+-- its value.
 abbrev pub Rule : Type 0 → Type 0
 Rule A = Bool → ℕ → ℕ → ℕ → A → A
 

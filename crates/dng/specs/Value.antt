@@ -1,5 +1,7 @@
--- What each opcode does to a value. Document 01, 'What each does to a value v'. Every operation is rounded once, in the order written; none is fused.
--- b is the opcode's body: a region takes its first 32 bytes, so tables, coefficients, deltas and scales start at 36, gains at 76.
+-- What each opcode does to a value. Document 01, 'What each does to a value v'. Every operation is rounded once, in the
+-- order written; none is fused.
+-- b is the opcode's body: a region takes its first 32 bytes, so tables, coefficients, deltas and scales start at 36,
+-- gains at 76.
 use Prim.Native.Nat.{ℕ, zero, suc, _+_, _-_, _*_, _/_, min, max}
 use mathlib.Core.Bool.{Bool, true, false, _&&_, cond}
 use mathlib.Core.List.{List}
@@ -40,7 +42,8 @@ mapTable scale n b v =
 unfoldable pub mapTable16 : ℕ → List ℕ → ℕ → ℕ
 mapTable16 n b v = tableAt b (min v (n - 1))
 
--- ---- MapPolynomial: x = v·scale/65535 in f32, widened; Horner in f64 from 0 with the highest coefficient first; times 65535, over scale, to f32
+-- ---- MapPolynomial: x = v·scale/65535 in f32, widened; Horner in f64 from 0 with the highest coefficient first; times
+-- 65535, over scale, to f32
 
 unfoldable pub horner : List ℕ → Float → ℕ → Float → Float
 horner b x zero acc = acc
@@ -69,7 +72,8 @@ rowIndex r y = (y - r .top) / max (r .«row_pitch») 1
 abbrev pub columnIndex : Region → ℕ → ℕ
 columnIndex r x = (x - r .left) / max (r .«col_pitch») 1
 
--- ---- GainMap: f = (rel − origin)/spacing held to 0..n−1, or 0 unless spacing > 0; rel = image coordinate / max(full size, 1), in f64
+-- ---- GainMap: f = (rel − origin)/spacing held to 0..n−1, or 0 unless spacing > 0; rel = image coordinate / max(full
+-- size, 1), in f64
 
 unfoldable pub position : (at full : ℕ) → (origin spacing : Float) → (n : ℕ) → Float
 position at full origin spacing n =
@@ -161,14 +165,16 @@ m2Of fr q =
 unfoldable pub vignetted : Frame → Radial → (y x : ℕ) → Float → Float
 vignetted fr q y x v =
     mul binary32 v
-    (narrow (radialGain q (div binary64 (apart (centreX fr q) (centreY fr q) (wholeIn binary64 x) (wholeIn binary64 y)) (m2Of fr q))))
+    (narrow (radialGain q (div binary64 (apart (centreX fr q) (centreY fr q) (wholeIn binary64 x) (wholeIn binary64 y))
+    (m2Of fr q))))
 
 -- every whole pixel in rows y < full height; no region, no limit on columns
 unfoldable pub vignette : Frame → Radial → Rule Float
 vignette fr q whole y x k v =
     cond (whole && (ltb y (fr .fullHeight) && usable (m2Of fr q))) (vignetted fr q y x v) v
 
--- ---- the opcodes that change a sample by itself and its position alone. All others leave it as it is; the repairs are in specs/Repair
+-- ---- the opcodes that change a sample by itself and its position alone. All others leave it as it is; the repairs are
+-- in specs/Repair
 
 -- map plane min(k, last), k counted from the region's first plane
 unfoldable pub gained : Frame → List ℕ → Region → (pv ph : ℕ) → Grid → (mp : ℕ) → (y x k : ℕ) → Float → Float

@@ -1,4 +1,5 @@
--- Worked values of the definitions, which the checker computes: one for each layout of a body, and one for each rule where a slip would show.
+-- Worked values of the definitions, which the checker computes: one for each layout of a body, and one for each rule
+-- where a slip would show.
 use Prim.Native.Nat.{ℕ, zero, suc, _+_, _*_, _/_, _%_, _^_}
 use mathlib.Core.Path.{_≡_, refl}
 use mathlib.Core.Bool.{Bool, true, false, _&&_, cond}
@@ -53,20 +54,43 @@ areaIs = record { top = 1; left = 2; bottom = 3; right = 4; plane = 5; planes = 
 pub record Layouts : Type 0 where
   -- one plane: six coefficients, then the centre
   pub warp : read 1 (words (1 ∷ []) ++ (doubles ++ (doubles ++ []))) ≡ P.Read (WarpRectilinear 1 (double 3) (double 4))
-  pub vignette : read 3 (doubles ++ words (1075052544 ∷ 0 ∷ 1075314688 ∷ 0 ∷ 1075576832 ∷ 0 ∷ [])) ≡ P.Read (FixVignetteRadial (record { k0 = double 1; k1 = double 2; k2 = double 3; k3 = double 4; k4 = double 5; cx = double 6; cy = double 7 }))
+  pub vignette : read 3 (doubles ++ words (1075052544 ∷ 0 ∷ 1075314688 ∷ 0 ∷ 1075576832 ∷ 0 ∷ []))
+      ≡ P.Read (FixVignetteRadial (record {
+        k0 = double 1;
+        k1 = double 2;
+        k2 = double 3;
+        k3 = double 4;
+        k4 = double 5;
+        cx = double 6;
+        cy = double 7;
+      }))
   -- bytes left over in a body are ignored
   pub constant : read 4 (words (8 ∷ 9 ∷ []) ++ (1 ∷ [])) ≡ P.Read (FixBadPixelsConstant 8 9)
   pub constant-short : read 4 (words (8 ∷ []) ++ (0 ∷ 0 ∷ 0 ∷ [])) ≡ P.Malformed
-  pub bad-list : read 5 (words (9 ∷ 1 ∷ 2 ∷ 0 ∷ 0 ∷ 0 ∷ 0 ∷ 0 ∷ 0 ∷ 0 ∷ 0 ∷ 0 ∷ 0 ∷ [])) ≡ P.Read (FixBadPixelsList 9 1 2)
+  pub bad-list : read 5 (words (9 ∷ 1 ∷ 2 ∷ 0 ∷ 0 ∷ 0 ∷ 0 ∷ 0 ∷ 0 ∷ 0 ∷ 0 ∷ 0 ∷ 0 ∷ []))
+      ≡ P.Read (FixBadPixelsList 9 1 2)
   pub bad-list-short : read 5 (words (9 ∷ 2 ∷ 1 ∷ 0 ∷ 0 ∷ 0 ∷ 0 ∷ 0 ∷ 0 ∷ 0 ∷ [])) ≡ P.Malformed
   pub trim : read 6 (words (1 ∷ 2 ∷ 3 ∷ 4 ∷ [])) ≡ P.Read (TrimBounds 1 2 3 4)
   pub table : read 7 (area ++ (words (2 ∷ []) ++ (0 ∷ 1 ∷ 0 ∷ 2 ∷ []))) ≡ P.Read (MapTable areaIs 2)
   pub table-short : read 7 (area ++ (words (2 ∷ []) ++ (0 ∷ 1 ∷ 0 ∷ []))) ≡ P.Malformed
   pub polynomial : read 8 (area ++ (words (3 ∷ []) ++ doubles)) ≡ P.Read (MapPolynomial areaIs 3)
-  pub gain : read 9 (area ++ (words (2 ∷ 1 ∷ []) ++ (doubles ++ (words (2 ∷ []) ++ singles)))) ≡ P.Read (GainMap areaIs 2 1 (record { «spacing_v» = double 1; «spacing_h» = double 2; «origin_v» = double 3; «origin_h» = double 4 }) 2)
+  pub gain : read 9 (area ++ (words (2 ∷ 1 ∷ []) ++ (doubles ++ (words (2 ∷ []) ++ singles))))
+      ≡ P.Read (GainMap areaIs 2 1 (record {
+        «spacing_v» = double 1;
+        «spacing_h» = double 2;
+        «origin_v» = double 3;
+        «origin_h» = double 4;
+      }) 2)
   -- map planes of 0 count as 1: four points have their four gains, five do not. A product of 0 is malformed
-  pub gain-no-planes : read 9 (area ++ (words (2 ∷ 2 ∷ []) ++ (doubles ++ (words (0 ∷ []) ++ singles)))) ≡ P.Read (GainMap areaIs 2 2 (record { «spacing_v» = double 1; «spacing_h» = double 2; «origin_v» = double 3; «origin_h» = double 4 }) 0)
-  pub gain-no-planes-short : read 9 (area ++ (words (5 ∷ 1 ∷ []) ++ (doubles ++ (words (0 ∷ []) ++ singles)))) ≡ P.Malformed
+  pub gain-no-planes : read 9 (area ++ (words (2 ∷ 2 ∷ []) ++ (doubles ++ (words (0 ∷ []) ++ singles))))
+      ≡ P.Read (GainMap areaIs 2 2 (record {
+        «spacing_v» = double 1;
+        «spacing_h» = double 2;
+        «origin_v» = double 3;
+        «origin_h» = double 4;
+      }) 0)
+  pub gain-no-planes-short : read 9 (area ++ (words (5 ∷ 1 ∷ []) ++ (doubles ++ (words (0 ∷ []) ++ singles))))
+      ≡ P.Malformed
   pub gain-none : read 9 (area ++ (words (0 ∷ 1 ∷ []) ++ (doubles ++ (words (2 ∷ []) ++ singles)))) ≡ P.Malformed
   pub delta-row : read 10 (area ++ words (1 ∷ 0 ∷ [])) ≡ P.Read (DeltaPerRow areaIs 1)
   pub delta-column : read 11 (area ++ words (1 ∷ 0 ∷ [])) ≡ P.Read (DeltaPerColumn areaIs 1)
@@ -75,9 +99,30 @@ pub record Layouts : Type 0 where
   pub other : read 14 [] ≡ P.Read (Other 14)
 
 pub layouts : Layouts
-unfolding big parsedAt warpAt badListAt countedAt polynomialAt gainAt ofBits ofFields odd trailingZeros ofInt round units size span climb
+unfolding big parsedAt warpAt badListAt countedAt polynomialAt gainAt ofBits ofFields odd trailingZeros ofInt round
+    units size span climb
 layouts =
-    record { warp = refl; vignette = refl; constant = refl; constant-short = refl; bad-list = refl; bad-list-short = refl; trim = refl; table = refl; table-short = refl; polynomial = refl; gain = refl; gain-no-planes = refl; gain-no-planes-short = refl; gain-none = refl; delta-row = refl; delta-column = refl; scale-row = refl; scale-column = refl; other = refl }
+    record {
+      warp = refl;
+      vignette = refl;
+      constant = refl;
+      constant-short = refl;
+      bad-list = refl;
+      bad-list-short = refl;
+      trim = refl;
+      table = refl;
+      table-short = refl;
+      polynomial = refl;
+      gain = refl;
+      gain-no-planes = refl;
+      gain-no-planes-short = refl;
+      gain-none = refl;
+      delta-row = refl;
+      delta-column = refl;
+      scale-row = refl;
+      scale-column = refl;
+      other = refl;
+    }
 
 -- ---- values
 
@@ -125,19 +170,57 @@ pub record Values : Type 0 where
   -- 1 + (2 · 65535) / 2
   pub delta-scale : ruleOf doubled (DeltaPerRow second 2) line2 true 4 0 1 (whole 1) ≡ fin false 1 (pos 16)
   -- 1 + (2 · 65535) / 7, 18725.28515625: with 2 / 7 rounded first it would be 18725.287109375
-  pub delta-times-first : ruleOf sevenfold (DeltaPerRow second 2) line2 true 4 0 1 (whole 1) ≡ fin false 4793673 (negsuc 7)
+  pub delta-times-first : ruleOf sevenfold (DeltaPerRow second 2) line2 true 4 0 1 (whole 1)
+      ≡ fin false 4793673 (negsuc 7)
   pub delta-outside : ruleOf plain (DeltaPerRow second 2) line2 true 3 0 1 (whole 1) ≡ fin false 1 (pos 0)
   -- the planes are counted from the region's first, and end with the map's last
-  pub gain-first : gained plain point2 second 1 1 (record { «spacing_v» = double 0; «spacing_h» = double 0; «origin_v» = double 0; «origin_h» = double 0 }) 2 3 0 1 (whole 5) ≡ fin false 5 (pos 0)
-  pub gain-second : gained plain point2 second 1 1 (record { «spacing_v» = double 0; «spacing_h» = double 0; «origin_v» = double 0; «origin_h» = double 0 }) 2 3 0 2 (whole 5) ≡ fin false 5 (pos 1)
-  pub gain-last : gained plain point2 second 1 1 (record { «spacing_v» = double 0; «spacing_h» = double 0; «origin_v» = double 0; «origin_h» = double 0 }) 2 3 0 3 (whole 5) ≡ fin false 5 (pos 1)
+  pub gain-first : gained plain point2 second 1 1 (record {
+    «spacing_v» = double 0;
+    «spacing_h» = double 0;
+    «origin_v» = double 0;
+    «origin_h» = double 0;
+  }) 2 3 0 1 (whole 5) ≡ fin false 5 (pos 0)
+  pub gain-second : gained plain point2 second 1 1 (record {
+    «spacing_v» = double 0;
+    «spacing_h» = double 0;
+    «origin_v» = double 0;
+    «origin_h» = double 0;
+  }) 2 3 0 2 (whole 5) ≡ fin false 5 (pos 1)
+  pub gain-last : gained plain point2 second 1 1 (record {
+    «spacing_v» = double 0;
+    «spacing_h» = double 0;
+    «origin_v» = double 0;
+    «origin_h» = double 0;
+  }) 2 3 0 3 (whole 5) ≡ fin false 5 (pos 1)
   -- row 1 of 2 is halfway between two map rows a whole apart
-  pub gain-between : gained plain rows2 second 2 1 (record { «spacing_v» = double 1; «spacing_h» = double 1; «origin_v» = double 0; «origin_h» = double 0 }) 1 1 0 1 (whole 4) ≡ fin false 3 (pos 1)
+  pub gain-between : gained plain rows2 second 2 1 (record {
+    «spacing_v» = double 1;
+    «spacing_h» = double 1;
+    «origin_v» = double 0;
+    «origin_h» = double 0;
+  }) 1 1 0 1 (whole 4) ≡ fin false 3 (pos 1)
 
 pub values : Values
-unfolding big selects onColumns onRegion narrow roundHeld heldTo mapTable mapPolynomial horner nth delta scaled position mix lineAt gainOf gained ofBits ofFields odd trailingZeros ofInt round units size span climb mul div add sub neg sum lt toUnsigned
+unfolding big selects onColumns onRegion narrow roundHeld heldTo mapTable mapPolynomial horner nth delta scaled
+    position mix lineAt gainOf gained ofBits ofFields odd trailingZeros ofInt round units size span climb mul div add
+    sub neg sum lt toUnsigned
 values =
-    record { table-half = refl; table-last = refl; table-nan = refl; table-scale = refl; polynomial = refl; delta-second = refl; delta-missing = refl; delta-scale = refl; delta-times-first = refl; delta-outside = refl; gain-first = refl; gain-second = refl; gain-last = refl; gain-between = refl }
+    record {
+      table-half = refl;
+      table-last = refl;
+      table-nan = refl;
+      table-scale = refl;
+      polynomial = refl;
+      delta-second = refl;
+      delta-missing = refl;
+      delta-scale = refl;
+      delta-times-first = refl;
+      delta-outside = refl;
+      gain-first = refl;
+      gain-second = refl;
+      gain-last = refl;
+      gain-between = refl;
+    }
 
 -- ---- repairs: three by three, the middle marked; the order of the neighbours shows where a sum is rounded
 
@@ -153,7 +236,16 @@ abbrev apart : Window
 apart = record { width = 2; height = 2; planes = 1; stride = 3; x0 = 0; y0 = 0; «full_width» = 2; «full_height» = 2 }
 
 abbrev overlapping : Window
-overlapping = record { width = 2; height = 2; planes = 1; stride = 1; x0 = 0; y0 = 0; «full_width» = 2; «full_height» = 2 }
+overlapping = record {
+  width = 2;
+  height = 2;
+  planes = 1;
+  stride = 1;
+  x0 = 0;
+  y0 = 0;
+  «full_width» = 2;
+  «full_height» = 2;
+}
 
 pub record Repairs : Type 0 where
   -- the last row needs its width, not its stride
@@ -178,9 +270,25 @@ pub record Repairs : Type 0 where
   pub rect-right : rectAt (words (0 ∷ 0 ∷ 1 ∷ 1 ∷ 2 ∷ 3 ∷ 5 ∷ [])) 0 0 2 5 ≡ false
 
 pub repairs : Repairs
-unfolding big complete pointAt rectAt moved sound tallyOn ofInt round units odd trailingZeros size span climb add sum div eq active
+unfolding big complete pointAt rectAt moved sound tallyOn ofInt round units odd trailingZeros size span climb add sum
+    div eq active
 repairs =
-    record { complete-tight = refl; complete-short = refl; complete-never = refl; constant-scale = refl; constant-unscaled = refl; constant-rounded = refl; left-first = refl; up-right-last = refl; up-left-fifth = refl; point = refl; point-turned = refl; rect-in = refl; rect-bottom = refl; rect-right = refl }
+    record {
+      complete-tight = refl;
+      complete-short = refl;
+      complete-never = refl;
+      constant-scale = refl;
+      constant-unscaled = refl;
+      constant-rounded = refl;
+      left-first = refl;
+      up-right-last = refl;
+      up-left-fifth = refl;
+      point = refl;
+      point-turned = refl;
+      rect-in = refl;
+      rect-bottom = refl;
+      rect-right = refl;
+    }
 
 -- ---- entries: the header words as they stand. Version 1.3.0.0 and the flags optional, skip for preview, and both
 
@@ -191,7 +299,8 @@ abbrev flaggedAt : (f at : ℕ) → Entry
 flaggedAt f at = record { id = 2; version = 16973824; flags = f; at = at; len = 0 }
 
 pub record Entries : Type 0 where
-  pub flags : map (λ (i : Item). i .entry) (itemsOf (listOf (flagged 1 ∷ flagged 2 ∷ flagged 3 ∷ []))) ≡ flaggedAt 1 20 ∷ flaggedAt 2 36 ∷ flaggedAt 3 52 ∷ []
+  pub flags : map (λ (i : Item). i .entry) (itemsOf (listOf (flagged 1 ∷ flagged 2 ∷ flagged 3 ∷ [])))
+      ≡ flaggedAt 1 20 ∷ flaggedAt 2 36 ∷ flaggedAt 3 52 ∷ []
 
 pub entries : Entries
 unfolding big itemsOf counted readFrom stepAt nextAt parsedAt
@@ -209,13 +318,19 @@ pair = 10 ∷ 0 ∷ 0 ∷ 19 ∷ []
 
 pub record Runs : Type 0 where
   -- a marked neighbour is not in the mean: 10 and 19 alone
-  pub side-by-side : u16Out (frame 4 1) 1 room (listOf (constant 0 ∷ [])) pair [] ≡ out (Ans.Done 0 2 0) (10 ∷ 10 ∷ 19 ∷ 19 ∷ []) []
+  pub side-by-side : u16Out (frame 4 1) 1 room (listOf (constant 0 ∷ [])) pair []
+      ≡ out (Ans.Done 0 2 0) (10 ∷ 10 ∷ 19 ∷ 19 ∷ []) []
   -- a period of 0 counts as 1
-  pub period-none : u16Out (frame 3 1) 0 room (listOf (constant 0 ∷ [])) (10 ∷ 0 ∷ 19 ∷ []) [] ≡ out (Ans.Done 0 1 0) (10 ∷ 15 ∷ 19 ∷ []) []
+  pub period-none : u16Out (frame 3 1) 0 room (listOf (constant 0 ∷ [])) (10 ∷ 0 ∷ 19 ∷ []) []
+      ≡ out (Ans.Done 0 1 0) (10 ∷ 15 ∷ 19 ∷ []) []
   -- as many entries as marks are room enough; with one less it is 5 of that opcode, and the skip buffer stays
-  pub marks-tight : u16Out (frame 4 1) 1 (marks 2) (listOf (entry 2 [] ∷ constant 0 ∷ [])) pair (9 ∷ []) ≡ out (Ans.Done 1 2 0) (10 ∷ 10 ∷ 19 ∷ 19 ∷ []) (2 ∷ [])
-  pub marks-short : u16Out (frame 4 1) 1 (marks 1) (listOf (entry 2 [] ∷ constant 0 ∷ [])) pair (9 ∷ []) ≡ out (Ans.Marks 1) pair (9 ∷ [])
+  pub marks-tight : u16Out (frame 4 1) 1 (marks 2) (listOf (entry 2 [] ∷ constant 0 ∷ [])) pair (9 ∷ [])
+      ≡ out (Ans.Done 1 2 0) (10 ∷ 10 ∷ 19 ∷ 19 ∷ []) (2 ∷ [])
+  pub marks-short : u16Out (frame 4 1) 1 (marks 1) (listOf (entry 2 [] ∷ constant 0 ∷ [])) pair (9 ∷ [])
+      ≡ out (Ans.Marks 1) pair (9 ∷ [])
 
 pub runs : Runs
-unfolding big each roundHeld readingOf itemsOf counted readFrom stepAt nextAt parsedAt inWindow active countBelow complete badValue marksOf moved sound tallyOn repairAt soundOn markedIn repairedIn leftIn namesOf takes16On takes16From repairOn performAll inRange ranOn runOut ofInt round units odd trailingZeros size span climb add sum div
+unfolding big each roundHeld readingOf itemsOf counted readFrom stepAt nextAt parsedAt inWindow active countBelow
+    complete badValue marksOf moved sound tallyOn repairAt soundOn markedIn repairedIn leftIn namesOf takes16On
+    takes16From repairOn performAll inRange ranOn runOut ofInt round units odd trailingZeros size span climb add sum div
 runs = record { side-by-side = refl; period-none = refl; marks-tight = refl; marks-short = refl }

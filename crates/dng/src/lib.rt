@@ -1,4 +1,5 @@
-// The types that every layer shares, and with them the paper: the definitions in specs/ that the contracts of all other crates cite.
+// The types that every layer shares, and with them the paper: the definitions in specs/ that the contracts of all other
+// crates cite.
 // Words are kept as the list has them (a pitch of 0 stays 0 here); what a 0 means is said where it is used.
 
 // The area and the planes that an opcode touches. Document 01, 'The list'.
@@ -32,7 +33,8 @@ pub struct Radial {
     pub cy: f64,
 }
 
-// An opcode's header fields. What a count counts stands in the body, which is kept beside the opcode as a part of the lent list.
+// An opcode's header fields. What a count counts stands in the body, which is kept beside the opcode as a part of the
+// lent list.
 pub enum Opcode {
     // `planes` is 0 where the body is malformed. Reported, never applied.
     WarpRectilinear {
@@ -172,8 +174,8 @@ pub enum Reading {
     Malformed { after: usize },
 }
 
-// The window of a frame that a run changes: `width` by `height` pixels of `planes` samples, rows `stride` pixels apart, its corner at
-// (x0, y0) of an image of full_width by full_height.
+// The window of a frame that a run changes: `width` by `height` pixels of `planes` samples, rows `stride` pixels apart,
+// its corner at (x0, y0) of an image of full_width by full_height.
 #[repr(C)]
 pub struct Window {
     pub width: usize,

@@ -41,8 +41,8 @@ pub fn reciprocal(w: Window) -> usize
     4294967296 / w.width
 }
 
-// How many rows of `width` positions lie before q, by the width's reciprocal m: the product is the row or one less, so that no
-// division is taken for a mark.
+// How many rows of `width` positions lie before q, by the width's reciprocal m: the product is the row or one less, so
+// that no division is taken for a mark.
 fn row_of(q: usize, width: usize, m: usize) -> usize
     requires { ⌜ (1 ≤ width) × ((q < 2 ^ 32) × (m ≡ 2 ^ 32 / width)) ⌝ }
     ensures { λ r. ⌜ r ≡ q / width ⌝ }
@@ -54,7 +54,8 @@ fn row_of(q: usize, width: usize, m: usize) -> usize
 // Where mark i lies.
 pub fn spot_of(marks: &[u32], i: usize, w: Window, m: usize) -> Spot
     requires { ⌜ Finds (now marks) i w m ⌝ }
-    ensures { λ r. ⌜ (r .x ≡ getD (now (marks .entry)) i 0 % w .width) × (r .y ≡ getD (now (marks .entry)) i 0 / w .width) ⌝ }
+    ensures { λ r. ⌜ (r .x ≡ getD (now (marks .entry)) i 0 % w .width)
+        × (r .y ≡ getD (now (marks .entry)) i 0 / w .width) ⌝ }
 {
     let q = marks[i] as usize;
     let y = row_of(q, w.width, m);
@@ -129,7 +130,8 @@ fn part_f32(
     n: usize,
 ) -> Marked
     requires { ⌜ Part (length (now samples)) w y from end × Before w (same32 w c (now samples)) (now marks) n y from ⌝ }
-    ensures { λ r. ⌜ Gathered (y * w .width + end) (same32 w c (now (samples .entry))) (now (marks .entry)) (now (marks .exit)) r ⌝ }
+    ensures { λ r. ⌜ Gathered (y * w .width + end) (same32 w c (now (samples .entry))) (now (marks .entry))
+        (now (marks .exit)) r ⌝ }
 {
     let mut held = n;
     let mut x = from;
@@ -160,8 +162,10 @@ fn block_f32(
     marks: &mut [u32],
     n: usize,
 ) -> Marked
-    requires { ⌜ Part (length (now samples)) w y from end × ((from < end) × Before w (same32 w c (now samples)) (now marks) n y from) ⌝ }
-    ensures { λ r. ⌜ Gathered (y * w .width + end) (same32 w c (now (samples .entry))) (now (marks .entry)) (now (marks .exit)) r ⌝ }
+    requires { ⌜ Part (length (now samples)) w y from end
+        × ((from < end) × Before w (same32 w c (now samples)) (now marks) n y from) ⌝ }
+    ensures { λ r. ⌜ Gathered (y * w .width + end) (same32 w c (now (samples .entry))) (now (marks .entry))
+        (now (marks .exit)) r ⌝ }
 {
     if clear_f32(samples, w, c, y, from, end) {
         return Marked::All { n };
@@ -171,8 +175,10 @@ fn block_f32(
 
 // Row y, block by block.
 fn row_f32(samples: &[f32], w: Window, c: f32, y: usize, marks: &mut [u32], n: usize) -> Marked
-    requires { ⌜ Whole (length (now samples)) w × ((y < w .height) × Before w (same32 w c (now samples)) (now marks) n y 0) ⌝ }
-    ensures { λ r. ⌜ Gathered (y * w .width + w .width) (same32 w c (now (samples .entry))) (now (marks .entry)) (now (marks .exit)) r ⌝ }
+    requires { ⌜ Whole (length (now samples)) w
+        × ((y < w .height) × Before w (same32 w c (now samples)) (now marks) n y 0) ⌝ }
+    ensures { λ r. ⌜ Gathered (y * w .width + w .width) (same32 w c (now (samples .entry))) (now (marks .entry))
+        (now (marks .exit)) r ⌝ }
 {
     let mut held = n;
     let mut x = 0;
@@ -259,7 +265,8 @@ fn part_u16(
     n: usize,
 ) -> Marked
     requires { ⌜ Part (length (now samples)) w y from end × Before w (same16 w c (now samples)) (now marks) n y from ⌝ }
-    ensures { λ r. ⌜ Gathered (y * w .width + end) (same16 w c (now (samples .entry))) (now (marks .entry)) (now (marks .exit)) r ⌝ }
+    ensures { λ r. ⌜ Gathered (y * w .width + end) (same16 w c (now (samples .entry))) (now (marks .entry))
+        (now (marks .exit)) r ⌝ }
 {
     let mut held = n;
     let mut x = from;
@@ -290,8 +297,10 @@ fn block_u16(
     marks: &mut [u32],
     n: usize,
 ) -> Marked
-    requires { ⌜ Part (length (now samples)) w y from end × ((from < end) × Before w (same16 w c (now samples)) (now marks) n y from) ⌝ }
-    ensures { λ r. ⌜ Gathered (y * w .width + end) (same16 w c (now (samples .entry))) (now (marks .entry)) (now (marks .exit)) r ⌝ }
+    requires { ⌜ Part (length (now samples)) w y from end
+        × ((from < end) × Before w (same16 w c (now samples)) (now marks) n y from) ⌝ }
+    ensures { λ r. ⌜ Gathered (y * w .width + end) (same16 w c (now (samples .entry))) (now (marks .entry))
+        (now (marks .exit)) r ⌝ }
 {
     if clear_u16(samples, w, c, y, from, end) {
         return Marked::All { n };
@@ -301,8 +310,10 @@ fn block_u16(
 
 // Row y, block by block.
 fn row_u16(samples: &[u16], w: Window, c: u32, y: usize, marks: &mut [u32], n: usize) -> Marked
-    requires { ⌜ Whole (length (now samples)) w × ((y < w .height) × Before w (same16 w c (now samples)) (now marks) n y 0) ⌝ }
-    ensures { λ r. ⌜ Gathered (y * w .width + w .width) (same16 w c (now (samples .entry))) (now (marks .entry)) (now (marks .exit)) r ⌝ }
+    requires { ⌜ Whole (length (now samples)) w
+        × ((y < w .height) × Before w (same16 w c (now samples)) (now marks) n y 0) ⌝ }
+    ensures { λ r. ⌜ Gathered (y * w .width + w .width) (same16 w c (now (samples .entry))) (now (marks .entry))
+        (now (marks .exit)) r ⌝ }
 {
     let mut held = n;
     let mut x = 0;

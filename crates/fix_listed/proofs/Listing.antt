@@ -220,8 +220,11 @@ by-column across w y x e a b =
 
 pub by-row : (across : Bool) (w : Window) (y x : ℕ) → across ≡ false → y < w .height → x < w .width → Lies across w y x (y * w .width + x)
 by-row across w y x e a b =
-    subst (λ (t : Bool). Lies t w y x (y * w .width + x)) (sym e)
-    (omega (arith, suc-mul y (w .width), mul-le-mul-right {m = suc y} {n = w .height} (w .width) a, mul-comm (w .width) (w .height)), digits-div y b, digits-mod y b)
+    subst (λ (t : Bool). Lies t w y x (y * w .width + x)) (sym e) (
+      omega (arith, suc-mul y (w .width), mul-le-mul-right {m = suc y} {n = w .height} (w .width) a, mul-comm (w .width) (w .height)),
+      digits-div y b,
+      digits-mod y b,
+    )
 
 module _ (across : Bool) (w : Window) (b : List ℕ) (i r c : ℕ) (f : Fits w) (row : r ≡ u32At b (12 + 8 * i)) (column : c ≡ u32At b (16 + 8 * i)) where
   -- a point that is named lies there

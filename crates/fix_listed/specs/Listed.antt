@@ -1,4 +1,5 @@
--- Listed positions: points and rectangles of the image in a window. Document 01, 'Repair': listed points and rectangles, bottom and right excluded.
+-- Listed positions: points and rectangles of the image in a window. Document 01, 'Repair': listed points and
+-- rectangles, bottom and right excluded.
 use Prim.Native.Nat.{ℕ, _+_, _*_, _/_, _%_, _^_, _≤_, _<_}
 use mathlib.Core.Bool.{Bool, _&&_, cond}
 use mathlib.Core.List.{List}

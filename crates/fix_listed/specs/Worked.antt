@@ -1,5 +1,5 @@
--- Worked values of the definitions, each by computing: P11 of document 01, 'Bench frames', points as (row, column), ends excluded, the window's
--- corner, and repetitions.
+-- Worked values of the definitions, each by computing: P11 of document 01, 'Bench frames', points as (row, column),
+-- ends excluded, the window's corner, and repetitions.
 use Prim.Native.Nat.{ℕ}
 use mathlib.Core.Path.{_≡_, refl}
 use mathlib.Core.List.{List, [], _∷_, _++_}

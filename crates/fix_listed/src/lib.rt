@@ -143,7 +143,8 @@ fn point(body: &[u8], i: usize, w: Window, s: &mut [u32], n: usize, t: usize, ac
     requires { ⌜ Front (positions w) (now s) n t ⌝ }
     requires { ⌜ Fits w ⌝ }
     requires { ⌜ i < 2 ^ 32 ⌝ }
-    ensures { λ r. ⌜ Joined (positions w) (atPoint across w (now (body .entry)) i) (now (s .entry)) t (now (s .exit)) r ⌝ }
+    ensures { λ r. ⌜ Joined (positions w) (atPoint across w (now (body .entry)) i) (now (s .entry)) t (now (s .exit))
+        r ⌝ }
 {
     let row = num_words::u32_at(body, 12 + 8 * i) as usize;
     let column = num_words::u32_at(body, 16 + 8 * i) as usize;
@@ -169,7 +170,8 @@ fn rect(
     requires { ⌜ Front (positions w) (now s) n t ⌝ }
     requires { ⌜ Fits w ⌝ }
     requires { ⌜ (points < 2 ^ 32) × (i < 2 ^ 32) ⌝ }
-    ensures { λ r. ⌜ Joined (positions w) (inRect across w (now (body .entry)) points i) (now (s .entry)) t (now (s .exit)) r ⌝ }
+    ensures { λ r. ⌜ Joined (positions w) (inRect across w (now (body .entry)) points i) (now (s .entry)) t
+        (now (s .exit)) r ⌝ }
 {
     let at = 12 + 8 * points + 16 * i;
     let top = num_words::u32_at(body, at) as usize;
@@ -182,7 +184,8 @@ fn rect(
 fn all_points(body: &[u8], points: usize, w: Window, s: &mut [u32], across: bool) -> Kept
     requires { ⌜ Fits w ⌝ }
     requires { ⌜ points < 2 ^ 32 ⌝ }
-    ensures { λ r. ⌜ Joined (positions w) (λ q. anyBelow points (λ i. atPoint across w (now (body .entry)) i q)) (now (s .entry)) 0 (now (s .exit)) r ⌝ }
+    ensures { λ r. ⌜ Joined (positions w) (λ q. anyBelow points (λ i. atPoint across w (now (body .entry)) i q))
+        (now (s .entry)) 0 (now (s .exit)) r ⌝ }
 {
     let mut k = 0;
     let mut u = 0;
@@ -215,7 +218,8 @@ fn all_rects(
     requires { ⌜ Front (positions w) (now s) n t ⌝ }
     requires { ⌜ Fits w ⌝ }
     requires { ⌜ (points < 2 ^ 32) × (rects < 2 ^ 32) ⌝ }
-    ensures { λ r. ⌜ Joined (positions w) (λ q. anyBelow rects (λ i. inRect across w (now (body .entry)) points i q)) (now (s .entry)) t (now (s .exit)) r ⌝ }
+    ensures { λ r. ⌜ Joined (positions w) (λ q. anyBelow rects (λ i. inRect across w (now (body .entry)) points i q))
+        (now (s .entry)) t (now (s .exit)) r ⌝ }
 {
     let mut k = n;
     let mut u = t;
@@ -235,8 +239,8 @@ fn all_rects(
     Kept::Held { n: k, t: u }
 }
 
-// The listed positions inside the window, each once, ascending at the front of `marks`, as `across` counts them; or that there are more than it
-// has entries.
+// The listed positions inside the window, each once, ascending at the front of `marks`, as `across` counts them; or
+// that there are more than it has entries.
 pub fn gather(
     body: &[u8],
     points: u32,
@@ -247,7 +251,8 @@ pub fn gather(
 ) -> Marked
     requires { ⌜ Fits w ⌝ }
     ensures { λ r. ⌜
-        Gathered (positions w) (listedIn across w (now (body .entry)) points rects) (now (marks .entry)) (now (marks .exit)) r
+        Gathered (positions w) (listedIn across w (now (body .entry)) points rects) (now (marks .entry))
+        (now (marks .exit)) r
         ⌝ }
 {
     let np = points as usize;

@@ -1,5 +1,5 @@
--- What is seen of ascending marks from one place among them. Nothing here has to be believed: what it comes to is said in the words of
--- `num_sorted` `has` and of fix_near/specs/Looks.
+-- What is seen of ascending marks from one place among them. Nothing here has to be believed: what it comes to is said
+-- in the words of `num_sorted` `has` and of fix_near/specs/Looks.
 use Prim.Native.Nat.{ℕ, _≤_, _<_}
 use mathlib.Core.Bool.{false}
 use mathlib.Core.List.{List}
@@ -11,7 +11,8 @@ use Rattle.num_sorted.specs.Sorts.{has, Rises}
 abbrev pub Ascends : List ℕ → (n : ℕ) → Type 0
 Ascends marks n = (n ≤ length marks) × Rises 0 (take n marks)
 
--- r is the first entry at or after `from`, of the first n, that is not below lo; where there is none, it is past them all
+-- r is the first entry at or after `from`, of the first n, that is not below lo; where there is none, it is past them
+-- all
 pub record Reached (marks : List ℕ) (n from lo r : ℕ) : Type 0 where
   pub on : from ≤ r
   pub within : from ≤ n → r ≤ n

@@ -1,4 +1,5 @@
-// Places among ascending marks: what an entry shows of the positions around it. A place is a hint: what it does not show is searched for.
+// Places among ascending marks: what an entry shows of the positions around it. A place is a hint: what it does not
+// show is searched for.
 ghost use mathlib.Core.Path.{_≡_};
 ghost use mathlib.Core.Bool.{true};
 ghost use Prim.Native.Nat.{_≤_, _<_};
@@ -91,7 +92,8 @@ fn find_at(marks: &[u32], n: usize, at: usize, q: u32) -> bool
     num_sorted::find(marks, n, q)
 }
 
-// Whether q is marked. Place k moves on to it; where it is asked for ascending positions, it goes over the marks once, and nothing is searched for.
+// Whether q is marked. Place k moves on to it; where it is asked for ascending positions, it goes over the marks once,
+// and nothing is searched for.
 pub fn seek(marks: &[u32], n: usize, q: u32, places: &mut [usize; 8], k: usize) -> bool
     requires { ⌜ Ascends (now marks) n × (k < 8) ⌝ }
     ensures { λ r. ⌜ r ≡ has (take n (now (marks .entry))) q ⌝ }

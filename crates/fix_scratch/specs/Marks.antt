@@ -1,4 +1,5 @@
--- Marks in the u32 scratch: the distinct marked positions, ascending, or too many for it. Document 01, 'What comes back' (5) and Repair.
+-- Marks in the u32 scratch: the distinct marked positions, ascending, or too many for it. Document 01, 'What comes
+-- back' (5) and Repair.
 use Prim.Native.Nat.{ℕ, zero, suc, _≤_, _<_}
 use mathlib.Core.Bool.{Bool, cond}
 use mathlib.Core.List.{List, [], _∷_}

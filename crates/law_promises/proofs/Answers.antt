@@ -131,7 +131,8 @@ module _ {A : Type 0} (c : Call A) where
   pub kept : (e : End A) → Meets (outOf c) (c .room) e → Kept c e
   kept e m =
       record {
-        samples = λ p q. m .left ∙ holds .first (subst (λ (a : Answer). 1 ≤ numbersOf a .number) (m .answered) p) (subst (λ (a : Answer). numbersOf a .number ≤ 4) (m .answered) q);
+        samples = λ p q. m .left ∙ holds .first (subst (λ (a : Answer). 1 ≤ numbersOf a .number) (m .answered) p)
+            (subst (λ (a : Answer). numbersOf a .number ≤ 4) (m .answered) q);
         names = λ p. m .named ∙ holds .any (subst (λ (a : Answer). 1 ≤ numbersOf a .number) (m .answered) p);
         written = λ n r l p. ap (take n) (m .named) ∙ holds .front n r l (sym (m .answered) ∙ p);
         after = λ n r l p. ap (drop n) (m .named) ∙ holds .back n r l (sym (m .answered) ∙ p);
@@ -194,7 +195,8 @@ reading-number : (a : Reading) → (readingNumbersOf a .number ≡ 2 → ⊥) �
 reading-number (R.Whole n) h = (refl, refl)
 reading-number (R.Malformed k) h = absurd (h refl)
 
-reading-rest : (a : Reading) → (readingNumbersOf a .opcode ≡ 0) × (readingNumbersOf a .names ≡ 0) × (readingNumbersOf a .repaired ≡ 0) × (readingNumbersOf a .left ≡ 0)
+reading-rest : (a : Reading) → (readingNumbersOf a .opcode ≡ 0) × (readingNumbersOf a .names ≡ 0) × (readingNumbersOf a .repaired ≡ 0)
+    × (readingNumbersOf a .left ≡ 0)
 reading-rest (R.Whole n) = (refl, refl, refl, refl)
 reading-rest (R.Malformed k) = (refl, refl, refl, refl)
 

@@ -63,7 +63,8 @@ module _ {A : Type 0} (kind : Kind A) (w : Window) (period : ℕ) (room : Room) 
     where
       mends : classOf (i .op) ≡ repair → (a : Bool) → leb (markedIn w (bad i s)) (room .marks) ≡ a
           → Now i k s (cond a
-          (going (each (repairAt (kind .none) (kind .toFloat) (kind .ofMean) w period (bad i s) s) s) (r + repairedIn w period (bad i s)) (l + leftIn w period (bad i s)))
+          (going (each (repairAt (kind .none) (kind .toFloat) (kind .ofMean) w period (bad i s) s) s) (r + repairedIn w period (bad i s))
+          (l + leftIn w period (bad i s)))
           (marksFull s k))
       mends e true p = tt
       mends e false p = (refl, refl, e, leb-false _ _ p)
@@ -158,7 +159,8 @@ module _ {A : Type 0} (c : Call A) where
       subst (λ (m : ℕ). MarksOver c m t) z (record { reached = there (n .2); over = n .3 })
 
   pub shown : (p : Progress A) → performed c (itemsOf (c .list)) ≡ p → Shown p
-  shown p e = subst Shown e (show (performed c (itemsOf (c .list))) (seen (c .kind) (c .window) (c .period) (c .room) (c .list) (itemsOf (c .list)) 0 (c .samples) 0 0))
+  shown p e = subst Shown e (show (performed c (itemsOf (c .list)))
+      (seen (c .kind) (c .window) (c .period) (c .room) (c .list) (itemsOf (c .list)) 0 (c .samples) 0 0))
 
   pub marks-stop : (k : ℕ) (t : List A) → MarksOver c k t → performed c (itemsOf (c .list)) ≡ marksFull t k
   marks-stop k t h =

@@ -84,7 +84,8 @@ module _ {A : Type 0} (c : Call A) where
   comes-on a b u v a′ b′ u′ v′ x y (marksFull t k) h = tt
 
   after-one : (k : ℕ) (is : List Item) (a b u v : ℕ)
-      → ((s : List A) (a b : ℕ) → Comes a b (sumFrom c mended (suc k) is (going s a b)) (sumFrom c stayed (suc k) is (going s a b)) (all (suc k) is (going s a b)))
+      → ((s : List A) (a b : ℕ) → Comes a b (sumFrom c mended (suc k) is (going s a b)) (sumFrom c stayed (suc k) is (going s a b))
+      (all (suc k) is (going s a b)))
       → (g : Progress A) → Comes a b u v g
       → Comes a b (u + sumFrom c mended (suc k) is g) (v + sumFrom c stayed (suc k) is g) (all (suc k) is g)
   after-one k is a b u v more (going s a′ b′) h =

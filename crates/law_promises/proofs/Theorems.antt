@@ -142,13 +142,15 @@ row-verdict w scale y list row r t ran = (there r counted, back r counted)
     counted : (n : ℕ) → r ≡ Row.Done n → n ≡ length (namesOf skipped (itemsOf list))
     counted n p = let h : RowWhen w y (length row) list (Row.Done n) = row-exactly-when w scale y list row r t ran (Row.Done n) .0 p in h .3
 
-    there : (a : RowAnswer) → ((n : ℕ) → a ≡ Row.Done n → n ≡ length (namesOf skipped (itemsOf list))) → wholeRow a ≡ true → (rowNumbersOf a .number ≡ 0) × (length (namesOf skipped (itemsOf list)) ≡ 0)
+    there : (a : RowAnswer) → ((n : ℕ) → a ≡ Row.Done n → n ≡ length (namesOf skipped (itemsOf list))) → wholeRow a ≡ true → (rowNumbersOf a .number ≡ 0)
+        × (length (namesOf skipped (itemsOf list)) ≡ 0)
     there (Row.Done n) f h = (refl, sym (f n refl) ∙ eqb-true n 0 h)
     there Row.Range f h = absurd (false≢true h)
     there (Row.Malformed k) f h = absurd (false≢true h)
     there Row.NotTaken f h = absurd (false≢true h)
 
-    back : (a : RowAnswer) → ((n : ℕ) → a ≡ Row.Done n → n ≡ length (namesOf skipped (itemsOf list))) → (rowNumbersOf a .number ≡ 0) × (length (namesOf skipped (itemsOf list)) ≡ 0) → wholeRow a ≡ true
+    back : (a : RowAnswer) → ((n : ℕ) → a ≡ Row.Done n → n ≡ length (namesOf skipped (itemsOf list))) → (rowNumbersOf a .number ≡ 0)
+        × (length (namesOf skipped (itemsOf list)) ≡ 0) → wholeRow a ≡ true
     back (Row.Done n) f h = eq-eqb n 0 (f n refl ∙ h .1)
     back Row.Range f h = absurd (omega (arith, h .0))
     back (Row.Malformed k) f h = absurd (omega (arith, h .0))

@@ -1,5 +1,7 @@
--- What a caller may conclude from the contracts of the public calls alone: `Ran` of a run, `RowRan` of a row call, the equation of reading.
--- Document 01, 'What comes back' and 'How a promise is judged'. Over any sample kind; proofs/Theorems proves each statement under its name in lower case:
+-- What a caller may conclude from the contracts of the public calls alone: `Ran` of a run, `RowRan` of a row call, the
+-- equation of reading.
+-- Document 01, 'What comes back' and 'How a promise is judged'. Over any sample kind; proofs/Theorems proves each
+-- statement under its name in lower case:
 --     1 Determined   2 Exactly-when, Row-exactly-when   3 Keeps, Row-keeps, Numbered   4 Adds-up, Scratch
 --     5 Row-calls, Whole-calls, Whole-calls-alike   6 Verdict, Row-verdict
 use Prim.Native.Nat.{ℕ, suc, _+_, _≤_, _<_}
@@ -43,11 +45,31 @@ pub record Call (A : Type 0) : Type 1 where
 
 abbrev pub f32Call : Window → Settings → Room → List ℕ → List Float → List ℕ → Call Float
 f32Call w set room list s names =
-    record { kind = f32Kind (frameOf w (set .scale)); takes = takesAll; skip = skipped; window = w; period = set .period; room = room; list = list; samples = s; names = names }
+    record {
+      kind = f32Kind (frameOf w (set .scale));
+      takes = takesAll;
+      skip = skipped;
+      window = w;
+      period = set .period;
+      room = room;
+      list = list;
+      samples = s;
+      names = names;
+    }
 
 abbrev pub u16Call : Window → (period : ℕ) → Room → List ℕ → List ℕ → List ℕ → Call ℕ
 u16Call w period room list s names =
-    record { kind = u16Kind; takes = takes16; skip = skipped16; window = w; period = period; room = room; list = list; samples = s; names = names }
+    record {
+      kind = u16Kind;
+      takes = takes16;
+      skip = skipped16;
+      window = w;
+      period = period;
+      room = room;
+      list = list;
+      samples = s;
+      names = names;
+    }
 
 -- the answer, and what every lent buffer holds afterwards
 pub record End (A : Type 0) : Type 0 where
@@ -109,9 +131,11 @@ module _ {A : Type 0} (c : Call A) where
   When (Ans.Done n r l) = Goes × (n ≡ skips) × ((t : List A) × (performed (itemsOf (c .list)) ≡ going t r l))
   When Ans.Range = inRange (c .window) (c .period) ≡ false
   When (Ans.Malformed k) = (inRange (c .window) (c .period) ≡ true) × (readingOf (c .list) ≡ R.Malformed k)
-  When Ans.NotTaken = (inRange (c .window) (c .period) ≡ true) × Whole (c .list) × (c .takes (itemsOf (c .list)) ≡ false)
+  When Ans.NotTaken = (inRange (c .window) (c .period) ≡ true) × Whole (c .list)
+      × (c .takes (itemsOf (c .list)) ≡ false)
   When Ans.Names =
-      (inRange (c .window) (c .period) ≡ true) × Whole (c .list) × (c .takes (itemsOf (c .list)) ≡ true) × (length (c .names) < skips)
+      (inRange (c .window) (c .period) ≡ true) × Whole (c .list) × (c .takes (itemsOf (c .list)) ≡ true)
+      × (length (c .names) < skips)
   When (Ans.Marks k) = Goes × ((t : List A) × (performed (itemsOf (c .list)) ≡ marksFull t k))
 
   -- the marks of an item, on the samples t
@@ -133,8 +157,8 @@ module _ {A : Type 0} (c : Call A) where
     pub reached : Reached k t
     pub over : c .room .marks < markedIn (c .window) (marksOn (reached .item) t)
 
--- a run: by the table; 5 also by the repair that is named; and the samples, on 0 the result, on 5 those that the opcodes
--- before that repair left, so that nothing of it is written
+-- a run: by the table; 5 also by the repair that is named; and the samples, on 0 the result, on 5 those that the
+-- opcodes before that repair left, so that nothing of it is written
 pub record Exactly {A : Type 0} (c : Call A) (e : End A) : Type 0 where
   pub answers : (a : Answer) → (e .answer ≡ a) ↔ When c a
   pub marks : (k : ℕ) → (e .answer ≡ Ans.Marks k) ↔ (Goes c × ((t : List A) × MarksOver c k t))
@@ -147,7 +171,8 @@ Exactly-when = (A : Type 0) (c : Call A) (e : End A) → Meets (outOf c) (c .roo
 -- a row of n samples: 0, 1, 2 or 3
 abbrev pub RowWhen : RowWindow → (y n : ℕ) → List ℕ → RowAnswer → Type 0
 RowWhen w y n list (Row.Done m) =
-    (rowInRange w y n ≡ true) × Whole list × (takesRows (itemsOf list) ≡ true) × (m ≡ length (namesOf skipped (itemsOf list)))
+    (rowInRange w y n ≡ true) × Whole list × (takesRows (itemsOf list) ≡ true)
+    × (m ≡ length (namesOf skipped (itemsOf list)))
 RowWhen w y n list Row.Range = rowInRange w y n ≡ false
 RowWhen w y n list (Row.Malformed k) = (rowInRange w y n ≡ true) × (readingOf list ≡ R.Malformed k)
 RowWhen w y n list Row.NotTaken = (rowInRange w y n ≡ true) × Whole list × (takesRows (itemsOf list) ≡ false)
@@ -181,7 +206,8 @@ Row-keeps =
 -- the paper's numbers of every answer: names and totals 0 on a refusal, the entry's number 0 but in 2, the opcode's 0
 -- but in 5
 pub record Numbered : Type 0 where
-  pub refused : (a : Answer) → 1 ≤ numbersOf a .number → (numbersOf a .names ≡ 0) × (numbersOf a .repaired ≡ 0) × (numbersOf a .left ≡ 0)
+  pub refused : (a : Answer) → 1 ≤ numbersOf a .number → (numbersOf a .names ≡ 0) × (numbersOf a .repaired ≡ 0)
+      × (numbersOf a .left ≡ 0)
   pub entry : (a : Answer) → (numbersOf a .number ≡ 2 → ⊥) → numbersOf a .entry ≡ 0
   pub opcode : (a : Answer) → (numbersOf a .number ≡ 5 → ⊥) → numbersOf a .opcode ≡ 0
   -- 6 is withdrawn (M-104), and given to nothing else
@@ -189,12 +215,16 @@ pub record Numbered : Type 0 where
   -- a row gives 0, 1, 2 or 3
   pub row : (a : RowAnswer) → rowNumbersOf a .number ≤ 3
   pub rowEntry : (a : RowAnswer) → (rowNumbersOf a .number ≡ 2 → ⊥) → rowNumbersOf a .entry ≡ 0
-  pub rowRest : (a : RowAnswer) → (rowNumbersOf a .opcode ≡ 0) × (rowNumbersOf a .names ≡ 0) × (rowNumbersOf a .repaired ≡ 0) × (rowNumbersOf a .left ≡ 0)
+  pub rowRest : (a : RowAnswer) → (rowNumbersOf a .opcode ≡ 0) × (rowNumbersOf a .names ≡ 0)
+      × (rowNumbersOf a .repaired ≡ 0) × (rowNumbersOf a .left ≡ 0)
   -- reading alone gives 0 or 2
-  pub reading : (a : Reading) → (readingNumbersOf a .number ≡ 2 → ⊥) → (readingNumbersOf a .number ≡ 0) × (readingNumbersOf a .entry ≡ 0)
-  pub readingRest : (a : Reading) → (readingNumbersOf a .opcode ≡ 0) × (readingNumbersOf a .names ≡ 0) × (readingNumbersOf a .repaired ≡ 0) × (readingNumbersOf a .left ≡ 0)
+  pub reading : (a : Reading) → (readingNumbersOf a .number ≡ 2 → ⊥) → (readingNumbersOf a .number ≡ 0)
+      × (readingNumbersOf a .entry ≡ 0)
+  pub readingRest : (a : Reading) → (readingNumbersOf a .opcode ≡ 0) × (readingNumbersOf a .names ≡ 0)
+      × (readingNumbersOf a .repaired ≡ 0) × (readingNumbersOf a .left ≡ 0)
 
--- ---- 4. totals: over a run that answers 0 they are sums over its repairs, and add up to the distinct marked positions of all of them
+-- ---- 4. totals: over a run that answers 0 they are sums over its repairs, and add up to the distinct marked positions
+-- of all of them
 
 module _ {A : Type 0} (c : Call A) (count : (ℕ → Bool) → ℕ) where
   abbrev pub countOn : Class → Item → List A → ℕ
@@ -211,7 +241,8 @@ module _ {A : Type 0} (c : Call A) (count : (ℕ → Bool) → ℕ) where
   -- the count of each repair's marks, on the samples as they are by then, summed along the run from opcode k on
   unfoldable pub sumFrom : ℕ → List Item → Progress A → ℕ
   sumFrom k [] g = 0
-  sumFrom k (i ∷ is) g = countAt i g + sumFrom (suc k) is (perform (c .kind) (c .window) (c .period) (c .room) (c .list) i k g)
+  sumFrom k (i ∷ is) g = countAt i g + sumFrom (suc k) is
+      (perform (c .kind) (c .window) (c .period) (c .room) (c .list) i k g)
 
   abbrev pub sumOver : ℕ
   sumOver = sumFrom 0 (itemsOf (c .list)) (going (c .samples) 0 0)
@@ -223,12 +254,23 @@ pub record Totals {A : Type 0} (c : Call A) (r l : ℕ) : Type 0 where
 
 abbrev pub Adds-up : Type 1
 Adds-up =
-    (A : Type 0) (c : Call A) (e : End A) → Meets (outOf c) (c .room) e → (n r l : ℕ) → e .answer ≡ Ans.Done n r l → Totals c r l
+    (A : Type 0) (c : Call A) (e : End A) → Meets (outOf c) (c .room) e → (n r l : ℕ) → e .answer ≡ Ans.Done n r l
+    → Totals c r l
 
 -- the call with other scratch
 abbrev pub withRoom : {A : Type 0} → Call A → Room → Call A
 withRoom c room =
-    record { kind = c .kind; takes = c .takes; skip = c .skip; window = c .window; period = c .period; room = room; list = c .list; samples = c .samples; names = c .names }
+    record {
+      kind = c .kind;
+      takes = c .takes;
+      skip = c .skip;
+      window = c .window;
+      period = c .period;
+      room = room;
+      list = c .list;
+      samples = c .samples;
+      names = c .names;
+    }
 
 -- So the totals say how much scratch is enough: a run that answers 0 answers the same, and leaves the same, with any
 -- scratch that holds as many marks as were repaired and left.
@@ -239,9 +281,11 @@ Scratch =
 
 -- ---- 5. demand 3, of the calls
 
--- row calls on the rows ys of a window, one after another through one list of samples: what each answered, and the samples before and after.
+-- row calls on the rows ys of a window, one after another through one list of samples: what each answered, and the
+-- samples before and after.
 -- Of each call no more is known than its contract.
-pub data RowCalls (w : Window) (scale : Float) (list : List ℕ) : List ℕ → List RowAnswer → List Float → List Float → Type 0 where
+pub data RowCalls (w : Window) (scale : Float) (list : List ℕ) : List ℕ → List RowAnswer → List Float → List Float
+    → Type 0 where
   done : {s : List Float} → RowCalls w scale list [] [] s s
   call : {y : ℕ} {ys : List ℕ} {r : RowAnswer} {rs : List RowAnswer} {s row t : List Float}
       → RowRan (rowOut (rowWindowOf w) scale (w .y0 + y) list (rowPart w y s)) r row
@@ -256,11 +300,14 @@ pub record Rows-agree (list ys : List ℕ) (rs : List RowAnswer) (t : List Float
 
 abbrev pub Row-calls : Type 0
 Row-calls =
-    (w : Window) (set : Settings) (room : Room) (list : List ℕ) (s : List Float) (names ys : List ℕ) (rs : List RowAnswer) (t : List Float) (e : End Float)
-    → RowForm·if w set list names ys → Meets (f32Out w set room list s names) room e → RowCalls w (set .scale) list ys rs s t
+    (w : Window) (set : Settings) (room : Room) (list : List ℕ) (s : List Float) (names ys : List ℕ)
+    (rs : List RowAnswer) (t : List Float) (e : End Float)
+    → RowForm·if w set list names ys → Meets (f32Out w set room list s names) room e
+    → RowCalls w (set .scale) list ys rs s t
     → Rows-agree list ys rs t e
 
--- both runs answer 0 with the same totals, the samples are the f32 run's rounded once and held, and the names written are its names but for empty tables
+-- both runs answer 0 with the same totals, the samples are the f32 run's rounded once and held, and the names written
+-- are its names but for empty tables
 pub record Wholes-agree (e : End ℕ) (e′ : End Float) : Type 0 where
   pub skips16 : ℕ
   pub skips32 : ℕ
@@ -275,7 +322,8 @@ abbrev pub Whole-calls : Type 0
 Whole-calls =
     (w : Window) (period : ℕ) (room room′ : Room) (list s names names′ : List ℕ) (e : End ℕ) (e′ : End Float)
     → WholeForm·if w period room room′ list s names names′
-    → Meets (u16Out w period room list s names) room e → Meets (f32Out w (atOne period) room′ list (widened s) names′) room′ e′
+    → Meets (u16Out w period room list s names) room e → Meets (f32Out w (atOne period) room′ list (widened s) names′)
+    room′ e′
     → Wholes-agree e e′
 
 -- The same with one scratch for both, however short, and on 1, 2 and 5 too: the f32 run answers what the whole-number
@@ -288,8 +336,10 @@ pub record Wholes-alike (list : List ℕ) (e : End ℕ) (e′ : End Float) : Typ
 
 abbrev pub Whole-calls-alike : Type 0
 Whole-calls-alike =
-    (w : Window) (period : ℕ) (room : Room) (list s names names′ : List ℕ) (e : End ℕ) (e′ : End Float) → Together·if list s names names′
-    → Meets (u16Out w period room list s names) room e → Meets (f32Out w (atOne period) room list (widened s) names′) room e′
+    (w : Window) (period : ℕ) (room : Room) (list s names names′ : List ℕ) (e : End ℕ) (e′ : End Float)
+    → Together·if list s names names′
+    → Meets (u16Out w period room list s names) room e → Meets (f32Out w (atOne period) room list (widened s) names′)
+    room e′
     → Wholes-alike list e e′
 
 -- ---- 6. the verdict: a frame is whole when a run answers 0 and skips nothing

@@ -84,9 +84,11 @@ worked = row-form window settings room list before [] order held
 
 -- both sides, computed
 pub rows-worked : allRows window (settings .scale) list order before ≡ after
-unfolding big each selects onColumns readingOf itemsOf counted readFrom stepAt nextAt parsedAt countedAt onRegion onWindow onRow inWindow active wholePixel nth scaled namesOf takesRows performAll rowOn inRange rowInRange ranOn runOut rowOut allRows ofInt round units odd size span climb mul ofBits
+unfolding big each selects onColumns readingOf itemsOf counted readFrom stepAt nextAt parsedAt countedAt onRegion onWindow onRow inWindow active wholePixel nth
+    scaled namesOf takesRows performAll rowOn inRange rowInRange ranOn runOut rowOut allRows ofInt round units odd size span climb mul ofBits
 rows-worked = refl
 
 pub run-worked : f32Out window settings room list before [] ≡ record { answer = Ans.Done 0 0 0; samples = after; names = [] }
-unfolding big each selects onColumns readingOf itemsOf counted readFrom stepAt nextAt parsedAt countedAt onRegion onWindow onRow inWindow active wholePixel nth scaled namesOf takesRows performAll rowOn inRange rowInRange ranOn runOut rowOut allRows ofInt round units odd size span climb mul ofBits
+unfolding big each selects onColumns readingOf itemsOf counted readFrom stepAt nextAt parsedAt countedAt onRegion onWindow onRow inWindow active wholePixel nth
+    scaled namesOf takesRows performAll rowOn inRange rowInRange ranOn runOut rowOut allRows ofInt round units odd size span climb mul ofBits
 run-worked = refl

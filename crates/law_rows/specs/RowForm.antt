@@ -1,5 +1,6 @@
--- Demand 3, the row form: every row once, in any order, under its own number, equals the whole-window run. Document 01, 'Taken and left', the row form;
--- data that ends early included. The run goes opcode by opcode over the window (specs/Run of dng); here each row goes through all opcodes on its own.
+-- Demand 3, the row form: every row once, in any order, under its own number, equals the whole-window run. Document 01,
+-- 'Taken and left', the row form; data that ends early included. The run goes opcode by opcode over the window
+-- (specs/Run of dng); here each row goes through all opcodes on its own.
 use Prim.Native.Nat.{ℕ, _+_, _-_, _*_, _≤_, _<_, min}
 use mathlib.Core.Bool.{Bool, true, cond}
 use mathlib.Core.List.{List, [], _∷_, _++_}
@@ -26,7 +27,8 @@ occurs y (z ∷ zs) = cond (eqb y z) 1 0 + occurs y zs
 abbrev pub Once : (h : ℕ) → List ℕ → Type 0
 Once h ys = (y : ℕ) → occurs y ys ≡ cond (ltb y h) 1 0
 
--- where row y of the window starts in n lent samples, and how many of them it has: width·planes, or what the data has left
+-- where row y of the window starts in n lent samples, and how many of them it has: width·planes, or what the data has
+-- left
 abbrev pub rowStart : Window → ℕ → ℕ
 rowStart w y = y * (w .stride * w .planes)
 
@@ -43,7 +45,13 @@ rowPut w y row s = take (rowStart w y) s ++ (row ++ drop (rowLength w (length s)
 
 abbrev pub rowWindowOf : Window → RowWindow
 rowWindowOf w =
-    record { width = w .width; planes = w .planes; x0 = w .x0; «full_width» = w .«full_width»; «full_height» = w .«full_height» }
+    record {
+      width = w .width;
+      planes = w .planes;
+      x0 = w .x0;
+      «full_width» = w .«full_width»;
+      «full_height» = w .«full_height»;
+    }
 
 -- one row call on row y of the window, under its own number y0 + y
 abbrev pub oneRow : Window → (scale : Float) → List ℕ → (y : ℕ) → List Float → List Float
@@ -55,10 +63,12 @@ allRows w scale list [] s = s
 allRows w scale list (y ∷ ys) s = allRows w scale list ys (oneRow w scale list y s)
 
 -- what the row form promises
-pub record RowForm (w : Window) (set : Settings) (room : Room) (list : List ℕ) (s : List Float) (names : List ℕ) (ys : List ℕ) : Type 0 where
+pub record RowForm (w : Window) (set : Settings) (room : Room) (list : List ℕ) (s : List Float) (names : List ℕ)
+    (ys : List ℕ) : Type 0 where
   -- every row call answers 0, whatever the samples are by then
   pub calls : (y : ℕ) (t : List Float) → y < w .height
-      → rowOut (rowWindowOf w) (set .scale) (w .y0 + y) list (rowPart w y t) .answer ≡ Row.Done (length (namesOf skipped (itemsOf list)))
+      → rowOut (rowWindowOf w) (set .scale) (w .y0 + y) list (rowPart w y t) .answer
+      ≡ Row.Done (length (namesOf skipped (itemsOf list)))
   -- and so does the run, with nothing repaired and nothing left
   pub run : f32Out w set room list s names .answer ≡ Ans.Done (length (namesOf skipped (itemsOf list))) 0 0
   pub samples : allRows w (set .scale) list ys s ≡ f32Out w set room list s names .samples

@@ -119,17 +119,21 @@ worked16 room = tiles-give-the-frame ℕ u16Form frame 1 room table before16 [] 
 
 -- both sides, computed
 pub tiles-worked : (room : Room) → allTiles (f32Form frame (whole 1)) 1 room list [] frame order before ≡ after
-unfolding big each selects onColumns readingOf itemsOf counted readFrom stepAt nextAt parsedAt countedAt onRegion onWindow inWindow active wholePixel nth scaled namesOf performAll inRange ranOn runOut allTiles ofInt round units odd size span climb mul ofBits
+unfolding big each selects onColumns readingOf itemsOf counted readFrom stepAt nextAt parsedAt countedAt onRegion onWindow inWindow active wholePixel nth
+    scaled namesOf performAll inRange ranOn runOut allTiles ofInt round units odd size span climb mul ofBits
 tiles-worked room = refl
 
 pub run-worked : (room : Room) → outOn (f32Form frame (whole 1)) 1 room list [] frame before .samples ≡ after
-unfolding big each selects onColumns readingOf itemsOf counted readFrom stepAt nextAt parsedAt countedAt onRegion onWindow inWindow active wholePixel nth scaled namesOf performAll inRange ranOn runOut ofInt round units odd size span climb mul ofBits
+unfolding big each selects onColumns readingOf itemsOf counted readFrom stepAt nextAt parsedAt countedAt onRegion onWindow inWindow active wholePixel nth
+    scaled namesOf performAll inRange ranOn runOut ofInt round units odd size span climb mul ofBits
 run-worked room = refl
 
 pub tiles-worked16 : (room : Room) → allTiles u16Form 1 room table [] frame order before16 ≡ after16
-unfolding big each selects onColumns readingOf itemsOf counted readFrom stepAt nextAt parsedAt countedAt onRegion onWindow inWindow active wholePixel mapTable16 namesOf takes16On takes16From performAll inRange ranOn runOut allTiles
+unfolding big each selects onColumns readingOf itemsOf counted readFrom stepAt nextAt parsedAt countedAt onRegion onWindow inWindow active wholePixel
+    mapTable16 namesOf takes16On takes16From performAll inRange ranOn runOut allTiles
 tiles-worked16 room = refl
 
 pub run-worked16 : (room : Room) → outOn u16Form 1 room table [] frame before16 .samples ≡ after16
-unfolding big each selects onColumns readingOf itemsOf counted readFrom stepAt nextAt parsedAt countedAt onRegion onWindow inWindow active wholePixel mapTable16 namesOf takes16On takes16From performAll inRange ranOn runOut
+unfolding big each selects onColumns readingOf itemsOf counted readFrom stepAt nextAt parsedAt countedAt onRegion onWindow inWindow active wholePixel
+    mapTable16 namesOf takes16On takes16From performAll inRange ranOn runOut
 run-worked16 room = refl

@@ -183,7 +183,8 @@ module _ (w : Window) (period : ℕ) (room room′ : Room) (planes : 0 < w .plan
     where
       on : (g : Progress ℕ) (h : Progress Float) → Step w room (λ (f : Bool). takes16From f is) g h
           → ((f : Bool) (s′ : List ℕ) (t′ : List Float) (r′ l′ : ℕ) → takes16From f is ≡ true → Pairs (Rel f) s′ t′
-          → Ends w room (performAll u16Kind w period room list (suc k) is (going s′ r′ l′)) (performAll (kind32 w) w period room′ list (suc k) is (going t′ r′ l′)))
+          → Ends w room (performAll u16Kind w period room list (suc k) is (going s′ r′ l′))
+          (performAll (kind32 w) w period room′ list (suc k) is (going t′ r′ l′)))
           → Ends w room (performAll u16Kind w period room list (suc k) is g) (performAll (kind32 w) w period room′ list (suc k) is h)
       on g h (goes {s = s′} {t = t′} {r = r′} {l = l′} f q ps) more = more f s′ t′ r′ l′ q ps
       on g h (noMarks {s = s′} {t = t′} {k = o} short ps) more =

@@ -1,4 +1,5 @@
--- Demand 3, the whole-number form, with the same scratch in both runs, however short: they answer alike and their samples agree, on refusals too.
+-- Demand 3, the whole-number form, with the same scratch in both runs, however short: they answer alike and their
+-- samples agree, on refusals too.
 use Prim.Native.Nat.{ℕ, _≤_}
 use mathlib.Core.Bool.{true}
 use mathlib.Core.List.{List}
@@ -25,7 +26,8 @@ renamed m (Ans.Marks k) = Ans.Marks k
 pub record Together (w : Window) (period : ℕ) (room : Room) (list s names names′ : List ℕ) : Type 0 where
   pub answers : f32Out w (atOne period) room list (widened s) names′ .answer
       ≡ renamed (length (namesOf skipped (itemsOf list))) (u16Out w period room list s names .answer)
-  pub samples : u16Out w period room list s names .samples ≡ narrowed (f32Out w (atOne period) room list (widened s) names′ .samples)
+  pub samples : u16Out w period room list s names .samples
+      ≡ narrowed (f32Out w (atOne period) room list (widened s) names′ .samples)
 
 -- when they do: the list is one that the whole-number form takes, and both have room for their names
 pub record Together·if (list s names names′ : List ℕ) : Type 0 where
@@ -38,4 +40,5 @@ pub record Together·if (list s names names′ : List ℕ) : Type 0 where
 -- the theorem's statement; proofs/Theorem proves it
 abbrev pub Same-scratch : Type 0
 Same-scratch =
-    (w : Window) (period : ℕ) (room : Room) (list s names names′ : List ℕ) → Together·if list s names names′ → Together w period room list s names names′
+    (w : Window) (period : ℕ) (room : Room) (list s names names′ : List ℕ) → Together·if list s names names′
+    → Together w period room list s names names′

@@ -1,5 +1,5 @@
--- Demand 3, the whole-number form: it equals widen, run at scale 1, round once and hold. The two runs go by different rules
--- (specs/Run of dng: f32Kind and u16Kind); this is the bridge.
+-- Demand 3, the whole-number form: it equals widen, run at scale 1, round once and hold. The two runs go by different
+-- rules (specs/Run of dng: f32Kind and u16Kind); this is the bridge.
 use Prim.Native.Nat.{ℕ, _≤_, _<_}
 use mathlib.Core.Bool.{Bool, true, cond}
 use mathlib.Core.List.{List, [], _∷_, map}
@@ -47,9 +47,12 @@ pub record WholeForm (w : Window) (period : ℕ) (room room′ : Room) (list s n
   -- both runs answer 0, with the same totals
   pub repaired : ℕ
   pub left : ℕ
-  pub run16 : u16Out w period room list s names .answer ≡ Ans.Done (length (namesOf skipped16 (itemsOf list))) repaired left
-  pub run32 : f32Out w (atOne period) room′ list (widened s) names′ .answer ≡ Ans.Done (length (namesOf skipped (itemsOf list))) repaired left
-  pub samples : u16Out w period room list s names .samples ≡ narrowed (f32Out w (atOne period) room′ list (widened s) names′ .samples)
+  pub run16 : u16Out w period room list s names .answer ≡ Ans.Done (length (namesOf skipped16 (itemsOf list))) repaired
+      left
+  pub run32 : f32Out w (atOne period) room′ list (widened s) names′ .answer
+      ≡ Ans.Done (length (namesOf skipped (itemsOf list))) repaired left
+  pub samples : u16Out w period room list s names .samples
+      ≡ narrowed (f32Out w (atOne period) room′ list (widened s) names′ .samples)
   pub named : namesOf skipped16 (itemsOf list) ≡ withoutTables (namesOf skipped (itemsOf list))
 
 -- when it does

@@ -1,4 +1,5 @@
--- The bodies that dng/specs/List writes out in `parsedAt`, by name: the contracts inside this crate cite them. Document 01, 'The list'.
+-- The bodies that dng/specs/List writes out in `parsedAt`, by name: the contracts inside this crate cite them. Document
+-- 01, 'The list'.
 use Prim.Native.Nat.{ℕ, _+_}
 use mathlib.Core.Bool.{cond}
 use mathlib.Core.List.{List}

@@ -1,4 +1,5 @@
-// The body of an entry, by its id: the header fields of an opcode, or a malformed body. What a count counts stays in the list.
+// The body of an entry, by its id: the header fields of an opcode, or a malformed body. What a count counts stays in
+// the list.
 // The body starts at `at` of the list and is `len` bytes long; every function takes any position and any length.
 use dng::Entry;
 use dng::Opcode;

@@ -30,4 +30,10 @@ isRepair Run.unapplied = false
 
 abbrev pub factsOf : Run.Class → Facts
 factsOf k =
-    record { local = isLocal k; repair = isRepair k; «by_row» = Run.rowTakes k; skipped = Run.skipped k; skipped16 = Run.skipped16 k }
+    record {
+      local = isLocal k;
+      repair = isRepair k;
+      «by_row» = Run.rowTakes k;
+      skipped = Run.skipped k;
+      skipped16 = Run.skipped16 k;
+    }

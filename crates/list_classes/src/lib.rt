@@ -56,8 +56,8 @@ pub fn name_of(op: Opcode) -> u8
     }
 }
 
-// What one opcode is to the forms: a pixel opcode that no whole-number form has, a repair, taken by the row form, skipped by the f32 run, and
-// skipped by the whole-number run, where an empty table has no name.
+// What one opcode is to the forms: a pixel opcode that no whole-number form has, a repair, taken by the row form,
+// skipped by the f32 run, and skipped by the whole-number run, where an empty table has no name.
 pub struct Facts {
     pub local: bool,
     pub repair: bool,
@@ -67,7 +67,13 @@ pub struct Facts {
 }
 
 fn made_of(local: bool, repair: bool, by_row: bool, skipped: bool, skipped16: bool) -> Facts
-    ensures { λ r. ⌜ r ≡ record { local = local; repair = repair; «by_row» = «by_row»; skipped = skipped; skipped16 = skipped16 } ⌝ }
+    ensures { λ r. ⌜ r ≡ record {
+      local = local;
+      repair = repair;
+      «by_row» = «by_row»;
+      skipped = skipped;
+      skipped16 = skipped16;
+    } ⌝ }
 {
     Facts {
         local,

@@ -1,4 +1,5 @@
--- The tests of a body's counts, as the layout in dng/specs/List has them, for a body of `len` bytes. Document 01, 'The list'.
+-- The tests of a body's counts, as the layout in dng/specs/List has them, for a body of `len` bytes. Document 01, 'The
+-- list'.
 use Prim.Native.Nat.{ℕ, _+_, _*_, max}
 use mathlib.Core.Bool.{Bool, _&&_}
 use mathlib.Core.List.{List}

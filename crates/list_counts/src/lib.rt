@@ -1,5 +1,5 @@
-// The tests of a body's counts: whether what they count lies inside the body. Each compares with what the body has left, so that no sum
-// can wrap. The body starts at `at` of the list and is `len` bytes long.
+// The tests of a body's counts: whether what they count lies inside the body. Each compares with what the body has
+// left, so that no sum can wrap. The body starts at `at` of the list and is `len` bytes long.
 use dng::Opcode;
 ghost use mathlib.Core.Path.{_≡_};
 ghost use Prim.Native.Nat.{_+_, max};
@@ -79,7 +79,8 @@ fn planes_of(m: u32) -> usize
     if m == 0 { 1 } else { m as usize }
 }
 
-// v·h is at most (2^32 - 1)^2. Where it passes the limit, so does the product with the planes, which might not fit 64 bits.
+// v·h is at most (2^32 - 1)^2. Where it passes the limit, so does the product with the planes, which might not fit 64
+// bits.
 pub fn gains_fit(list: &[u8], at: usize, len: usize) -> bool
     ensures { λ r. ⌜ r ≡ gainsFit (gainsAt (now (list .entry)) at) len ⌝ }
 {

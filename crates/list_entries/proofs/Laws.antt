@@ -25,7 +25,8 @@ module _ (s : List ℕ) (c : Cursor) where
   unfolding nextAt
   long p h l = simp (le-leb _ _ h, lt-leb _ _ (rw p at l))
 
-  pub found : {e : Entry} → e ≡ headerAt s (c .at) → c .at + 16 ≤ length s → c .at + 16 + e .len ≤ length s → N.Found e (record { at = c .at + 16 + e .len }) ≡ nextAt s c
+  pub found : {e : Entry} → e ≡ headerAt s (c .at) → c .at + 16 ≤ length s → c .at + 16 + e .len ≤ length s → N.Found e (record { at = c .at + 16 + e .len })
+      ≡ nextAt s c
   unfolding nextAt
   found p h l = rw p (simp (le-leb _ _ h, le-leb _ _ (rw p at l)))
 

@@ -1,4 +1,5 @@
--- The two flag bits that have a name; the word itself is kept raw in the entry. Document 01, 'The list': bit 0 is optional, bit 1 preview only.
+-- The two flag bits that have a name; the word itself is kept raw in the entry. Document 01, 'The list': bit 0 is
+-- optional, bit 1 preview only.
 use Prim.Native.Nat.{_/_, _%_}
 use mathlib.Core.Bool.{Bool}
 use lib.Dec.{eqb}

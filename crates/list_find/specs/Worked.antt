@@ -173,11 +173,13 @@ pub record Numbers : Type 0 where
   pub part : partOf (1 ∷ 2 ∷ 3 ∷ 4 ∷ []) 1 2 ≡ 2 ∷ 3 ∷ []
 
 pub header : Header
-unfolding big little whole valueAt inside isList isSubs listAt ownFrom visit subOf subsFrom subsAt anySubs allSubs directory chain headed foundIn
+unfolding big little whole valueAt inside isList isSubs listAt ownFrom visit subOf subsFrom subsAt anySubs allSubs
+    directory chain headed foundIn
 header = record { empty = refl; short = refl; other = refl; turned = refl; mixed = refl; none = refl; low = refl }
 
 own : (most : Bool) → Own most
-unfolding big little whole valueAt inside isList isSubs listAt ownFrom visit subOf subsFrom subsAt anySubs allSubs directory chain headed foundIn
+unfolding big little whole valueAt inside isList isSubs listAt ownFrom visit subOf subsFrom subsAt anySubs allSubs
+    directory chain headed foundIn
 own true =
     record {
       inline = refl;
@@ -212,14 +214,16 @@ own false =
     }
 
 directories : (most : Bool) → Directories most
-unfolding big little whole valueAt inside isList isSubs listAt ownFrom visit subOf subsFrom subsAt anySubs allSubs directory chain headed foundIn
+unfolding big little whole valueAt inside isList isSubs listAt ownFrom visit subOf subsFrom subsAt anySubs allSubs
+    directory chain headed foundIn
 directories true =
     record { cut = refl; after = refl; chained = refl; unfollowed = refl; followed = refl; odd = refl; loop = refl }
 directories false =
     record { cut = refl; after = refl; chained = refl; unfollowed = refl; followed = refl; odd = refl; loop = refl }
 
 subs : (most : Bool) → Subs most
-unfolding big little whole valueAt inside isList isSubs listAt ownFrom visit subOf subsFrom subsAt anySubs allSubs directory chain headed foundIn
+unfolding big little whole valueAt inside isList isSubs listAt ownFrom visit subOf subsFrom subsAt anySubs allSubs
+    directory chain headed foundIn
 subs true =
     record {
       one = refl;
@@ -258,7 +262,8 @@ subs false =
     }
 
 limit : Limit
-unfolding big little whole valueAt inside isList isSubs listAt ownFrom visit subOf subsFrom subsAt anySubs allSubs directory chain headed foundIn
+unfolding big little whole valueAt inside isList isSubs listAt ownFrom visit subOf subsFrom subsAt anySubs allSubs
+    directory chain headed foundIn
 limit = record { chain64 = refl; chain65 = refl; full = refl; over = refl; unseen = refl; zero = refl; last = refl }
 
 numbers : Numbers

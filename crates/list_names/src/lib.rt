@@ -1,5 +1,5 @@
-// The bytes that name the skipped opcodes of a list, in a lent buffer. They go by the entries that are read whole, also where the list is malformed
-// after them.
+// The bytes that name the skipped opcodes of a list, in a lent buffer. They go by the entries that are read whole, also
+// where the list is malformed after them.
 use dng::Cursor;
 use dng::Opcode;
 use dng::Step;
@@ -21,7 +21,8 @@ fn skips(op: Opcode, whole: bool) -> bool
 
 // The name of an opcode at j, if it is skipped.
 fn put(names: &mut [u8], j: usize, op: Opcode, whole: bool)
-    ensures { λ _. ⌜ now (names .exit) ≡ cond (skippedIn whole (classOf op)) (set (now (names .entry)) j (nameOf op)) (now (names .entry)) ⌝ }
+    ensures { λ _. ⌜ now (names .exit) ≡ cond (skippedIn whole (classOf op)) (set (now (names .entry)) j (nameOf op))
+        (now (names .entry)) ⌝ }
 {
     if skips(op, whole) {
         if j < names.len() {
@@ -32,7 +33,8 @@ fn put(names: &mut [u8], j: usize, op: Opcode, whole: bool)
 
 // All names from the buffer's start on. What has no room is dropped.
 fn put_all(list: &[u8], names: &mut [u8], whole: bool)
-    ensures { λ _. ⌜ now (names .exit) ≡ sets (now (names .entry)) 0 (namesOf (skippedIn whole) (itemsOf (now (list .entry)))) ⌝ }
+    ensures { λ _. ⌜ now (names .exit) ≡ sets (now (names .entry)) 0
+        (namesOf (skippedIn whole) (itemsOf (now (list .entry)))) ⌝ }
 {
     let n = list_read::count(list);
     let mut j: usize = 0;
@@ -62,7 +64,8 @@ pub fn write_names(list: &[u8], names: &mut [u8])
 
 // The names of the whole-number run.
 pub fn write_names16(list: &[u8], names: &mut [u8])
-    ensures { λ _. ⌜ now (names .exit) ≡ sets (now (names .entry)) 0 (namesOf skipped16 (itemsOf (now (list .entry)))) ⌝ }
+    ensures { λ _. ⌜ now (names .exit) ≡ sets (now (names .entry)) 0
+        (namesOf skipped16 (itemsOf (now (list .entry)))) ⌝ }
 {
     put_all(list, &mut *names, true)
 }

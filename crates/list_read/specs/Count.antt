@@ -1,4 +1,5 @@
--- How many entries a list is read for: its count, and none where the count cannot be read or passes the limit. Document 01, 'The list'.
+-- How many entries a list is read for: its count, and none where the count cannot be read or passes the limit. Document
+-- 01, 'The list'.
 use Prim.Native.Nat.{ℕ}
 use mathlib.Core.Bool.{cond}
 use mathlib.Core.List.{List}

@@ -1,5 +1,6 @@
--- What one pass over a list finds: how it is read (dng/specs/List), and of the entries that are read whole which forms take them and how many
--- opcodes each form skips (dng/specs/Run). Document 01, 'What comes back' and the last paragraph of 'What each does to a value'.
+-- What one pass over a list finds: how it is read (dng/specs/List), and of the entries that are read whole which forms
+-- take them and how many opcodes each form skips (dng/specs/Run). Document 01, 'What comes back' and the last paragraph
+-- of 'What each does to a value'.
 use Prim.Native.Nat.{ℕ, _+_}
 use mathlib.Core.Bool.{Bool, true, not, _&&_, _||_, cond}
 use mathlib.Core.List.{List, [], _∷_}
@@ -42,5 +43,11 @@ surveyedBy r n t =
     record {
       reading = r;
       survey =
-          record { opcodes = n; takes16 = t .takes16; «takes_rows» = t .«takes_rows»; skips = t .skips; skips16 = t .skips16 };
+          record {
+            opcodes = n;
+            takes16 = t .takes16;
+            «takes_rows» = t .«takes_rows»;
+            skips = t .skips;
+            skips16 = t .skips16;
+          };
     }

@@ -1,4 +1,5 @@
-// One pass over a list: whether it can be read whole, how many entries are, which forms take those, and how many opcodes each form skips.
+// One pass over a list: whether it can be read whole, how many entries are, which forms take those, and how many
+// opcodes each form skips.
 // What is said of the entries goes by those that are read whole, also where the list is malformed after them.
 use dng::Cursor;
 use dng::Opcode;
@@ -10,8 +11,8 @@ ghost use Rattle.dng.specs.Run.{classOf};
 ghost use Rattle.list_classes.specs.Classes.{factsOf};
 ghost use Rattle.list_survey.specs.Survey.{turnOn, surveyedBy, surveyOf};
 
-// How many entries are read whole, whether the whole-number form and the row form take them, and how many opcodes the f32 run and the
-// whole-number run skip.
+// How many entries are read whole, whether the whole-number form and the row form take them, and how many opcodes the
+// f32 run and the whole-number run skip.
 pub struct Survey {
     pub opcodes: usize,
     pub takes16: bool,

@@ -1,5 +1,5 @@
-// Reads the bytes of a list from standard input and prints its note: document 01, 'Notes program'. The buffer has room for one byte more than
-// a list may have, so that a list that is too long is seen.
+// Reads the bytes of a list from standard input and prints its note: document 01, 'Notes program'. The buffer has room
+// for one byte more than a list may have, so that a list that is too long is seen.
 use libc::STDIN_FILENO;
 use libc::STDOUT_FILENO;
 

@@ -8,6 +8,7 @@ use lib.Ieee.{Float, Format, lt, ofInt}
 abbrev pub wholeIn : Format → ℕ → Float
 wholeIn f n = ofInt f (pos n)
 
--- Held to a..b: below a becomes a, above b becomes b, all else stays, so −0 and NaN stay (document 01, 'What each does to a value').
+-- Held to a..b: below a becomes a, above b becomes b, all else stays, so −0 and NaN stay (document 01, 'What each does
+-- to a value').
 unfoldable pub heldTo : Float → Float → Float → Float
 heldTo a b x = cond (lt x a) a (cond (lt b x) b x)

@@ -28,19 +28,25 @@ pub record Worked : Type 0 where
   pub infinity : ofBits binary32 0x7f80_0000 ≡ ofBits binary64 0x7ff0_0000_0000_0000
   pub not-a-number : ofBits binary32 0x7fc0_0000 ≡ ofBits binary64 0x7ff8_0000_0000_0000
   -- held to 0..3: -1 becomes 0, 4 becomes 3, 2.5 and the ends stay
-  pub below : heldTo (wholeIn binary64 0) (wholeIn binary64 3) (ofBits binary64 0xbff0_0000_0000_0000) ≡ wholeIn binary64 0
+  pub below : heldTo (wholeIn binary64 0) (wholeIn binary64 3) (ofBits binary64 0xbff0_0000_0000_0000)
+      ≡ wholeIn binary64 0
   pub above : heldTo (wholeIn binary64 0) (wholeIn binary64 3) (wholeIn binary64 4) ≡ wholeIn binary64 3
   pub inside :
-      heldTo (wholeIn binary64 0) (wholeIn binary64 3) (ofBits binary64 0x4004_0000_0000_0000) ≡ ofBits binary64 0x4004_0000_0000_0000
+      heldTo (wholeIn binary64 0) (wholeIn binary64 3) (ofBits binary64 0x4004_0000_0000_0000)
+      ≡ ofBits binary64 0x4004_0000_0000_0000
   pub at-low : heldTo (wholeIn binary64 0) (wholeIn binary64 3) (wholeIn binary64 0) ≡ wholeIn binary64 0
   pub at-high : heldTo (wholeIn binary64 0) (wholeIn binary64 3) (wholeIn binary64 3) ≡ wholeIn binary64 3
   -- the infinities become the ends; -0 and NaN stay
-  pub infinite : heldTo (wholeIn binary64 0) (wholeIn binary64 3) (ofBits binary64 0x7ff0_0000_0000_0000) ≡ wholeIn binary64 3
-  pub infinite-below : heldTo (wholeIn binary64 0) (wholeIn binary64 3) (ofBits binary64 0xfff0_0000_0000_0000) ≡ wholeIn binary64 0
+  pub infinite : heldTo (wholeIn binary64 0) (wholeIn binary64 3) (ofBits binary64 0x7ff0_0000_0000_0000)
+      ≡ wholeIn binary64 3
+  pub infinite-below : heldTo (wholeIn binary64 0) (wholeIn binary64 3) (ofBits binary64 0xfff0_0000_0000_0000)
+      ≡ wholeIn binary64 0
   pub held-minus-zero :
-      heldTo (wholeIn binary64 0) (wholeIn binary64 3) (ofBits binary64 0x8000_0000_0000_0000) ≡ ofBits binary64 0x8000_0000_0000_0000
+      heldTo (wholeIn binary64 0) (wholeIn binary64 3) (ofBits binary64 0x8000_0000_0000_0000)
+      ≡ ofBits binary64 0x8000_0000_0000_0000
   pub held-nan :
-      heldTo (wholeIn binary64 0) (wholeIn binary64 3) (ofBits binary64 0x7ff8_0000_0000_0000) ≡ ofBits binary64 0x7ff8_0000_0000_0000
+      heldTo (wholeIn binary64 0) (wholeIn binary64 3) (ofBits binary64 0x7ff8_0000_0000_0000)
+      ≡ ofBits binary64 0x7ff8_0000_0000_0000
   -- where the low end is above the high one it comes first: 1 held to 3..0 is 3
   pub crossed : heldTo (wholeIn binary64 3) (wholeIn binary64 0) (wholeIn binary64 1) ≡ wholeIn binary64 3
 

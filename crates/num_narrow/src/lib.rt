@@ -12,7 +12,8 @@ fn small(a: u64) -> u32
     requires { ⌜ a < 0x3810_0000_0000_0000 ⌝ }
     ensures { λ r. ⌜
         (r ≤ 0x80_0000)
-        × ((s : Bool) → ofBits binary32 (cond s 0x8000_0000 0 + r) ≡ narrow (ofBits binary64 (cond s 0x8000_0000_0000_0000 0 + a)))
+        × ((s : Bool) → ofBits binary32 (cond s 0x8000_0000 0 + r)
+        ≡ narrow (ofBits binary64 (cond s 0x8000_0000_0000_0000 0 + a)))
         ⌝ }
 {
     if a <= 0x3690_0000_0000_0000 {
@@ -31,18 +32,19 @@ fn signed(b: u64, r: u32) -> f32
     f32::from_bits((b / 0x8000_0000_0000_0000 * 0x8000_0000) as u32 + r)
 }
 
-// The f32 of the f64 of the bits `b`, where that is a normal one. Rounds at the 29 digits that an f32 lacks, where a carry goes on into the
-// exponent; what that gives is an f32 exactly.
+// The f32 of the f64 of the bits `b`, where that is a normal one. Rounds at the 29 digits that an f32 lacks, where a
+// carry goes on into the exponent; what that gives is an f32 exactly.
 fn normal(b: u64) -> f32
-    requires { ⌜ (0x3810_0000_0000_0000 ≤ b % 0x8000_0000_0000_0000) × (b % 0x8000_0000_0000_0000 < 0x47ef_ffff_f000_0000) ⌝ }
+    requires { ⌜ (0x3810_0000_0000_0000 ≤ b % 0x8000_0000_0000_0000)
+        × (b % 0x8000_0000_0000_0000 < 0x47ef_ffff_f000_0000) ⌝ }
     ensures { λ r. ⌜ r ≡ narrow (ofBits binary64 b) ⌝ }
 {
     let t = (b + 0x0fff_ffff + b / 0x2000_0000 % 2) / 0x2000_0000 * 0x2000_0000;
     f64::from_bits(t) as f32
 }
 
-// Every x, by its bits without the sign. From 0x47ef_ffff_f000_0000, which is halfway between the largest f32 and 2^128, the result is an
-// infinity.
+// Every x, by its bits without the sign. From 0x47ef_ffff_f000_0000, which is halfway between the largest f32 and
+// 2^128, the result is an infinity.
 fn by_cases(x: f64) -> f32
     ensures { λ r. ⌜ r ≡ narrow x ⌝ }
 {

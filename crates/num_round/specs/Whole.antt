@@ -5,8 +5,10 @@ use mathlib.Core.Bool.{cond}
 use lib.IntN.{pos}
 use lib.Ieee.{Float, nan, inf, fin, binary64, up, down, toUnsigned, ofInt, sub}
 
--- Rounded to whole, half away from zero, and held to 0..last; NaN gives 0. A negative value is below 0 or rounds to −0: 0 either way.
--- A value num / den rounds to (2 num + den) / (2 den), rounded down. Document 01, MapTable and the u16 means: "rounded to whole, held to 0..last; NaN gives 0".
+-- Rounded to whole, half away from zero, and held to 0..last; NaN gives 0. A negative value is below 0 or rounds to −0:
+-- 0 either way.
+-- A value num / den rounds to (2 num + den) / (2 den), rounded down. Document 01, MapTable and the u16 means: "rounded
+-- to whole, held to 0..last; NaN gives 0".
 unfoldable pub roundHeld : ℕ → Float → ℕ
 roundHeld last nan = 0
 roundHeld last (inf s) = cond s 0 last

@@ -1,4 +1,5 @@
--- Worked values of the definitions in `Whole`, among them those that a slip would change. A float stands by its bit pattern.
+-- Worked values of the definitions in `Whole`, among them those that a slip would change. A float stands by its bit
+-- pattern.
 use mathlib.Core.Path.{_≡_, refl}
 use Prim.Native.Nat.{ℕ}
 use lib.Ieee.{binary32, binary64, sub, ofInt, toUnsigned, ofBits}

@@ -8,8 +8,9 @@ ghost use lib.Ieee.{fin, lt, binary32, ofInt};
 ghost use Rattle.num_round.specs.Whole.{roundHeld, FloorIs};
 
 // An x below 2^24, which no NaN is. A negative x gives 0, as 0.0 does.
-// The sum is 2^26 or more and below 2^27, so its pattern ends in the whole part of h + 0.5, 26 digits, and 26 digits of the fraction. The
-// digits past those are rounded away, and that rounds nothing up to a whole number: an h with such digits is below a quarter.
+// The sum is 2^26 or more and below 2^27, so its pattern ends in the whole part of h + 0.5, 26 digits, and 26 digits of
+// the fraction. The digits past those are rounded away, and that rounds nothing up to a whole number: an h with such
+// digits is below a quarter.
 fn round_small(x: f32, last: u32) -> u32
     requires { ⌜ T (lt x (fin false 1 (pos 24))) ⌝ }
     ensures { λ r. ⌜ r ≡ roundHeld last x ⌝ }
@@ -46,7 +47,8 @@ pub fn round_held(x: f32, last: u32) -> u32
     }
 }
 
-// The same where last is below 2^24 and `top` is that number as a float: held before the sum, in floats, so that there is no branch.
+// The same where last is below 2^24 and `top` is that number as a float: held before the sum, in floats, so that there
+// is no branch.
 pub fn round_below(x: f32, last: u32, top: f32) -> u32
     requires { ⌜ (last < 16777216) × (top ≡ ofInt binary32 (pos last)) ⌝ }
     ensures { λ r. ⌜ r ≡ roundHeld last x ⌝ }
@@ -70,8 +72,8 @@ pub struct Floored {
     pub rest: f64,
 }
 
-// f rounded down and held to 32 bits, and what is left of f. With 2^52 added and taken off again f is rounded to the nearest whole
-// number, which is at most one too many. The last arm has a NaN, the zeros and what is negative.
+// f rounded down and held to 32 bits, and what is left of f. With 2^52 added and taken off again f is rounded to the
+// nearest whole number, which is at most one too many. The last arm has a NaN, the zeros and what is negative.
 pub fn floor(f: f64) -> Floored
     ensures { λ r. ⌜ FloorIs f (r .index) (r .rest) ⌝ }
 {

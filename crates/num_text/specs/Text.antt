@@ -14,7 +14,8 @@ text (c then s) = code c ∷ text s
 
 -- ---- a number in decimal: no sign and no zeros in front
 
--- the k lowest digits of n, and no zeros in front of the highest one; the `let` is there so that a computation ends with the digits
+-- the k lowest digits of n, and no zeros in front of the highest one; the `let` is there so that a computation ends
+-- with the digits
 unfoldable pub digitsIn : ℕ → ℕ → List ℕ
 digitsIn zero n = []
 digitsIn (suc k) n = let more = digitsIn k (n / 10) ++ ((48 + n % 10) ∷ []) in cond (ltb n 10) ((48 + n) ∷ []) more

@@ -1,4 +1,5 @@
-// Text in a lent buffer: each function puts bytes behind the text that ends at `at`, and returns where the text ends then. The callers see to room.
+// Text in a lent buffer: each function puts bytes behind the text that ends at `at`, and returns where the text ends
+// then. The callers see to room.
 ghost use mathlib.Core.Path.{_≡_};
 ghost use mathlib.Core.List.{_∷_, []};
 ghost use Prim.Native.Nat.{_+_, _≤_, _<_};

@@ -1,5 +1,5 @@
--- Numbers that stand in bytes. A byte past the end of the list counts as 0, so that a word is defined at every position;
--- whether a word lies inside is asked where the list's layout is defined.
+-- Numbers that stand in bytes. A byte past the end of the list counts as 0, so that a word is defined at every
+-- position; whether a word lies inside is asked where the list's layout is defined.
 -- Document 01, 'The list': big-endian throughout; its last line: samples little-endian.
 use Prim.Native.Nat.{ℕ, zero, suc, _+_, _*_, _/_, _%_, _^_}
 use mathlib.Core.List.{List}
@@ -15,7 +15,8 @@ unfoldable pub little : ℕ → List ℕ → ℕ → ℕ
 little zero s at = 0
 little (suc k) s at = little k s at + getD s (at + k) 0 * 256 ^ k
 
--- s with the k low bytes of n written from the position at on, the lowest first; what would fall past the end is dropped
+-- s with the k low bytes of n written from the position at on, the lowest first; what would fall past the end is
+-- dropped
 unfoldable pub put : ℕ → List ℕ → ℕ → ℕ → List ℕ
 put zero s at n = s
 put (suc k) s at n = set (put k s at n) (at + k) (n / 256 ^ k % 256)

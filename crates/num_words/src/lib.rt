@@ -1,5 +1,7 @@
-// Numbers that stand in bytes, read and written at any position: a byte past the end counts as 0, a store past the end is dropped.
-// A word inside is one load or store behind one test. A word across or past the end goes byte by byte, in a function of its own.
+// Numbers that stand in bytes, read and written at any position: a byte past the end counts as 0, a store past the end
+// is dropped.
+// A word inside is one load or store behind one test. A word across or past the end goes byte by byte, in a function of
+// its own.
 ghost use mathlib.Core.Path.{_≡_};
 ghost use Prim.Native.Nat.{_+_, _-_, _*_, _/_, _%_, _≤_, _<_};
 ghost use lib.ListN.{length, getD, set};
@@ -13,7 +15,8 @@ fn wide(x: u8) -> u64
     x as u64
 }
 
-// How many positions have k more bytes behind them: one comparison with it is the whole range test, and it moves out of a loop.
+// How many positions have k more bytes behind them: one comparison with it is the whole range test, and it moves out of
+// a loop.
 fn less(n: usize, k: usize) -> usize
     ensures { λ r. ⌜ r ≡ n - k ⌝ }
 {
@@ -81,7 +84,8 @@ fn half(s: &[u8], at: usize) -> u32
     }
 }
 
-// Eight bytes from at on. The three widths share it: called from several places it is not inlined, and the readers stay small enough to be.
+// Eight bytes from at on. The three widths share it: called from several places it is not inlined, and the readers stay
+// small enough to be.
 fn edge(s: &[u8], at: usize) -> u64
     ensures { λ r. ⌜ r ≡ big 8 (now (s .entry)) at ⌝ }
 {
@@ -127,7 +131,8 @@ pub fn u64_at(s: &[u8], at: usize) -> u64
 
 // ---- floats by their bits
 
-// Twice the pattern, cut to 32 bits, drops the sign: above twice the infinity's it is a NaN's. All of those give the one NaN.
+// Twice the pattern, cut to 32 bits, drops the sign: above twice the infinity's it is a NaN's. All of those give the
+// one NaN.
 pub fn f32_of(bits: u32) -> f32
     ensures { λ r. ⌜ r ≡ ofBits binary32 bits ⌝ }
 {

@@ -1,4 +1,5 @@
--- Worked values of the definitions, each by computing: P3 and P4 of document 01, 'Bench frames', and the ends of each run.
+-- Worked values of the definitions, each by computing: P3 and P4 of document 01, 'Bench frames', and the ends of each
+-- run.
 use Prim.Native.Nat.{_+_, _*_}
 use mathlib.Core.Path.{_≡_, refl}
 use mathlib.Core.Bool.{true, false}
@@ -31,13 +32,16 @@ pub p3-row : each (inRow 2 1 (onColumns 1 6 2 0 1 (λ x k v. x))) (0 ∷ 0 ∷ 0
 unfolding each inRow onColumns selects
 p3-row = refl
 
--- P4: plane 1, planes 5, window of 3, two columns: two planes of each. A sample touched becomes 10 times its column, and its plane.
-pub p4-two : each (inRow 4 3 (onColumns 0 9 1 1 5 (λ x k v. 10 * x + k))) (0 ∷ 0 ∷ 0 ∷ 0 ∷ 0 ∷ 0 ∷ []) ≡ 0 ∷ 41 ∷ 42 ∷ 0 ∷ 51 ∷ 52 ∷ []
+-- P4: plane 1, planes 5, window of 3, two columns: two planes of each. A sample touched becomes 10 times its column,
+-- and its plane.
+pub p4-two : each (inRow 4 3 (onColumns 0 9 1 1 5 (λ x k v. 10 * x + k))) (0 ∷ 0 ∷ 0 ∷ 0 ∷ 0 ∷ 0 ∷ [])
+    ≡ 0 ∷ 41 ∷ 42 ∷ 0 ∷ 51 ∷ 52 ∷ []
 unfolding each inRow onColumns selects
 p4-two = refl
 
 -- P4: plane 3, planes 5, window of 3: none
-pub p4-none : each (inRow 4 3 (onColumns 0 9 1 3 5 (λ x k v. 10 * x + k))) (0 ∷ 0 ∷ 0 ∷ 0 ∷ 0 ∷ 0 ∷ []) ≡ 0 ∷ 0 ∷ 0 ∷ 0 ∷ 0 ∷ 0 ∷ []
+pub p4-none : each (inRow 4 3 (onColumns 0 9 1 3 5 (λ x k v. 10 * x + k))) (0 ∷ 0 ∷ 0 ∷ 0 ∷ 0 ∷ 0 ∷ [])
+    ≡ 0 ∷ 0 ∷ 0 ∷ 0 ∷ 0 ∷ 0 ∷ []
 unfolding each inRow onColumns selects
 p4-none = refl
 

@@ -1,5 +1,5 @@
--- What the exported functions promise. The outputs are those of `dng`'s Answer; the byte forms add where the samples stand and an answer for
--- too little work room.
+-- What the exported functions promise. The outputs are those of `dng`'s Answer; the byte forms add where the samples
+-- stand and an answer for too little work room.
 use Prim.Native.Nat.{ℕ, _/_}
 use mathlib.Core.Bool.{Bool, true, false, _&&_, cond}
 use mathlib.Core.List.{List}
@@ -56,7 +56,8 @@ abbrev pub roomy : (size n work : ℕ) → Bool
 roomy size n work = leb (n / size) work
 
 -- A row in bytes. The test of the work room comes before all others; the work room is clear afterwards.
-pub record RowBytes (o : RowOut) (old : List ℕ) (work : ℕ) (r : RowNumbers) (bytes : List ℕ) (room : List Float) : Type 0 where
+pub record RowBytes (o : RowOut) (old : List ℕ) (work : ℕ) (r : RowNumbers) (bytes : List ℕ) (room : List Float) : Type
+    0 where
   pub answered : r ≡ cond (roomy 4 (length old) work) (rowNumbersFor (o .answer)) rowShort
   pub left : bytes ≡ cond (roomy 4 (length old) work) (rowBytes o old) old
   pub clear : room ≡ replicate work nought
@@ -94,8 +95,10 @@ module _ {A : Type 0} where
       pub named : names ≡ o .names
       pub marksClear : marks ≡ replicate (room .marks) 0
 
-    -- Samples in bytes. The test of the work room comes before all others; all typed room is clear afterwards, to `zero`.
-    pub record Bytes (zero : A) (o : Out A) (room : Room) (old oldNames : List ℕ) (work : ℕ) (r : Numbers) (bytes names marks : List ℕ) (rest : List A) : Type 0 where
+    -- Samples in bytes. The test of the work room comes before all others; all typed room is clear afterwards, to
+    -- `zero`.
+    pub record Bytes (zero : A) (o : Out A) (room : Room) (old oldNames : List ℕ) (work : ℕ) (r : Numbers)
+        (bytes names marks : List ℕ) (rest : List A) : Type 0 where
       pub answered : r ≡ cond (roomy size (length old) work) (numbersOf (o .answer)) short
       pub left : bytes ≡ cond (roomy size (length old) work) (bytesOf o old) old
       pub named : names ≡ cond (roomy size (length old) work) (o .names) oldNames

@@ -1,5 +1,6 @@
 // What C and Rust call. Every function answers for every argument; include/rolbhunga.h says it in C's words.
-// The forms over bytes are lent typed room beside them, since samples are typed inside: too little of it is an answer of its own.
+// The forms over bytes are lent typed room beside them, since samples are typed inside: too little of it is an answer
+// of its own.
 mod find;
 
 use dng::Answer;
@@ -37,8 +38,8 @@ ghost use Rattle.rolbhunga.specs.Calls.{
   Bytes,
 };
 
-// What a row call answers: document 01's number, the entries read whole before a malformed one, and how many opcodes of the list the f32
-// run names.
+// What a row call answers: document 01's number, the entries read whole before a malformed one, and how many opcodes of
+// the list the f32 run names.
 #[repr(C)]
 pub struct RowNumbers {
     pub number: u32,
@@ -152,7 +153,8 @@ pub extern "C" fn rolbhunga_bytes_row(
     work: &mut [f32],
 ) -> RowNumbers
     ensures { λ r.
-        ⌜ RowBytes (rowOut w scale y (now (list .entry)) (floatsIn (now (bytes .entry)))) (now (bytes .entry)) (length (now (work .entry)))
+        ⌜ RowBytes (rowOut w scale y (now (list .entry)) (floatsIn (now (bytes .entry)))) (now (bytes .entry))
+        (length (now (work .entry)))
         r (now (bytes .exit)) (now (work .exit)) ⌝ }
 {
     let n = bytes.len() / 4;
@@ -301,7 +303,8 @@ pub extern "C" fn rolbhunga_bytes_f32(
 fn put_u16(room: &[u16], bytes: &mut [u8], ran: bool)
     requires { ⌜ length (now room) * 2 ≤ length (now bytes) ⌝ }
     ensures { λ _.
-        ⌜ now (bytes .exit) ≡ cond ran (encoded 2 (λ n. n) 0 (now (room .entry)) (now (bytes .entry))) (now (bytes .entry)) ⌝ }
+        ⌜ now (bytes .exit) ≡ cond ran (encoded 2 (λ n. n) 0 (now (room .entry)) (now (bytes .entry)))
+        (now (bytes .entry)) ⌝ }
 {
     if ran {
         run_bytes::encode_u16(room, bytes);

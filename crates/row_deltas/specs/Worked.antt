@@ -1,4 +1,5 @@
--- Worked values, each by computing: what a missing delta does, and a value by its byte position. Document 01, 'What each does to a value v'.
+-- Worked values, each by computing: what a missing delta does, and a value by its byte position. Document 01, 'What
+-- each does to a value v'.
 use Prim.Native.Nat.{ℕ}
 use mathlib.Core.Bool.{true}
 use mathlib.Core.List.{List, [], _∷_}

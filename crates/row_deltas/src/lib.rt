@@ -1,5 +1,6 @@
 // Deltas and scales of rows and columns, on one plane of a lent row.
-// What is the same for a whole row, a row's delta or scale, is worked out once by the caller; a loop does what depends on the sample.
+// What is the same for a whole row, a row's delta or scale, is worked out once by the caller; a loop does what depends
+// on the sample.
 ghost use mathlib.Core.Path.{_≡_};
 ghost use Prim.Native.Nat.{_+_, _-_, _*_, _/_, _≤_, _<_};
 ghost use lib.ListN.{length};
@@ -33,7 +34,8 @@ fn span_of(k: Walk, n: usize) -> Span
     }
 }
 
-// ---- a value for the whole row. Where the places are neighbours, as at pitch 1 of one plane, a loop of its own goes several at a time.
+// ---- a value for the whole row. Where the places are neighbours, as at pitch 1 of one plane, a loop of its own goes
+// several at a time.
 
 fn add_dense(row: &mut [f32], begin: usize, stop: usize, d: f32)
     requires { ⌜ stop ≤ length (now row) ⌝ }
@@ -101,7 +103,8 @@ fn scale_steps(row: &mut [f32], begin: usize, stop: usize, step: usize, s: f32)
     }
 }
 
-// DeltaPerRow on a plane: d is the row's delta over the scale. No delta is left out: −0 + 0.0 is +0, and a scale of 0 gives NaN.
+// DeltaPerRow on a plane: d is the row's delta over the scale. No delta is left out: −0 + 0.0 is +0, and a scale of 0
+// gives NaN.
 pub fn add_row(row: &mut [f32], k: Walk, d: f32)
     requires { ⌜ Walks k (length (now row)) ⌝ }
     ensures { λ _. ⌜ now (row .exit) ≡ walked k (λ x p v. add binary32 v d) (now (row .entry)) ⌝ }
@@ -165,7 +168,8 @@ fn value_rare(body: &[u8], at: usize, past: usize, missing: f32) -> f32
     }
 }
 
-// The same, with one comparison where the value is there whole: `sure` is past neither the values nor the last four bytes of the body.
+// The same, with one comparison where the value is there whole: `sure` is past neither the values nor the last four
+// bytes of the body.
 fn value_from(body: &[u8], at: usize, past: usize, missing: f32) -> f32
     ensures { λ r. ⌜ r ≡ valueFrom (now (body .entry)) past missing at ⌝ }
 {
@@ -190,7 +194,8 @@ fn add_values(
     requires { ⌜ Strides (length (now row)) stop step × (first < 8589934592) ⌝ }
     ensures { λ _.
         ⌜ now (row .exit)
-        ≡ each (stepped begin stop step (λ m v. delta scale (nth n (now (body .entry)) nought (first + m)) v)) (now (row .entry)) ⌝ }
+        ≡ each (stepped begin stop step (λ m v. delta scale (nth n (now (body .entry)) nought (first + m)) v))
+        (now (row .entry)) ⌝ }
 {
     let past = 36 + 4 * (n as usize);
     let mut i = begin;
@@ -215,7 +220,8 @@ fn scale_values(
     requires { ⌜ Strides (length (now row)) stop step × (first < 8589934592) ⌝ }
     ensures { λ _.
         ⌜ now (row .exit)
-        ≡ each (stepped begin stop step (λ m v. scaled (nth n (now (body .entry)) one (first + m)) v)) (now (row .entry)) ⌝ }
+        ≡ each (stepped begin stop step (λ m v. scaled (nth n (now (body .entry)) one (first + m)) v))
+        (now (row .entry)) ⌝ }
 {
     let past = 36 + 4 * (n as usize);
     let mut i = begin;
@@ -233,7 +239,8 @@ pub fn add_columns(row: &mut [f32], k: Walk, body: &[u8], n: u32, scale: f32)
     requires { ⌜ Walks k (length (now row)) ⌝ }
     ensures { λ _.
         ⌜ now (row .exit)
-        ≡ walked k (λ x p v. delta scale (nth n (now (body .entry)) nought ((x - k .left) / k .pitch)) v) (now (row .entry)) ⌝ }
+        ≡ walked k (λ x p v. delta scale (nth n (now (body .entry)) nought ((x - k .left) / k .pitch)) v)
+        (now (row .entry)) ⌝ }
 {
     let a = span_of(k, row.len());
     add_values(row, a.begin, a.stop, a.step, body, n, k.nth, scale);

@@ -1,4 +1,5 @@
--- A row done in blocks of columns, whose positions stand in two lent tables. proofs/Blocks says that all blocks, one after another, are the row.
+-- A row done in blocks of columns, whose positions stand in two lent tables. proofs/Blocks says that all blocks, one
+-- after another, are the row.
 use Prim.Native.Nat.{ℕ, _+_, _*_, _≤_, _<_, min, max}
 use mathlib.Core.Path.{_≡_}
 use mathlib.Core.List.{List}

@@ -1,4 +1,5 @@
--- What the steps of a gain map answer, in the words of dng/specs/Value. Document 01, 'What each does to a value v', GainMap.
+-- What the steps of a gain map answer, in the words of dng/specs/Value. Document 01, 'What each does to a value v',
+-- GainMap.
 use Prim.Native.Nat.{ℕ, _-_, _*_, _≤_, _<_, max}
 use mathlib.Core.Path.{_≡_}
 use mathlib.Core.List.{List}
@@ -21,4 +22,5 @@ pub record Sized (pv ph mp m : ℕ) : Type 0 where
 
 -- one row and one map plane: v times the gain at the row's position fv and the position of column x
 unfoldable pub timesGain : List ℕ → Grid → (pv ph mp m full : ℕ) → Float → (x k : ℕ) → Float → Float
-timesGain b g pv ph mp m full fv x k v = mul binary32 v (gainOf b pv ph mp m fv (position x full (g .«origin_h») (g .«spacing_h») ph))
+timesGain b g pv ph mp m full fv x k v = mul binary32 v
+    (gainOf b pv ph mp m fv (position x full (g .«origin_h») (g .«spacing_h») ph))

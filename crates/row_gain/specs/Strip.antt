@@ -1,5 +1,5 @@
--- What the private steps of a row answer, over the records that the code carries. Nothing here has to be believed: proofs/Laws and proofs/Rows
--- say what it comes to in the words of dng/specs/Value.
+-- What the private steps of a row answer, over the records that the code carries. Nothing here has to be believed:
+-- proofs/Laws and proofs/Rows say what it comes to in the words of dng/specs/Value.
 use Prim.Native.Nat.{ℕ, _+_, _-_, _*_, _≤_, _<_, min, max}
 use mathlib.Core.Bool.{cond}
 use mathlib.Core.Path.{_≡_}
@@ -23,7 +23,8 @@ pub record RulerIs (full : ℕ) (origin spacing : Float) (n : ℕ) (r : Ruler) :
 unfoldable pub placeOn : Ruler → ℕ → Float
 placeOn r at =
     cond (lt nought (r .spacing))
-    (heldTo nought (r .last) (div binary64 (sub binary64 (div binary64 (wholeIn binary64 at) (r .full)) (r .origin)) (r .spacing)))
+    (heldTo nought (r .last) (div binary64 (sub binary64 (div binary64 (wholeIn binary64 at) (r .full)) (r .origin))
+    (r .spacing)))
     nought
 
 -- ---- a strip is two map rows

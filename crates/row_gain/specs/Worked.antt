@@ -1,4 +1,5 @@
--- Worked values of a gain map, each by computing. Document 01, 'What each does to a value v', GainMap. A float stands by its bit pattern.
+-- Worked values of a gain map, each by computing. Document 01, 'What each does to a value v', GainMap. A float stands
+-- by its bit pattern.
 use Prim.Native.Nat.{ℕ, _+_}
 use mathlib.Core.Path.{_≡_, refl}
 use mathlib.Core.Bool.{false}
@@ -41,7 +42,8 @@ unfolding position heldTo lt ofInt sub div ofBits
 held-high = refl
 
 -- −0 stays: column 0, origin 1, an infinite spacing; and so does the share
-pub minus-zero : position 0 2 (ofBits binary64 0x3ff0_0000_0000_0000) (inf false) 2 ≡ ofBits binary64 0x8000_0000_0000_0000
+pub minus-zero : position 0 2 (ofBits binary64 0x3ff0_0000_0000_0000) (inf false) 2
+    ≡ ofBits binary64 0x8000_0000_0000_0000
 unfolding position heldTo lt ofInt sub div ofBits
 minus-zero = refl
 
@@ -85,7 +87,8 @@ abbrev four : List ℕ
 four = map (0x3f ∷ 0x80 ∷ 0 ∷ 0 ∷ 0x40 ∷ 0 ∷ 0 ∷ 0 ∷ 0x40 ∷ 0x40 ∷ 0 ∷ 0 ∷ 0x40 ∷ 0x80 ∷ 0 ∷ 0 ∷ [])
 
 -- as 2 by 2 points: 2.5 in the middle
-pub middle : gainOf four 2 2 1 0 (ofBits binary64 0x3fe0_0000_0000_0000) (ofBits binary64 0x3fe0_0000_0000_0000) ≡ ofBits binary32 0x4020_0000
+pub middle : gainOf four 2 2 1 0 (ofBits binary64 0x3fe0_0000_0000_0000) (ofBits binary64 0x3fe0_0000_0000_0000)
+    ≡ ofBits binary32 0x4020_0000
 unfolding gainOf lineAt mix big ofBits toUnsigned ofInt sub mul add narrow round
 middle = refl
 

@@ -95,8 +95,8 @@ pub fn row_axis(g: Grid, y: u32, full_height: u32, points_v: u32) -> Axis
 
 // ---- two map rows mixed
 
-// The two map rows around an image row, as the code carries them: where in the body the gains of map column 0 stand, how far apart the map
-// columns are, the last map column, and the share of the second row.
+// The two map rows around an image row, as the code carries them: where in the body the gains of map column 0 stand,
+// how far apart the map columns are, the last map column, and the share of the second row.
 struct Strip {
     near: usize,
     far: usize,
@@ -136,7 +136,8 @@ fn strip_at(
         × AxisIs (position y full (g .«origin_v») (g .«spacing_v») «points_v») «points_v» v
         ⌝ }
     ensures { λ r. ⌜
-        StripAt «points_v» «points_h» (max «map_planes» 1) m (position y full (g .«origin_v») (g .«spacing_v») «points_v») r
+        StripAt «points_v» «points_h» (max «map_planes» 1) m
+        (position y full (g .«origin_v») (g .«spacing_v») «points_v») r
         ⌝ }
 {
     strip_of(v, points_h, at_least_one(map_planes), m)
@@ -153,7 +154,8 @@ fn line_at(body: &[u8], s: Strip, h: u32) -> f32
     a + (b - a) * s.share
 }
 
-// The lines of map column h and of the one after it, the second less the first: what the image columns between the two have in common.
+// The lines of map column h and of the one after it, the second less the first: what the image columns between the two
+// have in common.
 struct Pair {
     h: u32,
     a: f32,
@@ -194,7 +196,8 @@ fn end_of(len: usize, x0: usize, right: usize, planes: usize) -> usize
     row_select::smaller(len, row_select::less(right, x0) * planes)
 }
 
-// The selected columns of a row between the lines of a strip. Neighbours mostly lie between the same two map columns, so the pair is kept.
+// The selected columns of a row between the lines of a strip. Neighbours mostly lie between the same two map columns,
+// so the pair is kept.
 fn row_along(
     row: &mut [f32],
     k: Walk,
@@ -206,7 +209,8 @@ fn row_along(
     n: u32,
 )
     requires { ⌜ Walks k (length (now row)) × Reaches s × (s .last ≡ n - 1) ⌝ }
-    ensures { λ _. ⌜ now (row .exit) ≡ walked k (alongStrip (now (body .entry)) s full origin spacing n) (now (row .entry)) ⌝ }
+    ensures { λ _. ⌜ now (row .exit) ≡ walked k (alongStrip (now (body .entry)) s full origin spacing n)
+        (now (row .entry)) ⌝ }
 {
     let x0 = k.x0;
     let planes = k.planes;
@@ -229,8 +233,8 @@ fn row_along(
     }
 }
 
-// One row, one plane: every selected sample times the gain at its own place. v is the row's axis, m the plane of the map; y and full_height are
-// here for the contract alone, which says which row that is.
+// One row, one plane: every selected sample times the gain at its own place. v is the row's axis, m the plane of the
+// map; y and full_height are here for the contract alone, which says which row that is.
 pub fn gain_row(
     row: &mut [f32],
     k: Walk,
@@ -272,7 +276,8 @@ pub fn gain_row(
 
 // ---- a block of columns: the positions are worked out once and serve every row
 
-// Fills hs and ts with the lower point and the share of the image columns x, x + pitch and so on before `end`, and says for how many of them.
+// Fills hs and ts with the lower point and the share of the image columns x, x + pitch and so on before `end`, and says
+// for how many of them.
 pub fn fill_block(
     hs: &mut [u32],
     ts: &mut [f32],
@@ -286,7 +291,8 @@ pub fn fill_block(
 ) -> usize
     requires { ⌜ Fillable x pitch end (length (now hs)) (length (now ts)) ⌝ }
     ensures { λ r. ⌜
-        Filled x pitch full origin spacing n r (now (hs .exit)) (now (ts .exit)) × Counted x pitch end (length (now (hs .entry))) r
+        Filled x pitch full origin spacing n r (now (hs .exit)) (now (ts .exit))
+        × Counted x pitch end (length (now (hs .entry))) r
         ⌝ }
 {
     let r = ruler_of(full, origin, spacing, n);
@@ -303,8 +309,8 @@ pub fn fill_block(
     j
 }
 
-// The w selected columns of a row from image column x0 + from on. Their positions are the tables'; full, origin, spacing and n are here for
-// the contract alone, which says which positions those are.
+// The w selected columns of a row from image column x0 + from on. Their positions are the tables'; full, origin,
+// spacing and n are here for the contract alone, which says which positions those are.
 fn block_along(
     row: &mut [f32],
     k: Walk,
@@ -320,12 +326,14 @@ fn block_along(
     n: u32,
 )
     requires { ⌜
-        Walks k (length (now row)) × Begins k from w × Filled (k .x0 + from) (k .pitch) full origin spacing n w (now hs) (now ts)
+        Walks k (length (now row)) × Begins k from w × Filled (k .x0 + from) (k .pitch) full origin spacing n w
+        (now hs) (now ts)
         × Reaches s × (s .last ≡ n - 1)
         ⌝ }
     ensures { λ _. ⌜
         now (row .exit)
-        ≡ walked k (within (k .x0 + from) (k .x0 + from + w * k .pitch) (alongStrip (now (body .entry)) s full origin spacing n))
+        ≡ walked k (within (k .x0 + from) (k .x0 + from + w * k .pitch)
+        (alongStrip (now (body .entry)) s full origin spacing n))
         (now (row .entry))
         ⌝ }
 {
@@ -353,8 +361,8 @@ fn block_along(
     }
 }
 
-// One row, one plane, the w selected columns from image column x0 + from on, with their positions from `fill_block`. v is the row's axis; y and
-// full_height are here for the contract alone, which says which row that is.
+// One row, one plane, the w selected columns from image column x0 + from on, with their positions from `fill_block`. v
+// is the row's axis; y and full_height are here for the contract alone, which says which row that is.
 pub fn gain_block(
     row: &mut [f32],
     k: Walk,

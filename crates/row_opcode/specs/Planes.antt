@@ -1,5 +1,5 @@
--- The walk over one plane of a row, made from the row's place, a region and its first column; what the planes of a row share; and which samples
--- of a row are a region's.
+-- The walk over one plane of a row, made from the row's place, a region and its first column; what the planes of a row
+-- share; and which samples of a row are a region's.
 use Prim.Native.Nat.{ℕ, _+_, _-_, _/_, _%_, _<_, min, max}
 use mathlib.Core.Path.{_≡_}
 use mathlib.Core.Bool.{Bool, false, _&&_}
@@ -55,7 +55,8 @@ mapPlane plane first planes = min (plane - first) (max planes 1 - 1)
 abbrev pub AxisFor : Task → Place → Axis → Type 0
 AxisFor (Table n) g v = Unit
 AxisFor (Polynomial d) g v = Unit
-AxisFor (Gain pv ph grid mp) g v = AxisIs (position (g .y) (g .«full_height») (grid .«origin_v») (grid .«spacing_v») pv) pv v
+AxisFor (Gain pv ph grid mp) g v = AxisIs
+    (position (g .y) (g .«full_height») (grid .«origin_v») (grid .«spacing_v») pv) pv v
 AxisFor (DeltaRows n) g v = Unit
 AxisFor (DeltaColumns n) g v = Unit
 AxisFor (ScaleRows n) g v = Unit
@@ -66,7 +67,8 @@ abbrev pub ValueFor : Task → Region → (y : ℕ) → (body : List ℕ) → (s
 ValueFor (Table n) r y b scale d = Unit
 ValueFor (Polynomial e) r y b scale d = Unit
 ValueFor (Gain pv ph grid mp) r y b scale d = Unit
-ValueFor (DeltaRows n) r y b scale d = d ≡ div binary32 (mul binary32 (nth n b nought (rowIndex r y)) (wholeIn binary32 65535)) scale
+ValueFor (DeltaRows n) r y b scale d = d ≡ div binary32
+    (mul binary32 (nth n b nought (rowIndex r y)) (wholeIn binary32 65535)) scale
 ValueFor (DeltaColumns n) r y b scale d = Unit
 ValueFor (ScaleRows n) r y b scale d = d ≡ nth n b one (rowIndex r y)
 ValueFor (ScaleColumns n) r y b scale d = Unit

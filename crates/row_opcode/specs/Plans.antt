@@ -1,5 +1,5 @@
--- What an opcode is to a row: nothing, a vignette, or a task at the samples of a region. proofs/Plans says that a plan has its opcode's rule
--- and bounds, so that nothing here has to be believed.
+-- What an opcode is to a row: nothing, a vignette, or a task at the samples of a region. proofs/Plans says that a plan
+-- has its opcode's rule and bounds, so that nothing here has to be believed.
 use Prim.Native.Nat.{ℕ, _*_, max}
 use mathlib.Core.Bool.{Bool, true, cond, _&&_}
 use mathlib.Core.List.{List}

@@ -156,7 +156,8 @@ fn row_index(r: Region, y: u32) -> usize
 fn table_plane(row: &mut [f32], k: Walk, body: &[u8], n: u32, scale: f32)
     requires { ⌜ Walks k (length (now row)) ⌝ }
     ensures { λ _.
-        ⌜ now (row .exit) ≡ walked k (λ x p v. cond (eqb n 0) v (mapTable scale n (now (body .entry)) v)) (now (row .entry)) ⌝ }
+        ⌜ now (row .exit) ≡ walked k (λ x p v. cond (eqb n 0) v (mapTable scale n (now (body .entry)) v))
+        (now (row .entry)) ⌝ }
 {
     if 0 < n {
         row_tables::table_row(row, k, body, n, scale);
@@ -239,7 +240,8 @@ fn gain_plane(
         ⌜ ((scale : Float)
         → now (row .exit)
         ≡ walked k
-        (gained (frameAt scale (g .«full_width») (g .«full_height»)) (now (body .entry)) r «points_v» «points_h» grid «map_planes» (g .y))
+        (gained (frameAt scale (g .«full_width») (g .«full_height»)) (now (body .entry)) r «points_v» «points_h» grid
+        «map_planes» (g .y))
         (now (row .entry))) ⌝ }
 {
     let m = map_plane(k.plane, r.plane, map_planes);
@@ -272,11 +274,13 @@ fn one_plane(
     scale: f32,
 )
     requires { ⌜
-        Walks k (length (now row)) × Along r k × (taskFits t ≡ true) × AxisFor t g v × ValueFor t r (g .y) (now body) scale d
+        Walks k (length (now row)) × Along r k × (taskFits t ≡ true) × AxisFor t g v
+        × ValueFor t r (g .y) (now body) scale d
         ⌝ }
     ensures { λ _.
         ⌜ now (row .exit)
-        ≡ walked k (taskRule (frameAt scale (g .«full_width») (g .«full_height»)) r (now (body .entry)) t (g .y)) (now (row .entry)) ⌝ }
+        ≡ walked k (taskRule (frameAt scale (g .«full_width») (g .«full_height»)) r (now (body .entry)) t (g .y))
+        (now (row .entry)) ⌝ }
 {
     match t {
         Task::Table { n } => table_plane(row, k, body, n, scale),
@@ -318,8 +322,8 @@ pub fn planes_end(g: Place, r: Region) -> usize
     row_select::plane_end(r.plane, r.planes, g.planes as usize)
 }
 
-// Whether a row of len samples has any of the region's: a plane, a column, the first of that column's samples, and the row itself. The row's
-// pitch is asked last, since it may take a division.
+// Whether a row of len samples has any of the region's: a plane, a column, the first of that column's samples, and the
+// row itself. The row's pitch is asked last, since it may take a division.
 pub fn touched(g: Place, r: Region, start: Start, len: usize) -> bool
     requires { ⌜
         RowFits (g .x0) (g .planes) (g .y) len × First (r .left) (r .«col_pitch») (g .x0) (start .col) (start .nth)
@@ -350,7 +354,8 @@ fn region_planes(
     scale: f32,
 )
     requires { ⌜
-        RowFits (g .x0) (g .planes) (g .y) (length (now row)) × First (r .left) (r .«col_pitch») (g .x0) (start .col) (start .nth)
+        RowFits (g .x0) (g .planes) (g .y) (length (now row)) × First (r .left) (r .«col_pitch») (g .x0) (start .col)
+        (start .nth)
         × (taskFits t ≡ true)
         ⌝ }
     ensures { λ _.
@@ -371,7 +376,8 @@ fn region_planes(
 
 fn region_row(row: &mut [f32], g: Place, r: Region, t: Task, start: Start, body: &[u8], scale: f32)
     requires { ⌜
-        RowFits (g .x0) (g .planes) (g .y) (length (now row)) × First (r .left) (r .«col_pitch») (g .x0) (start .col) (start .nth)
+        RowFits (g .x0) (g .planes) (g .y) (length (now row)) × First (r .left) (r .«col_pitch») (g .x0) (start .col)
+        (start .nth)
         × (taskFits t ≡ true)
         ⌝ }
     ensures { λ _.
@@ -441,7 +447,8 @@ fn table_size(t: Task) -> u32
 fn table_plane16(row: &mut [u16], k: Walk, body: &[u8], n: u32)
     requires { ⌜ Walks k (length (now row)) ⌝ }
     ensures { λ _.
-        ⌜ now (row .exit) ≡ walked k (λ x p v. cond (eqb n 0) v (mapTable16 n (now (body .entry)) v)) (now (row .entry)) ⌝ }
+        ⌜ now (row .exit) ≡ walked k (λ x p v. cond (eqb n 0) v (mapTable16 n (now (body .entry)) v))
+        (now (row .entry)) ⌝ }
 {
     if 0 < n {
         row_tables::table_row16(row, k, body, n);
@@ -450,11 +457,13 @@ fn table_plane16(row: &mut [u16], k: Walk, body: &[u8], n: u32)
 
 fn region_planes16(row: &mut [u16], g: Place, r: Region, n: u32, start: Start, body: &[u8])
     requires { ⌜
-        RowFits (g .x0) (g .planes) (g .y) (length (now row)) × First (r .left) (r .«col_pitch») (g .x0) (start .col) (start .nth)
+        RowFits (g .x0) (g .planes) (g .y) (length (now row)) × First (r .left) (r .«col_pitch») (g .x0) (start .col)
+        (start .nth)
         ⌝ }
     ensures { λ _.
         ⌜ now (row .exit)
-        ≡ regionPlanes g r (r .planes) (λ x k v. cond (eqb n 0) v (mapTable16 n (now (body .entry)) v)) (now (row .entry)) ⌝ }
+        ≡ regionPlanes g r (r .planes) (λ x k v. cond (eqb n 0) v (mapTable16 n (now (body .entry)) v))
+        (now (row .entry)) ⌝ }
 {
     let end = planes_end(g, r);
     let mut p = r.plane as usize;
@@ -466,7 +475,8 @@ fn region_planes16(row: &mut [u16], g: Place, r: Region, n: u32, start: Start, b
 
 fn region_row16(row: &mut [u16], g: Place, r: Region, n: u32, start: Start, body: &[u8])
     requires { ⌜
-        RowFits (g .x0) (g .planes) (g .y) (length (now row)) × First (r .left) (r .«col_pitch») (g .x0) (start .col) (start .nth)
+        RowFits (g .x0) (g .planes) (g .y) (length (now row)) × First (r .left) (r .«col_pitch») (g .x0) (start .col)
+        (start .nth)
         ⌝ }
     ensures { λ _.
         ⌜ now (row .exit)
@@ -483,11 +493,13 @@ fn region_row16(row: &mut [u16], g: Place, r: Region, n: u32, start: Start, body
 // One opcode on one row of whole numbers; `op` stands here for the contract alone.
 pub fn row_step16(row: &mut [u16], g: Place, op: Opcode, ready: Prepared, body: &[u8])
     requires { ⌜
-        RowFits (g .x0) (g .planes) (g .y) (length (now row)) × Ready op (g .x0) (g .«full_width») (g .«full_height») ready
+        RowFits (g .x0) (g .planes) (g .y) (length (now row)) × Ready op (g .x0) (g .«full_width») (g .«full_height»)
+        ready
         ⌝ }
     ensures { λ _.
         ⌜ now (row .exit)
-        ≡ each (onRow (g .x0) (g .planes) (g .y) (length (now (row .entry))) (rule16Of op (now (body .entry)))) (now (row .entry)) ⌝ }
+        ≡ each (onRow (g .x0) (g .planes) (g .y) (length (now (row .entry))) (rule16Of op (now (body .entry))))
+        (now (row .entry)) ⌝ }
 {
     match ready {
         Prepared::Nothing => {}

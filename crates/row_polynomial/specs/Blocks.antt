@@ -1,5 +1,5 @@
--- Samples of a row, i, i + step and so on, done a block at a time: evaluated, then written. Nothing here has to be believed: what a row comes to is
--- `polynomial_row`'s contract, in the words of dng/specs/Value.
+-- Samples of a row, i, i + step and so on, done a block at a time: evaluated, then written. Nothing here has to be
+-- believed: what a row comes to is `polynomial_row`'s contract, in the words of dng/specs/Value.
 use Prim.Native.Nat.{ℕ, zero, suc, _+_, _*_, _≤_, _<_}
 use mathlib.Core.Path.{_≡_}
 use mathlib.Core.List.{List}

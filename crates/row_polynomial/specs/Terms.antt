@@ -1,5 +1,5 @@
--- The coefficients of a polynomial as the code carries them, nine by value: the missing high ones are 0. Document 01, 'What each does to a value',
--- MapPolynomial: Horner from 0 with the highest coefficient first.
+-- The coefficients of a polynomial as the code carries them, nine by value: the missing high ones are 0. Document 01,
+-- 'What each does to a value', MapPolynomial: Horner from 0 with the highest coefficient first.
 use Prim.Native.Nat.{ℕ, _+_, _*_}
 use mathlib.Core.Path.{_≡_}
 use mathlib.Core.Bool.{cond}

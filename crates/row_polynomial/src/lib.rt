@@ -48,7 +48,8 @@ fn terms_of(body: &[u8], degree: u32) -> Terms
     }
 }
 
-// Horner from 0.0 over all nine. A 0.0 above the highest coefficient changes nothing. The body is here for the contract alone.
+// Horner from 0.0 over all nine. A 0.0 above the highest coefficient changes nothing. The body is here for the contract
+// alone.
 fn along_nine(t: Terms, body: &[u8], degree: u32, x: f64) -> f64
     requires { ⌜ (Holds t degree (now body)) × (degree ≤ 8) ⌝ }
     ensures { λ r. ⌜ r ≡ horner (now (body .entry)) x (suc degree) nought ⌝ }
@@ -105,8 +106,8 @@ fn wide_of(t: Terms, body: &[u8], degree: u32, scale64: f64, x: f64) -> f64
 
 // ---- a block: samples i, i + step and so on, in two short passes, so that many are under way at once
 
-// How many samples the block has: 64, or those that are left, which are counted one by one: a division would cost more than they do in a short
-// row.
+// How many samples the block has: 64, or those that are left, which are counted one by one: a division would cost more
+// than they do in a short row.
 fn count_of(i: usize, step: usize, stop: usize) -> usize
     requires { ⌜ (i < stop) × (stop ≤ 524288) × (1 ≤ step) × (step < 34359738368) ⌝ }
     ensures { λ n. ⌜ Counted i step stop n ⌝ }
@@ -126,8 +127,8 @@ fn count_of(i: usize, step: usize, stop: usize) -> usize
     n
 }
 
-// What is narrowed to the new values of n samples. One test of the loop depends on a value, `num_convert::widen`'s for a NaN, and in vector code that
-// is a selection: so the loop compiles to vector code, once for each case of the degree.
+// What is narrowed to the new values of n samples. One test of the loop depends on a value, `num_convert::widen`'s for
+// a NaN, and in vector code that is a selection: so the loop compiles to vector code, once for each case of the degree.
 fn evaluate(
     row: &[f32],
     i: usize,
@@ -141,7 +142,8 @@ fn evaluate(
     xs: &mut [f64],
 )
     requires { ⌜
-        Block i step n (length (now row)) (length (now xs)) × (Holds t degree (now body)) × (degree ≤ 8) × (scale64 ≡ scale)
+        Block i step n (length (now row)) (length (now xs)) × (Holds t degree (now body)) × (degree ≤ 8)
+        × (scale64 ≡ scale)
         ⌝ }
     ensures { λ _. ⌜ Evaluated degree (now (body .entry)) scale i step n (now (row .entry)) (now (xs .exit)) ⌝ }
 {
@@ -182,9 +184,11 @@ fn blocks(
     xs: &mut [f64],
 )
     requires { ⌜
-        (Walks k (length (now row))) × (Holds t degree (now body)) × (degree ≤ 8) × (scale64 ≡ scale) × (length (now xs) ≡ 64)
+        (Walks k (length (now row))) × (Holds t degree (now body)) × (degree ≤ 8) × (scale64 ≡ scale)
+        × (length (now xs) ≡ 64)
         ⌝ }
-    ensures { λ _. ⌜ now (row .exit) ≡ walked k (λ x p v. mapPolynomial scale degree (now (body .entry)) v) (now (row .entry)) ⌝ }
+    ensures { λ _. ⌜ now (row .exit) ≡ walked k (λ x p v. mapPolynomial scale degree (now (body .entry)) v)
+        (now (row .entry)) ⌝ }
 {
     let stop = stop_of(k, row.len());
     let step = k.pitch * k.planes;
@@ -202,7 +206,8 @@ fn blocks(
 // The polynomial at the walk's samples.
 pub fn polynomial_row(row: &mut [f32], k: Walk, body: &[u8], degree: u32, scale: f32)
     requires { ⌜ (Walks k (length (now row))) × (degree ≤ 8) ⌝ }
-    ensures { λ _. ⌜ now (row .exit) ≡ walked k (λ x p v. mapPolynomial scale degree (now (body .entry)) v) (now (row .entry)) ⌝ }
+    ensures { λ _. ⌜ now (row .exit) ≡ walked k (λ x p v. mapPolynomial scale degree (now (body .entry)) v)
+        (now (row .entry)) ⌝ }
 {
     let t = terms_of(body, degree);
     let scale64 = num_convert::widen(scale);

@@ -1,4 +1,5 @@
--- A run over places that lie a step apart, as a kernel's loop goes: the selected samples of one plane of a row lie so (proofs/Steps).
+-- A run over places that lie a step apart, as a kernel's loop goes: the selected samples of one plane of a row lie so
+-- (proofs/Steps).
 use Prim.Native.Nat.{ℕ, _-_, _/_, max}
 use mathlib.Core.Bool.{cond}
 use Rattle.pointwise.specs.Select.{selects}

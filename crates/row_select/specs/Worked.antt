@@ -16,8 +16,10 @@ pub p3-row : walked p3 (λ x k v. x) (0 ∷ 0 ∷ 0 ∷ 0 ∷ []) ≡ 0 ∷ 3 �
 unfolding walked each inRow onColumns selects
 p3-row = refl
 
--- the same columns at plane 1 of 2: a sample touched becomes 10 times its column, and its plane; the row ends inside column 5
-pub p3-plane : walked (record { x0 = 2; planes = 2; left = 1; right = 6; pitch = 2; plane = 1; col = 1; nth = 1 }) (λ x k v. 10 * x + k)
+-- the same columns at plane 1 of 2: a sample touched becomes 10 times its column, and its plane; the row ends inside
+-- column 5
+pub p3-plane : walked (record { x0 = 2; planes = 2; left = 1; right = 6; pitch = 2; plane = 1; col = 1; nth = 1 })
+    (λ x k v. 10 * x + k)
     (0 ∷ 0 ∷ 0 ∷ 0 ∷ 0 ∷ 0 ∷ 0 ∷ []) ≡ 0 ∷ 0 ∷ 0 ∷ 31 ∷ 0 ∷ 0 ∷ 0 ∷ []
 unfolding walked each inRow onColumns selects
 p3-plane = refl

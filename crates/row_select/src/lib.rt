@@ -1,12 +1,14 @@
-// Which rows, columns and planes a region selects: the first column worked out once an opcode, the rest once a row, handed to the steps as a walk.
+// Which rows, columns and planes a region selects: the first column worked out once an opcode, the rest once a row,
+// handed to the steps as a walk.
 // The numbers are those of a region as the list has them: a pitch of 0 counts as 1.
 ghost use mathlib.Core.Path.{_≡_};
 ghost use Prim.Native.Nat.{_+_, _-_, _*_, min, max};
 ghost use Rattle.pointwise.specs.Select.{selects, First};
 ghost use Rattle.row_select.specs.Walks.{Walks};
 
-// The selected samples of one plane of a row: the row starts at image column x0 and has `planes` samples to a pixel; the columns left..right are
-// selected, `pitch` apart; the first of them at or after x0 is x0 + col, the `nth` counted from left.
+// The selected samples of one plane of a row: the row starts at image column x0 and has `planes` samples to a pixel;
+// the columns left..right are selected, `pitch` apart; the first of them at or after x0 is x0 + col, the `nth` counted
+// from left.
 pub struct Walk {
     pub x0: usize,
     pub planes: usize,
@@ -43,9 +45,9 @@ pub fn less(a: usize, b: usize) -> usize
     if b < a { a - b } else { 0 }
 }
 
-// The first selected column at or after x0. Document 01, 'Which samples an opcode touches': "A region selects row y with
-// top ≤ y < bottom and (y−top) divisible by the row pitch; columns likewise". So: the distance from left, its remainder
-// by the pitch, and one step forward, pitch − remainder, if that is not zero.
+// The first selected column at or after x0. Document 01, 'Which samples an opcode touches': "A region selects row y
+// with top ≤ y < bottom and (y−top) divisible by the row pitch; columns likewise". So: the distance from left, its
+// remainder by the pitch, and one step forward, pitch − remainder, if that is not zero.
 pub fn first_column(left: u32, pitch: u32, x0: u32) -> Start
     ensures { λ r. ⌜ First left pitch x0 (r .col) (r .nth) ⌝ }
 {

@@ -51,7 +51,8 @@ fn index_of(n: u32, scale: f32, v: f32) -> u32
     num_round::round_held(v * scale, last_of(n))
 }
 
-// The same of a table of up to 2^24 entries, with no branch: `top` is the last one's number as a float, worked out once a row.
+// The same of a table of up to 2^24 entries, with no branch: `top` is the last one's number as a float, worked out once
+// a row.
 fn index_below(n: u32, top: f32, scale: f32, v: f32) -> u32
     requires { ⌜ (1 ≤ n) × (n ≤ 16777216) × (top ≡ wholeIn binary32 (n - 1)) ⌝ }
     ensures { λ r. ⌜ r ≡ roundHeld (n - 1) (mul binary32 v scale) ⌝ }

@@ -1,4 +1,5 @@
--- What the vignette's m2 is answered as, and what a row may rely on. Document 01, 'What each does to a value': FixVignetteRadial.
+-- What the vignette's m2 is answered as, and what a row may rely on. Document 01, 'What each does to a value':
+-- FixVignetteRadial.
 use Prim.Native.Nat.{ℕ}
 use mathlib.Core.Bool.{true, cond}
 use mathlib.Core.Path.{_≡_}

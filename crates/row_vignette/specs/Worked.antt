@@ -1,4 +1,5 @@
--- Worked values of the definitions that the contracts cite, which the checker computes: a frame of 2×2 with its centre in the middle.
+-- Worked values of the definitions that the contracts cite, which the checker computes: a frame of 2×2 with its centre
+-- in the middle.
 use Prim.Native.Nat.{ℕ}
 use mathlib.Core.Bool.{true, false}
 use mathlib.Core.List.{[], _∷_}
@@ -84,15 +85,19 @@ worked = record {
 
 -- columns past the full width are raised too: the pixel (2, 0), next to the full width of 2, has the gain 2
 pub beside : each (onRow 2 1 0 1 (vignette small middle)) (whole 3 ∷ []) ≡ whole 6 ∷ []
-unfolding each onRow wholePixel vignette vignetted radialGain m2Of farthest usable narrow add sub mul div lt ofBits ofInt round
+unfolding each onRow wholePixel vignette vignetted radialGain m2Of farthest usable narrow add sub mul div lt ofBits
+    ofInt round
 beside = refl
 
 -- two planes, three samples: the second pixel is not whole
-pub partial : each (onRow 0 2 0 3 (vignette small middle)) (whole 3 ∷ whole 1 ∷ whole 1 ∷ []) ≡ whole 6 ∷ whole 2 ∷ whole 1 ∷ []
-unfolding each onRow wholePixel vignette vignetted radialGain m2Of farthest usable narrow add sub mul div lt ofBits ofInt round
+pub partial : each (onRow 0 2 0 3 (vignette small middle)) (whole 3 ∷ whole 1 ∷ whole 1 ∷ [])
+    ≡ whole 6 ∷ whole 2 ∷ whole 1 ∷ []
+unfolding each onRow wholePixel vignette vignetted radialGain m2Of farthest usable narrow add sub mul div lt ofBits
+    ofInt round
 partial = refl
 
 -- a row from the full height on stays
 pub past : each (onRow 0 1 2 2 (vignette small middle)) (whole 3 ∷ whole 1 ∷ []) ≡ whole 3 ∷ whole 1 ∷ []
-unfolding each onRow wholePixel vignette vignetted radialGain m2Of farthest usable narrow add sub mul div lt ofBits ofInt round
+unfolding each onRow wholePixel vignette vignetted radialGain m2Of farthest usable narrow add sub mul div lt ofBits
+    ofInt round
 past = refl

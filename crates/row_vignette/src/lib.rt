@@ -13,7 +13,8 @@ use dng::Radial;
 
 // ---- m2, once for a run
 
-// The squared distance from the centre to the farthest corner. Unusable, that is not above 0 or not finite: the opcode has no effect.
+// The squared distance from the centre to the farthest corner. Unusable, that is not above 0 or not finite: the opcode
+// has no effect.
 pub enum Reach {
     Usable { m2: f64 },
     Unusable,
@@ -76,7 +77,8 @@ fn wide_gain(q: Radial, m2: f64, dy2: f64, dx: f64) -> f64
     1.0 + r2 * (q.k0 + r2 * (q.k1 + r2 * (q.k2 + r2 * (q.k3 + r2 * q.k4))))
 }
 
-// The gain of each pixel from column x0 on. A loop with no branch, and with a column that is counted anew for each: vector code.
+// The gain of each pixel from column x0 on. A loop with no branch, and with a column that is counted anew for each:
+// vector code.
 fn wide_gains(gains: &mut [f64], q: Radial, m2: f64, dy2: f64, cx: f64, x0: u32)
     requires { ⌜ x0 + length (now gains) < 4294967296 ⌝ }
     ensures { λ _. ⌜ now (gains .exit) ≡ each (wideAt q m2 dy2 cx x0) (now (gains .entry)) ⌝ }
@@ -171,11 +173,12 @@ fn block_of(left: usize) -> usize
     if left < 64 { left } else { 64 }
 }
 
-// Block by block: the gains of all its pixels, and then the samples. A pixel that is not whole stays. What is asked of the row's number
-// is no matter here.
+// Block by block: the gains of all its pixels, and then the samples. A pixel that is not whole stays. What is asked of
+// the row's number is no matter here.
 fn raise_row(row: &mut [f32], q: Radial, m2: f64, dy2: f64, cx: f64, x0: u32, planes: u32)
     requires { ⌜ RowFits x0 planes 0 (length (now row)) ⌝ }
-    ensures { λ _. ⌜ now (row .exit) ≡ each (wholeOnes q m2 dy2 cx x0 planes (length (now (row .entry)))) (now (row .entry)) ⌝ }
+    ensures { λ _. ⌜ now (row .exit) ≡ each (wholeOnes q m2 dy2 cx x0 planes (length (now (row .entry))))
+        (now (row .entry)) ⌝ }
 {
     let mut gains = [0.0; 64];
     let p = planes as usize;

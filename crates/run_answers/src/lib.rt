@@ -47,7 +47,14 @@ pub fn row_in_range(w: RowWindow, y: usize, n: usize) -> bool
 }
 
 fn refused(number: u32, entry: usize, opcode: usize) -> Numbers
-    ensures { λ r. ⌜ r ≡ record { number = number; entry = entry; opcode = opcode; names = 0; repaired = 0; left = 0 } ⌝ }
+    ensures { λ r. ⌜ r ≡ record {
+      number = number;
+      entry = entry;
+      opcode = opcode;
+      names = 0;
+      repaired = 0;
+      left = 0;
+    } ⌝ }
 {
     Numbers {
         number: number,

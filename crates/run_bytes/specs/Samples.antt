@@ -1,4 +1,5 @@
--- Samples that stand in bytes. Document 01, its last line: samples little-endian. Over the kind A where the two kinds do not differ.
+-- Samples that stand in bytes. Document 01, its last line: samples little-endian. Over the kind A where the two kinds
+-- do not differ.
 use Prim.Native.Nat.{ℕ, _*_, _/_, _%_, _^_}
 use mathlib.Core.List.{List}
 use lib.Ieee.{Float, nan, binary32, ofBits, toBits}

@@ -1,4 +1,5 @@
-// Samples that stand in bytes, little-endian: out of the bytes into typed room that the caller lends, and back; and the room cleared.
+// Samples that stand in bytes, little-endian: out of the bytes into typed room that the caller lends, and back; and the
+// room cleared.
 ghost use mathlib.Core.Path.{_≡_};
 ghost use Prim.Native.Nat.{_*_, _≤_};
 ghost use lib.Ieee.{nan, binary32, toBits};

@@ -25,9 +25,10 @@ abbrev pub doneOf : Fixed → ℕ
 doneOf (F.Done a b) = a + b
 doneOf F.Marks = 0
 
--- An opcode with the body b on the samples s answers r and leaves s′: whatever its number and the totals before it. The positions it repaired and
--- left are few, so that no total wraps.
-pub record Steps {A : Type 0} (kind : Kind A) (w : Window) (period : ℕ) (room : Room) (op : Opcode) (b : List ℕ) (s s′ : List A) (r : Fixed) : Type 0 where
+-- An opcode with the body b on the samples s answers r and leaves s′: whatever its number and the totals before it. The
+-- positions it repaired and left are few, so that no total wraps.
+pub record Steps {A : Type 0} (kind : Kind A) (w : Window) (period : ℕ) (room : Room) (op : Opcode) (b : List ℕ)
+    (s s′ : List A) (r : Fixed) : Type 0 where
   pub state : (k x y : ℕ) → Fixes.progressOf r s′ k x y ≡ performOn kind w period room (classOf op) op b k s x y
   pub few : doneOf r ≤ positions w
 

@@ -1,4 +1,5 @@
-// The opcodes of a list on a window's samples, one after another, f32 and u16: all of them, or those before the repair that finds too little scratch.
+// The opcodes of a list on a window's samples, one after another, f32 and u16: all of them, or those before the repair
+// that finds too little scratch.
 // Document 01, 'What comes back': 5, opcode by opcode, the samples then as after the opcodes before it.
 use dng::Cursor;
 use dng::Entry;
@@ -32,7 +33,8 @@ pub enum Performed {
 fn step_f32(list: &[u8], samples: &mut [f32], w: Window, scale: f32, e: Entry, op: Opcode) -> Fixed
     requires { ⌜ WindowFits w × (bounded op ≡ true) ⌝ }
     ensures { λ r.
-        ⌜ Stepped w (ruleOf (frameOf w scale) op (bodyOf (now (list .entry)) e)) (now (samples .entry)) (now (samples .exit)) r ⌝ }
+        ⌜ Stepped w (ruleOf (frameOf w scale) op (bodyOf (now (list .entry)) e)) (now (samples .entry))
+        (now (samples .exit)) r ⌝ }
 {
     win_opcode::window_step(samples, w, op, list_entries::body(list, e), scale);
     Fixed::Done {

@@ -1,5 +1,7 @@
--- The refusals 1 to 4 as one value: which of them a call is given, or how many names a run that goes on will write. Document 01, 'What comes back'.
--- Over which lists a form takes and which opcodes it skips. proofs/Laws says that it is what the definitions of a run and of a row answer.
+-- The refusals 1 to 4 as one value: which of them a call is given, or how many names a run that goes on will write.
+-- Document 01, 'What comes back'.
+-- Over which lists a form takes and which opcodes it skips. proofs/Laws says that it is what the definitions of a run
+-- and of a row answer.
 use Prim.Native.Nat.{ℕ}
 use mathlib.Core.Bool.{Bool, true, false, cond}
 use mathlib.Core.List.{List}

@@ -1,4 +1,5 @@
-// The refusals 1 to 4 of a run and 1 to 3 of a row, in order, before a sample is looked at: a run that may go on cannot be refused by them any more.
+// The refusals 1 to 4 of a run and 1 to 3 of a row, in order, before a sample is looked at: a run that may go on cannot
+// be refused by them any more.
 use dng::Answer;
 use dng::Reading;
 use dng::RowAnswer;

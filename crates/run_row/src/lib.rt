@@ -97,7 +97,8 @@ fn every_row(r: Region) -> Region
     }
 }
 
-// A gain map on all planes, by blocks of the columns that the row has. A row that has no sample of the region is left first.
+// A gain map on all planes, by blocks of the columns that the row has. A row that has no sample of the region is left
+// first.
 fn gain_planes(
     row: &mut [f32],
     g: Place,
@@ -117,7 +118,8 @@ fn gain_planes(
         ⌜ now (row .exit)
         ≡ each
         (onRow (g .x0) (g .planes) (g .y) (length (now (row .entry)))
-        (onRegion r (gainRule (g .«full_width») (g .«full_height») (now (body .entry)) r «points_v» «points_h» grid «map_planes»)))
+        (onRegion r (gainRule (g .«full_width») (g .«full_height») (now (body .entry)) r «points_v» «points_h» grid
+        «map_planes»)))
         (now (row .entry)) ⌝ }
 {
     let start = row_select::first_column(r.left, r.col_pitch, g.x0);
@@ -137,7 +139,8 @@ fn gain_planes(
     }
 }
 
-// One opcode of the list. The planes of a gain map share the positions of their columns; one plane has nothing to share.
+// One opcode of the list. The planes of a gain map share the positions of their columns; one plane has nothing to
+// share.
 fn perform_one(
     list: &[u8],
     row: &mut [f32],
@@ -190,7 +193,8 @@ fn perform(list: &[u8], row: &mut [f32], g: Place, width: usize, scale: f32)
     requires { ⌜ RowFits (g .x0) (g .planes) (g .y) (length (now row)) × Spans g width (length (now row)) ⌝ }
     ensures { λ _.
         ⌜ now (row .exit)
-        ≡ rowOn (frameOf g scale) (g .x0) (g .planes) (g .y) (now (list .entry)) (itemsOf (now (list .entry))) (now (row .entry)) ⌝ }
+        ≡ rowOn (frameOf g scale) (g .x0) (g .planes) (g .y) (now (list .entry)) (itemsOf (now (list .entry)))
+        (now (row .entry)) ⌝ }
 {
     let n = list_read::count(list);
     let mut k: usize = 0;

@@ -1,5 +1,6 @@
--- What mending a frame of whole numbers gives: the whole-number run's result where that run takes the list; otherwise the samples as f32, the
--- f32 run at scale 1, and each sample rounded to whole, half away from zero, and held to 0..65535.
+-- What mending a frame of whole numbers gives: the whole-number run's result where that run takes the list; otherwise
+-- the samples as f32, the f32 run at scale 1, and each sample rounded to whole, half away from zero, and held to
+-- 0..65535.
 use Prim.Native.Nat.{ℕ, _+_, _≤_}
 use mathlib.Core.Bool.{Bool, true, false, cond}
 use mathlib.Core.List.{List, [], _∷_}
@@ -69,7 +70,11 @@ heldIn [] = 0
 heldIn (v ∷ s) = cond (eqb (roundHeld 65536 v) 65536) 1 0 + heldIn s
 
 abbrev pub roundedOut : Out Float → MendOut
-roundedOut o = record { answer = Widened (o .answer) (heldIn (o .samples)); samples = narrowed (o .samples); names = o .names }
+roundedOut o = record {
+  answer = Widened (o .answer) (heldIn (o .samples));
+  samples = narrowed (o .samples);
+  names = o .names;
+}
 
 -- room: the length of the scratch; wide: how many samples there is room for as f32
 unfoldable pub mendOut : Window → (period : ℕ) → Room → (wide : ℕ) → (list samples names : List ℕ) → MendOut
@@ -94,20 +99,24 @@ pub record Mends (o : MendOut) (room : Room) (r : Mended) (samples names marks :
   pub marksClear : marks ≡ replicate (room .marks) 0
 
 -- What mending promises of its result r and of what it leaves; the room for f32 and the scratch hold zeros alone.
-pub record MendsClear (o : MendOut) (room : Room) (n : ℕ) (r : Mended) (samples : List ℕ) (wide : List Float) (names marks : List ℕ) : Type 0 where
+pub record MendsClear (o : MendOut) (room : Room) (n : ℕ) (r : Mended) (samples : List ℕ) (wide : List Float)
+    (names marks : List ℕ) : Type 0 where
   pub mended : Mends o room r samples names marks
   pub wideClear : wide ≡ replicate n nought
 
 -- ---- how many samples of a result are above the largest value of the file that it is written to
 
--- how many values are above maxval once rounded; heldIn is this at 65535. A value held to 65536 is still above every maxval up to 65535.
+-- how many values are above maxval once rounded; heldIn is this at 65535. A value held to 65536 is still above every
+-- maxval up to 65535.
 unfoldable pub heldAbove : (maxval : ℕ) → List Float → ℕ
 heldAbove maxval [] = 0
 heldAbove maxval (v ∷ s) = cond (ltb maxval (roundHeld 65536 v)) 1 0 + heldAbove maxval s
 
--- What r is, from how many samples were above 65535 when they were rounded back, `wide`, and how many of the u16 samples the encoder found above
--- maxval, `above`: every sample above maxval counts, and none twice, though one that was held to 65535 may be in both counts.
+-- What r is, from how many samples were above 65535 when they were rounded back, `wide`, and how many of the u16
+-- samples the encoder found above maxval, `above`: every sample above maxval counts, and none twice, though one that
+-- was held to 65535 may be in both counts.
 pub record HeldAbove (maxval wide above r : ℕ) : Type 0 where
-  pub rounded : (s : List Float) → maxval ≤ 65535 → wide ≡ heldIn s → above ≡ over maxval (narrowed s) → r ≡ heldAbove maxval s
+  pub rounded : (s : List Float) → maxval ≤ 65535 → wide ≡ heldIn s → above ≡ over maxval (narrowed s) → r
+      ≡ heldAbove maxval s
   -- whole numbers, of which rounding holds none
   pub whole : (s : List ℕ) → maxval ≤ 65535 → Below 65536 s → wide ≡ 0 → above ≡ over maxval s → r ≡ over maxval s

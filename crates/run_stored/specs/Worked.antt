@@ -45,7 +45,8 @@ out a s = record { answer = a; samples = s; names = [] }
 
 pub record Worked : Type 0 where
   -- one repair: the whole-number run, with no room for f32
-  pub whole : mendOut (frame 3) 1 room 0 (one-of (constant 0)) (10 ∷ 0 ∷ 19 ∷ []) [] ≡ out (Whole (Ans.Done 0 1 0)) (10 ∷ 15 ∷ 19 ∷ [])
+  pub whole : mendOut (frame 3) 1 room 0 (one-of (constant 0)) (10 ∷ 0 ∷ 19 ∷ []) []
+      ≡ out (Whole (Ans.Done 0 1 0)) (10 ∷ 15 ∷ 19 ∷ [])
   -- two repairs: the f32 run, whose 14.5 comes back as 15
   pub twice :
       mendOut (frame 3) 1 room 3 (words (2 ∷ []) ++ (constant 0 ++ constant 99)) (10 ∷ 0 ∷ 19 ∷ []) []
@@ -55,7 +56,8 @@ pub record Worked : Type 0 where
       mendOut (frame 5) 1 room 5 (one-of halved) (1 ∷ 2 ∷ 3 ∷ 5 ∷ 65535 ∷ []) []
       ≡ out (Widened (Ans.Done 0 0 0) 0) (1 ∷ 1 ∷ 2 ∷ 3 ∷ 32768 ∷ [])
   -- held to 65535, and counted
-  pub held : mendOut (frame 2) 1 room 2 (one-of raised) (0 ∷ 1 ∷ []) [] ≡ out (Widened (Ans.Done 0 0 0) 1) (0 ∷ 65535 ∷ [])
+  pub held : mendOut (frame 2) 1 room 2 (one-of raised) (0 ∷ 1 ∷ []) []
+      ≡ out (Widened (Ans.Done 0 0 0) 1) (0 ∷ 65535 ∷ [])
   -- room for two samples as f32, and three are lent
   pub no-room : mendOut (frame 3) 1 room 2 (one-of halved) (1 ∷ 2 ∷ 3 ∷ []) [] ≡ out NoRoom (1 ∷ 2 ∷ 3 ∷ [])
   -- a list that no run reads, and no room either
@@ -64,10 +66,26 @@ pub record Worked : Type 0 where
   pub full :
       mendOut (frame 3) 1 (record { marks = 0 }) 3 (words (2 ∷ []) ++ (halved ++ constant 0)) (1 ∷ 0 ∷ 5 ∷ []) []
       ≡ out (Widened (Ans.Marks 1) 0) (1 ∷ 0 ∷ 3 ∷ [])
-  -- at 65535 the one that was held to it; at 200 two, of which one was held to 65535 first; 65600.0, 300.0 and 7.0 by their bits
+  -- at 65535 the one that was held to it; at 200 two, of which one was held to 65535 first; 65600.0, 300.0 and 7.0 by
+  -- their bits
   pub above-last : heldAbove 65535 (ofBits binary32 0x4780_2000 ∷ []) ≡ 1
-  pub above : heldAbove 200 (ofBits binary32 0x4396_0000 ∷ ofBits binary32 0x4780_2000 ∷ ofBits binary32 0x40e0_0000 ∷ []) ≡ 2
+  pub above : heldAbove 200 (ofBits binary32 0x4396_0000 ∷ ofBits binary32 0x4780_2000 ∷ ofBits binary32 0x40e0_0000 ∷
+      []) ≡ 2
 
 pub worked : Worked
-unfolding mendOut heldIn heldAbove big each selects onColumns roundHeld readingOf itemsOf counted readFrom stepAt nextAt parsedAt countedAt onRegion onWindow inWindow active wholePixel nth scaled anyBelow countBelow complete badValue marksOf moved sound tallyOn repairAt soundOn markedIn repairedIn leftIn namesOf takes16On takes16From repairOn performAll inRange ranOn runOut ofBits ofFields odd trailingZeros ofInt round units size span climb mul div add eq
-worked = record { whole = refl; twice = refl; halves = refl; held = refl; no-room = refl; malformed = refl; full = refl; above-last = refl; above = refl }
+unfolding mendOut heldIn heldAbove big each selects onColumns roundHeld readingOf itemsOf counted readFrom stepAt
+    nextAt parsedAt countedAt onRegion onWindow inWindow active wholePixel nth scaled anyBelow countBelow complete
+    badValue marksOf moved sound tallyOn repairAt soundOn markedIn repairedIn leftIn namesOf takes16On takes16From
+    repairOn performAll inRange ranOn runOut ofBits ofFields odd trailingZeros ofInt round units size span climb mul
+    div add eq
+worked = record {
+  whole = refl;
+  twice = refl;
+  halves = refl;
+  held = refl;
+  no-room = refl;
+  malformed = refl;
+  full = refl;
+  above-last = refl;
+  above = refl;
+}

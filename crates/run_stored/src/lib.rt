@@ -1,4 +1,5 @@
-// A frame of whole numbers, mended by a list: by the whole-number run where the list is one for it, otherwise as f32 at scale 1, rounded back.
+// A frame of whole numbers, mended by a list: by the whole-number run where the list is one for it, otherwise as f32 at
+// scale 1, rounded back.
 use dng::Answer;
 use dng::Numbers;
 use dng::Settings;
@@ -199,9 +200,9 @@ pub fn is_whole(m: Mended) -> bool
     }
 }
 
-// How many samples of a result are above maxval: `wide` of them were held to 65535 as they were rounded back, `over` of the u16 samples were
-// held to maxval as they were encoded. A sample that was held to 65535 is above any smaller maxval, so the encoder has it too; at 65535 the
-// encoder counts none.
+// How many samples of a result are above maxval: `wide` of them were held to 65535 as they were rounded back, `over` of
+// the u16 samples were held to maxval as they were encoded. A sample that was held to 65535 is above any smaller
+// maxval, so the encoder has it too; at 65535 the encoder counts none.
 pub fn held_above(maxval: usize, wide: usize, over: usize) -> usize
     ensures { λ r. ⌜ HeldAbove maxval wide over r ⌝ }
 {

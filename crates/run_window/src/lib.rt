@@ -1,4 +1,5 @@
-// A list on a window's samples: the whole-window runs as a caller knows them, f32 and u16. Document 01, 'What comes back'.
+// A list on a window's samples: the whole-window runs as a caller knows them, f32 and u16. Document 01, 'What comes
+// back'.
 use dng::Answer;
 use dng::Settings;
 use dng::Window;
@@ -44,7 +45,8 @@ fn answer_of(p: Performed, n: usize) -> Answer
 fn name(list: &[u8], names: &mut [u8], done: bool, whole: bool)
     ensures { λ _.
         ⌜ now (names .exit)
-        ≡ cond done (sets (now (names .entry)) 0 (namesOf (skippedIn whole) (itemsOf (now (list .entry))))) (now (names .entry)) ⌝ }
+        ≡ cond done (sets (now (names .entry)) 0 (namesOf (skippedIn whole) (itemsOf (now (list .entry)))))
+        (now (names .entry)) ⌝ }
 {
     if done {
         if whole {

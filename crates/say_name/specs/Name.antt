@@ -1,5 +1,5 @@
--- The names of the opcodes, by the byte that names them (dng/specs/Run, nameOf): the id, and 0 for an id of no opcode. So
--- opcodes have one name where they have one kind, and all ids of no opcode count as one, as in the Rust (000,
+-- The names of the opcodes, by the byte that names them (dng/specs/Run, nameOf): the id, and 0 for an id of no opcode.
+-- So opcodes have one name where they have one kind, and all ids of no opcode count as one, as in the Rust (000,
 -- `Opcode::name`).
 use Prim.Native.Nat.{ℕ}
 use mathlib.Core.Bool.{cond}

@@ -34,7 +34,8 @@ fn id_of(code: u8) -> usize
 // A part of a text, behind the text that ends at `at`.
 fn put_part(out: &mut [u8], at: usize, all: &[u8], from: usize, to: usize) -> usize
     requires { ⌜ (from ≤ to) × ((to ≤ length (now all)) × (at + (to - from) ≤ length (now out))) ⌝ }
-    ensures { λ r. ⌜ Appended (now (out .entry)) at (take (to - from) (drop from (now (all .entry)))) r (now (out .exit)) ⌝ }
+    ensures { λ r. ⌜ Appended (now (out .entry)) at (take (to - from) (drop from (now (all .entry)))) r
+        (now (out .exit)) ⌝ }
 {
     num_text::put(out, at, &all[from..to])
 }

@@ -64,7 +64,8 @@ applied = text "OpcodeList1: applied "
 abbrev pub notApplied : List ℕ
 notApplied = text "OpcodeList1: not applied "
 
--- from the names of the pixel opcodes, of those that the f32 run skips, and of all; where there are no opcodes there is no line
+-- from the names of the pixel opcodes, of those that the f32 run skips, and of all; where there are no opcodes there is
+-- no line
 unfoldable pub lines : (pixels skips all : List ℕ) → List ℕ
 lines [] skips all = about notApplied all (text " (no pixel opcodes)\n")
 lines (n ∷ ns) skips all =

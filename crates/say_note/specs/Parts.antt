@@ -23,7 +23,8 @@ pieceAt ns k =
     let n = getD ns k 0 in
     cond (eqb (occurs n (take k ns)) 0) (cond (eqb k 0) (item ns n) (text ", " ++ item ns n)) []
 
--- The note of the list s stands at the start of the buffer, which was b and is o, and ends at r; what is behind it is unchanged.
+-- The note of the list s stands at the start of the buffer, which was b and is o, and ends at r; what is behind it is
+-- unchanged.
 -- The last two say that the text lies in the buffer, as one asks who takes that part of it.
 pub record Noted (s b : List ℕ) (r : ℕ) (o : List ℕ) : Type 0 where
   pub note : Appended b 0 (noteOf s) r o

@@ -1,4 +1,5 @@
-// The notes of a list: document 01, 'Notes program'. The lines are put into a lent buffer, which has room for the notes of every list.
+// The notes of a list: document 01, 'Notes program'. The lines are put into a lent buffer, which has room for the notes
+// of every list.
 use dng::Cursor;
 use dng::Opcode;
 use dng::Reading;
@@ -52,7 +53,8 @@ fn is_in(part: Part, op: Opcode) -> bool
 
 fn keep(codes: &mut [u8], at: usize, part: Part, op: Opcode) -> usize
     requires { ⌜ at < length (now codes) ⌝ }
-    ensures { λ r. ⌜ Appended (now (codes .entry)) at (cond (partOf part (classOf op)) (nameOf op ∷ []) []) r (now (codes .exit)) ⌝ }
+    ensures { λ r. ⌜ Appended (now (codes .entry)) at (cond (partOf part (classOf op)) (nameOf op ∷ []) []) r
+        (now (codes .exit)) ⌝ }
 {
     if is_in(part, op) {
         num_text::put_byte(&mut *codes, at, list_classes::name_of(op))
@@ -63,7 +65,8 @@ fn keep(codes: &mut [u8], at: usize, part: Part, op: Opcode) -> usize
 
 fn collect(list: &[u8], part: Part, codes: &mut [u8]) -> usize
     requires { ⌜ 4096 ≤ length (now codes) ⌝ }
-    ensures { λ r. ⌜ Appended (now (codes .entry)) 0 (namesOf (partOf part) (itemsOf (now (list .entry)))) r (now (codes .exit)) ⌝ }
+    ensures { λ r. ⌜ Appended (now (codes .entry)) 0 (namesOf (partOf part) (itemsOf (now (list .entry)))) r
+        (now (codes .exit)) ⌝ }
 {
     let n = list_read::count(list);
     let mut j: usize = 0;
@@ -115,7 +118,8 @@ fn put_item(out: &mut [u8], at: usize, codes: &[u8], code: u8) -> usize
 
 // A name where it appears first, and nothing where it appears again.
 fn put_piece(out: &mut [u8], at: usize, codes: &[u8], k: usize, again: bool) -> usize
-    requires { ⌜ (k < length (now codes)) × (again ≡ ltb 0 (occurs (getD (now codes) k 0) (take k (now codes)))) × (at + length (pieceAt (now codes) k) ≤ length (now out)) ⌝ }
+    requires { ⌜ (k < length (now codes)) × (again ≡ ltb 0 (occurs (getD (now codes) k 0) (take k (now codes))))
+        × (at + length (pieceAt (now codes) k) ≤ length (now out)) ⌝ }
     ensures { λ r. ⌜ Appended (now (out .entry)) at (pieceAt (now (codes .entry)) k) r (now (out .exit)) ⌝ }
 {
     if again {
@@ -151,7 +155,8 @@ fn put_names(out: &mut [u8], at: usize, codes: &[u8]) -> usize
 
 fn put_line(out: &mut [u8], at: usize, head: &[u8], codes: &[u8], end: &[u8]) -> usize
     requires { ⌜ at + length (about (now head) (now codes) (now end)) ≤ length (now out) ⌝ }
-    ensures { λ r. ⌜ Appended (now (out .entry)) at (about (now (head .entry)) (now (codes .entry)) (now (end .entry))) r (now (out .exit)) ⌝ }
+    ensures { λ r. ⌜ Appended (now (out .entry)) at (about (now (head .entry)) (now (codes .entry)) (now (end .entry)))
+        r (now (out .exit)) ⌝ }
 {
     if codes.len() == 0 {
         return at;
@@ -163,8 +168,11 @@ fn put_line(out: &mut [u8], at: usize, head: &[u8], codes: &[u8], end: &[u8]) ->
 
 // The line about a part of a list; no list has more than 4,096 opcodes.
 fn put_about(list: &[u8], part: Part, out: &mut [u8], at: usize, head: &[u8], end: &[u8]) -> usize
-    requires { ⌜ at + length (about (now head) (namesOf (partOf part) (itemsOf (now list))) (now end)) ≤ length (now out) ⌝ }
-    ensures { λ r. ⌜ Appended (now (out .entry)) at (about (now (head .entry)) (namesOf (partOf part) (itemsOf (now (list .entry)))) (now (end .entry))) r (now (out .exit)) ⌝ }
+    requires { ⌜ at + length (about (now head) (namesOf (partOf part) (itemsOf (now list))) (now end)) ≤ length
+        (now out) ⌝ }
+    ensures { λ r. ⌜ Appended (now (out .entry)) at
+        (about (now (head .entry)) (namesOf (partOf part) (itemsOf (now (list .entry)))) (now (end .entry))) r
+        (now (out .exit)) ⌝ }
 {
     let mut codes = [0u8; 4096];
     let m = collect(list, part, &mut codes);
@@ -229,8 +237,8 @@ fn put_note(list: &[u8], out: &mut [u8]) -> usize
     }
 }
 
-// Puts the note of a list at the start of the buffer and returns where it ends. No note has more than 1,024 bytes: of the fourteen names each
-// stands at most once in a line.
+// Puts the note of a list at the start of the buffer and returns where it ends. No note has more than 1,024 bytes: of
+// the fourteen names each stands at most once in a line.
 pub fn note(list: &[u8], out: &mut [u8; 1024]) -> usize
     ensures { λ r. ⌜ Noted (now (list .entry)) (now (out .entry)) r (now (out .exit)) ⌝ }
 {

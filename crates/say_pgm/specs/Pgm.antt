@@ -1,5 +1,6 @@
--- A binary greymap, netpbm's P5: the magic number, white space, width, white space, height, white space, the largest value, one byte of
--- white space, and the raster, row by row. A comment, from `#` to the end of its line, counts as white space before the largest value.
+-- A binary greymap, netpbm's P5: the magic number, white space, width, white space, height, white space, the largest
+-- value, one byte of white space, and the raster, row by row. A comment, from `#` to the end of its line, counts as
+-- white space before the largest value.
 -- Sizes are held to the window's, 65,536, and the largest value to 65,535.
 use Prim.Native.Nat.{ℕ, suc, _+_, _-_, _*_, _/_, _%_, _≤_, min}
 use mathlib.Core.Bool.{Bool, true, false, not, _&&_, _||_, cond}
@@ -90,7 +91,8 @@ fieldAt s at = numberAt s (past s at)
 
 -- they are a header's, and one byte of white space follows
 abbrev pub isHeader : List ℕ → (w h m : Field) → Bool
-isHeader s w h m = p5 s && (sound 2 w 0 65536 && (sound (w .end) h 0 65536 && (sound (h .end) m 1 65535 && white (getD s (m .end) 0))))
+isHeader s w h m = p5 s && (sound 2 w 0 65536 &&
+    (sound (w .end) h 0 65536 && (sound (h .end) m 1 65535 && white (getD s (m .end) 0))))
 
 abbrev pub headerOn : List ℕ → (w h m : Field) → Found
 headerOn s w h m = cond (isHeader s w h m) (Header (w .value) (h .value) (m .value) (m .end + 1)) Broken
@@ -144,7 +146,8 @@ heldTo maxval s i = min (getD s i 0) maxval
 unfoldable pub byteAt : List ℕ → (maxval : ℕ) → ℕ → ℕ → ℕ
 byteAt s maxval j v =
     cond (ltb maxval 256) (cond (ltb j (length s)) (heldTo maxval s j) v)
-    (cond (ltb (j / 2) (length s)) (cond (eqb (j % 2) 0) (heldTo maxval s (j / 2) / 256) (heldTo maxval s (j / 2) % 256)) v)
+    (cond (ltb (j / 2) (length s)) (cond (eqb (j % 2) 0) (heldTo maxval s (j / 2) / 256)
+    (heldTo maxval s (j / 2) % 256)) v)
 
 -- how many samples lie above the largest value
 unfoldable pub over : (maxval : ℕ) → List ℕ → ℕ
@@ -168,7 +171,8 @@ floatAt raster i = ofBits binary32 (little 4 raster (4 * i))
 -- byte k of a word of 32 bits, the lowest first
 unfoldable pub nthByte : ℕ → ℕ → ℕ
 nthByte bits k =
-    cond (eqb k 0) (bits % 256) (cond (eqb k 1) (bits / 256 % 256) (cond (eqb k 2) (bits / 65536 % 256) (bits / 16777216 % 256)))
+    cond (eqb k 0) (bits % 256) (cond (eqb k 1) (bits / 256 % 256)
+    (cond (eqb k 2) (bits / 65536 % 256) (bits / 16777216 % 256)))
 
 -- byte j of the raster of the samples s; v past them
 unfoldable pub floatByteAt : List Float → ℕ → ℕ → ℕ

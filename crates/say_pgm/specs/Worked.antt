@@ -13,7 +13,8 @@ pub record Worked : Type 0 where
   -- as netpbm's tools write it: the raster starts after the one newline, also where its first byte is white space
   pub plain : headerOf (text "P5 4 3 255 " ++ (10 ∷ 7 ∷ [])) ≡ Header 4 3 255 11
   -- a comment between the numbers, as GIMP and ImageMagick write one
-  pub comment : headerOf (text "P5" ++ (10 ∷ text "# a 9" ++ (10 ∷ text "640 480" ++ (13 ∷ text "65535" ++ (9 ∷ []))))) ≡ Header 640 480 65535 23
+  pub comment : headerOf (text "P5" ++ (10 ∷ text "# a 9" ++ (10 ∷ text "640 480" ++ (13 ∷ text "65535" ++ (9 ∷ [])))))
+      ≡ Header 640 480 65535 23
   -- a comment ends a number, and starts right after the magic number
   pub close : headerOf (text "P5#" ++ (10 ∷ text "2#" ++ (10 ∷ text "1 1 "))) ≡ Header 2 1 1 11
   -- zeros in front change nothing, however many
@@ -40,14 +41,16 @@ pub record Worked : Type 0 where
   pub broad : each (byteAt (258 ∷ 65535 ∷ []) 1023) (9 ∷ 9 ∷ 9 ∷ 9 ∷ 9 ∷ []) ≡ 1 ∷ 2 ∷ 3 ∷ 255 ∷ 9 ∷ []
   pub held : over 200 (7 ∷ 300 ∷ 200 ∷ 201 ∷ []) ≡ 2
   -- 1 and -2 as f32, the lowest byte first, and back
-  pub floats : each (λ i v. floatAt (0 ∷ 0 ∷ 0x80 ∷ 0x3f ∷ 0 ∷ 0 ∷ 0 ∷ 0xc0 ∷ []) i) (nan ∷ nan ∷ []) ≡ ofBits binary32 0x3f80_0000 ∷ ofBits binary32 0xc000_0000 ∷ []
+  pub floats : each (λ i v. floatAt (0 ∷ 0 ∷ 0x80 ∷ 0x3f ∷ 0 ∷ 0 ∷ 0 ∷ 0xc0 ∷ []) i) (nan ∷ nan ∷ [])
+      ≡ ofBits binary32 0x3f80_0000 ∷ ofBits binary32 0xc000_0000 ∷ []
   pub and-back :
       each (floatByteAt (ofBits binary32 0x3f80_0000 ∷ ofBits binary32 0xc000_0000 ∷ [])) (replicate 9 7)
       ≡ 0 ∷ 0 ∷ 0x80 ∷ 0x3f ∷ 0 ∷ 0 ∷ 0 ∷ 0xc0 ∷ 7 ∷ []
   pub written : headerText 192 64 255 ≡ text "P5" ++ (10 ∷ text "192 64" ++ (10 ∷ text "255" ++ (10 ∷ [])))
 
 pub worked : Worked
-unfolding headerOf fieldAt numberAt past blanks goesOn inside digitsIn decimalFrom sound p5 sampleAt byteAt over floatAt nthByte floatByteAt ofBits toBits headerText each big little decimal places
+unfolding headerOf fieldAt numberAt past blanks goesOn inside digitsIn decimalFrom sound p5 sampleAt byteAt over
+    floatAt nthByte floatByteAt ofBits toBits headerText each big little decimal places
 worked = record {
   plain = refl;
   comment = refl;

@@ -282,7 +282,8 @@ fn sample_of(raster: &[u8], maxval: usize, i: usize) -> u16
 
 // Samples from a raster, 0 where it ends too soon.
 pub fn decode(raster: &[u8], maxval: usize, samples: &mut [u16])
-    ensures { λ _. ⌜ now (samples .exit) ≡ each (λ i v. sampleAt (now (raster .entry)) maxval i) (now (samples .entry)) ⌝ }
+    ensures { λ _. ⌜ now (samples .exit) ≡ each (λ i v. sampleAt (now (raster .entry)) maxval i)
+        (now (samples .entry)) ⌝ }
 {
     let mut i: usize = 0;
     while i < samples.len() {

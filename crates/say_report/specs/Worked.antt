@@ -9,16 +9,20 @@ use Rattle.say_report.specs.Report.{occurs, line, lineIf, skippedText, d
 pub record Worked : Type 0 where
   pub whole :
       textOf (Ans.Done 0 12 1) Whole (9 ∷ []) 0
-      ≡ text "0: done in whole numbers" ++ (10 ∷ text "repaired: 12" ++ (10 ∷ text "left: 1" ++ (10 ∷ text "the frame is whole" ++ (10 ∷ []))))
+      ≡ text "0: done in whole numbers" ++
+      (10 ∷ text "repaired: 12" ++ (10 ∷ text "left: 1" ++ (10 ∷ text "the frame is whole" ++ (10 ∷ []))))
   -- three names in a buffer of four: a fisheye twice and an unknown opcode; two samples held
   pub skipped :
       textOf (Ans.Done 3 0 0) Rounded (2 ∷ 0 ∷ 2 ∷ 1 ∷ []) 2
       ≡ text "0: done in f32, rounded back"
       ++ (10 ∷ text "skipped WarpFisheye: 2"
       ++ (10 ∷ text "skipped unknown opcode: 1"
-      ++ (10 ∷ text "repaired: 0" ++ (10 ∷ text "left: 0" ++ (10 ∷ text "held to the largest value: 2" ++ (10 ∷ text "the frame is not whole" ++ (10 ∷ [])))))))
-  pub malformed : textOf (Ans.Malformed 7) Float [] 0 ≡ text "2: the list is malformed; whole entries before: 7" ++ (10 ∷ [])
-  pub full : textOf (Ans.Marks 4095) Float [] 0 ≡ text "5: more bad pixels than the scratch holds, at opcode 4095" ++ (10 ∷ [])
+      ++ (10 ∷ text "repaired: 0" ++ (10 ∷ text "left: 0" ++
+      (10 ∷ text "held to the largest value: 2" ++ (10 ∷ text "the frame is not whole" ++ (10 ∷ [])))))))
+  pub malformed : textOf (Ans.Malformed 7) Float [] 0 ≡ text "2: the list is malformed; whole entries before: 7" ++
+      (10 ∷ [])
+  pub full : textOf (Ans.Marks 4095) Float [] 0 ≡ text "5: more bad pixels than the scratch holds, at opcode 4095" ++
+      (10 ∷ [])
 
 pub worked : Worked
 unfolding occurs line lineIf skippedText doneText decimal digitsIn

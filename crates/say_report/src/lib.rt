@@ -1,4 +1,5 @@
-// What a run answered, as text: a refusal is one line, a result has a line each for the form, what was skipped, the totals and the verdict.
+// What a run answered, as text: a refusal is one line, a result has a line each for the form, what was skipped, the
+// totals and the verdict.
 use dng::Answer;
 ghost use mathlib.Core.Path.{_≡_};
 ghost use mathlib.Core.Bool.{cond};
@@ -39,7 +40,8 @@ fn count(names: &[u8], k: u8) -> usize
 // A label, a number and the end of the line.
 fn put_line(out: &mut [u8], at: usize, label: &[u8], n: u64) -> usize
     requires { ⌜ at + length (now label) + 21 ≤ length (now out) ⌝ }
-    ensures { λ r. ⌜ Within (length (now (label .entry)) + 21) (now (out .entry)) at (line (now (label .entry)) n) r (now (out .exit)) ⌝ }
+    ensures { λ r. ⌜ Within (length (now (label .entry)) + 21) (now (out .entry)) at (line (now (label .entry)) n) r
+        (now (out .exit)) ⌝ }
 {
     let a = num_text::put(&mut *out, at, label);
     let b = num_text::put_number(&mut *out, a, n);
@@ -49,7 +51,8 @@ fn put_line(out: &mut [u8], at: usize, label: &[u8], n: u64) -> usize
 // The same where the number is not 0.
 fn put_line_if(out: &mut [u8], at: usize, label: &[u8], n: u64) -> usize
     requires { ⌜ at + length (now label) + 21 ≤ length (now out) ⌝ }
-    ensures { λ r. ⌜ Within (length (now (label .entry)) + 21) (now (out .entry)) at (lineIf (now (label .entry)) n) r (now (out .exit)) ⌝ }
+    ensures { λ r. ⌜ Within (length (now (label .entry)) + 21) (now (out .entry)) at (lineIf (now (label .entry)) n) r
+        (now (out .exit)) ⌝ }
 {
     if n == 0 {
         at
@@ -128,7 +131,8 @@ fn put_done(
     held: u64,
 ) -> usize
     requires { ⌜ 512 ≤ length (now out) ⌝ }
-    ensures { λ r. ⌜ Within 512 (now (out .entry)) 0 (doneText form (now (names .entry)) n repaired left held) r (now (out .exit)) ⌝ }
+    ensures { λ r. ⌜ Within 512 (now (out .entry)) 0 (doneText form (now (names .entry)) n repaired left held) r
+        (now (out .exit)) ⌝ }
 {
     let k = smaller(n, names.len());
     let a = put_form(&mut *out, 0, form);
@@ -179,7 +183,8 @@ fn put_answer(out: &mut [u8], a: Answer, form: Form, names: &[u8], held: u64) ->
 
 fn put_text(out: &mut [u8], bytes: &[u8]) -> usize
     requires { ⌜ length (now bytes) ≤ length (now out) ⌝ }
-    ensures { λ r. ⌜ Within (length (now (bytes .entry))) (now (out .entry)) 0 (now (bytes .entry)) r (now (out .exit)) ⌝ }
+    ensures { λ r. ⌜ Within (length (now (bytes .entry))) (now (out .entry)) 0 (now (bytes .entry)) r
+        (now (out .exit)) ⌝ }
 {
     num_text::put(out, 0, bytes)
 }

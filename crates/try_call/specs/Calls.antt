@@ -1,4 +1,5 @@
--- The calls that the comparison stores, one after the other. Words are big-endian; a list and samples have their length before them.
+-- The calls that the comparison stores, one after the other. Words are big-endian; a list and samples have their length
+-- before them.
 use Prim.Native.Nat.{ℕ, _+_, _-_, _≤_}
 use mathlib.Core.Bool.{Bool, true, false, _&&_}
 use mathlib.Core.List.{List}

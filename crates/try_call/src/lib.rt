@@ -1,4 +1,5 @@
-// Calls as the comparison with the Rust stores them, read one after the other, and bytes as text. compare/README.md has the format.
+// Calls as the comparison with the Rust stores them, read one after the other, and bytes as text. compare/README.md has
+// the format.
 use dng::Window;
 ghost use mathlib.Core.Path.{_≡_};
 ghost use mathlib.Core.List.{_++_};
@@ -221,7 +222,8 @@ pub fn put_hex(bytes: &[u8], text: &mut [u8]) -> usize
 // The bytes at the start of room that is long enough.
 pub fn copy(bytes: &[u8], room: &mut [u8])
     requires { ⌜ length (now bytes) ≤ length (now room) ⌝ }
-    ensures { λ _. ⌜ now (room .exit) ≡ paste (now (room .entry)) 0 (now (bytes .entry)) (length (now (bytes .entry))) ⌝ }
+    ensures { λ _. ⌜ now (room .exit) ≡ paste (now (room .entry)) 0 (now (bytes .entry))
+        (length (now (bytes .entry))) ⌝ }
 {
     let mut i = 0;
     while i < bytes.len() {

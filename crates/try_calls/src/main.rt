@@ -1,5 +1,5 @@
-// Runs the calls that stand in its input and prints what each of them answers and leaves, a line for each. The comparison with the Rust
-// wrote both the input and the lines that are expected: compare/run SOURCE frames FOLDER.
+// Runs the calls that stand in its input and prints what each of them answers and leaves, a line for each. The
+// comparison with the Rust wrote both the input and the lines that are expected: compare/run SOURCE frames FOLDER.
 use dng::Numbers;
 use dng::RowWindow;
 use dng::Settings;

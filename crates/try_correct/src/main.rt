@@ -1,6 +1,7 @@
-// Small frames, mended: prints what `correct` would print, and the samples, which no test can see in the file that it writes. The input is a case
-// after another, each of four parts with their lengths before them: a title, a list, a frame, and six words: 0 for a greymap and 1 for three raw
-// f32; the period; how many entries there are for samples as f32, for marks and for names; and 0. compare/frames writes it.
+// Small frames, mended: prints what `correct` would print, and the samples, which no test can see in the file that it
+// writes. The input is a case after another, each of four parts with their lengths before them: a title, a list, a
+// frame, and six words: 0 for a greymap and 1 for three raw f32; the period; how many entries there are for samples as
+// f32, for marks and for names; and 0. compare/frames writes it.
 use dng::Answer;
 use dng::Settings;
 use dng::Window;

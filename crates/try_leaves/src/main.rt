@@ -1,5 +1,6 @@
-// Runs every leaf over a dense set of bit patterns and prints a sum of what it gave for each sweep. The stored output was printed by the Rust of
-// compare/leaves/leaves.rs, which works the same sweeps out with Rust's own casts and functions.
+// Runs every leaf over a dense set of bit patterns and prints a sum of what it gave for each sweep. The stored output
+// was printed by the Rust of compare/leaves/leaves.rs, which works the same sweeps out with Rust's own casts and
+// functions.
 use libc::STDOUT_FILENO;
 
 // What a leaf gives at a bit pattern, as a number.

@@ -1,5 +1,6 @@
-// What is said of the lists that stand in its input, each under its title: how it is read, which forms take it and how many opcodes each skips, and
-// its note. The input is a length and the title, a length and the list, again and again; words are big-endian. compare/lists writes it.
+// What is said of the lists that stand in its input, each under its title: how it is read, which forms take it and how
+// many opcodes each skips, and its note. The input is a length and the title, a length and the list, again and again;
+// words are big-endian. compare/lists writes it.
 use dng::Reading;
 use libc::STDIN_FILENO;
 use libc::STDOUT_FILENO;

@@ -1,5 +1,5 @@
--- A gain map over a window, a block of columns after another. Nothing here has to be believed: proofs/Columns says what it comes to in the words
--- of dng/specs.
+-- A gain map over a window, a block of columns after another. Nothing here has to be believed: proofs/Columns says what
+-- it comes to in the words of dng/specs.
 use Prim.Native.Nat.{ℕ, _+_, _*_, _≤_, _<_, max}
 use mathlib.Core.Path.{_≡_}
 use mathlib.Core.Bool.{true}

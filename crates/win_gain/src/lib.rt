@@ -44,14 +44,16 @@ fn plane_block(
 )
     requires { ⌜
         Walks k (length (now row)) × MapFits «points_v» «points_h» grid «map_planes» × Begins k from w
-        × Filled (k .x0 + from) (k .pitch) (g .«full_width») (grid .«origin_h») (grid .«spacing_h») «points_h» w (now hs) (now ts)
+        × Filled (k .x0 + from) (k .pitch) (g .«full_width») (grid .«origin_h») (grid .«spacing_h») «points_h» w
+        (now hs) (now ts)
         × AxisIs (position (g .y) (g .«full_height») (grid .«origin_v») (grid .«spacing_v») «points_v») «points_v» v
         ⌝ }
     ensures { λ _. ⌜
         now (row .exit)
         ≡ walked k
         (within (k .x0 + from) (k .x0 + from + w * k .pitch)
-        (gainRule (g .«full_width») (g .«full_height») (now (body .entry)) r «points_v» «points_h» grid «map_planes» (g .y)))
+        (gainRule (g .«full_width») (g .«full_height») (now (body .entry)) r «points_v» «points_h» grid «map_planes»
+        (g .y)))
         (now (row .entry))
         ⌝ }
 {
@@ -93,7 +95,8 @@ fn planes_block(
     map_planes: u32,
 )
     requires { ⌜
-        RowFits (g .x0) (g .planes) (g .y) (length (now row)) × First (r .left) (r .«col_pitch») (g .x0) (start .col) (start .nth)
+        RowFits (g .x0) (g .planes) (g .y) (length (now row)) × First (r .left) (r .«col_pitch») (g .x0) (start .col)
+        (start .nth)
         × MapFits «points_v» «points_h» grid «map_planes»
         × Block (g .x0) (g .«full_width») r grid «points_h» from w (now hs) (now ts)
         ⌝ }
@@ -101,7 +104,8 @@ fn planes_block(
         now (row .exit)
         ≡ regionPlanes g r (r .planes)
         (within (g .x0 + from) (g .x0 + from + w * pitchOf r)
-        (gainRule (g .«full_width») (g .«full_height») (now (body .entry)) r «points_v» «points_h» grid «map_planes» (g .y)))
+        (gainRule (g .«full_width») (g .«full_height») (now (body .entry)) r «points_v» «points_h» grid «map_planes»
+        (g .y)))
         (now (row .entry))
         ⌝ }
 {
@@ -145,7 +149,8 @@ fn row_block(
     map_planes: u32,
 )
     requires { ⌜
-        RowFits (g .x0) (g .planes) (g .y) (length (now row)) × First (r .left) (r .«col_pitch») (g .x0) (start .col) (start .nth)
+        RowFits (g .x0) (g .planes) (g .y) (length (now row)) × First (r .left) (r .«col_pitch») (g .x0) (start .col)
+        (start .nth)
         × MapFits «points_v» «points_h» grid «map_planes»
         × Block (g .x0) (g .«full_width») r grid «points_h» from w (now hs) (now ts)
         ⌝ }
@@ -247,8 +252,8 @@ fn next_block(from: usize, count: usize, pitch: usize) -> usize
     from + count * pitch
 }
 
-// As many columns from image column x0 + from on as the tables hold, or as there are before `end`; answers how far the next block begins. Each
-// block works out its rows' axes again; a window of up to 2048 columns has one block.
+// As many columns from image column x0 + from on as the tables hold, or as there are before `end`; answers how far the
+// next block begins. Each block works out its rows' axes again; a window of up to 2048 columns has one block.
 fn one_block(
     samples: &mut [f32],
     w: Window,
@@ -341,7 +346,8 @@ fn all_blocks(
         now (samples .exit)
         ≡ each
         (onWindow w (length (now (samples .entry)))
-        (onRegion r (gainRule (w .«full_width») (w .«full_height») (now (body .entry)) r «points_v» «points_h» grid «map_planes»)))
+        (onRegion r (gainRule (w .«full_width») (w .«full_height») (now (body .entry)) r «points_v» «points_h» grid
+        «map_planes»)))
         (now (samples .entry))
         ⌝ }
 {
@@ -386,7 +392,8 @@ pub fn blocks(
         now (samples .exit)
         ≡ each
         (onWindow w (length (now (samples .entry)))
-        (onRegion r (gainRule (w .«full_width») (w .«full_height») (now (body .entry)) r «points_v» «points_h» grid «map_planes»)))
+        (onRegion r (gainRule (w .«full_width») (w .«full_height») (now (body .entry)) r «points_v» «points_h» grid
+        «map_planes»)))
         (now (samples .entry))
         ⌝ }
 {
@@ -441,7 +448,8 @@ pub fn gain_window(
         now (samples .exit)
         ≡ each
         (onWindow w (length (now (samples .entry)))
-        (onRegion r (gainRule (w .«full_width») (w .«full_height») (now (body .entry)) r «points_v» «points_h» grid «map_planes»)))
+        (onRegion r (gainRule (w .«full_width») (w .«full_height») (now (body .entry)) r «points_v» «points_h» grid
+        «map_planes»)))
         (now (samples .entry))
         ⌝ }
 {

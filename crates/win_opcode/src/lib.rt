@@ -1,4 +1,5 @@
-// One opcode over a whole window. Each row is lent from its own start, as a part of the samples. A gain map goes by blocks of columns.
+// One opcode over a whole window. Each row is lent from its own start, as a part of the samples. A gain map goes by
+// blocks of columns.
 ghost use mathlib.Core.Path.{_≡_};
 ghost use mathlib.Core.Bool.{true};
 ghost use Prim.Native.Nat.{min};
@@ -28,7 +29,8 @@ fn rows(samples: &mut [f32], w: Window, op: Opcode, ready: Prepared, body: &[u8]
         ⌝ }
     ensures { λ _.
         ⌜ now (samples .exit)
-        ≡ each (onWindow w (length (now (samples .entry))) (ruleOf (frameOf w scale) op (now (body .entry)))) (now (samples .entry)) ⌝ }
+        ≡ each (onWindow w (length (now (samples .entry))) (ruleOf (frameOf w scale) op (now (body .entry))))
+        (now (samples .entry)) ⌝ }
 {
     let n = samples.len();
     let width = win_rows::row_width(w);
@@ -57,19 +59,21 @@ fn by_rows(samples: &mut [f32], w: Window, op: Opcode, body: &[u8], scale: f32)
     requires { ⌜ WindowFits w × Ordered w × (bounded op ≡ true) ⌝ }
     ensures { λ _.
         ⌜ now (samples .exit)
-        ≡ each (onWindow w (length (now (samples .entry))) (ruleOf (frameOf w scale) op (now (body .entry)))) (now (samples .entry)) ⌝ }
+        ≡ each (onWindow w (length (now (samples .entry))) (ruleOf (frameOf w scale) op (now (body .entry))))
+        (now (samples .entry)) ⌝ }
 {
     let ready = row_opcode::prepare(op, w.x0 as u32, w.full_width as u32, w.full_height as u32);
     rows(samples, w, op, ready, body, scale);
 }
 
-// The rows and planes of a gain map share the positions of their columns. A single row of one plane has nothing to share, and where there are fewer
-// samples than columns, positions for all columns would cost more than the samples.
+// The rows and planes of a gain map share the positions of their columns. A single row of one plane has nothing to
+// share, and where there are fewer samples than columns, positions for all columns would cost more than the samples.
 fn by_kind(samples: &mut [f32], w: Window, op: Opcode, body: &[u8], scale: f32)
     requires { ⌜ WindowFits w × Ordered w × (bounded op ≡ true) ⌝ }
     ensures { λ _.
         ⌜ now (samples .exit)
-        ≡ each (onWindow w (length (now (samples .entry))) (ruleOf (frameOf w scale) op (now (body .entry)))) (now (samples .entry)) ⌝ }
+        ≡ each (onWindow w (length (now (samples .entry))) (ruleOf (frameOf w scale) op (now (body .entry))))
+        (now (samples .entry)) ⌝ }
 {
     if samples.len() <= w.width || w.height < 2 && w.planes < 2 {
         by_rows(samples, w, op, body, scale);
@@ -103,7 +107,8 @@ pub fn window_step(samples: &mut [f32], w: Window, op: Opcode, body: &[u8], scal
     requires { ⌜ WindowFits w × (bounded op ≡ true) ⌝ }
     ensures { λ _.
         ⌜ now (samples .exit)
-        ≡ each (onWindow w (length (now (samples .entry))) (ruleOf (frameOf w scale) op (now (body .entry)))) (now (samples .entry)) ⌝ }
+        ≡ each (onWindow w (length (now (samples .entry))) (ruleOf (frameOf w scale) op (now (body .entry))))
+        (now (samples .entry)) ⌝ }
 {
     if w.width == 0 {
         return;

@@ -1,5 +1,5 @@
--- What a run has checked of a window before it starts, and where the window's rows lie in the image. Document 01, 'Taken and left' and
--- 'Which samples an opcode touches'.
+-- What a run has checked of a window before it starts, and where the window's rows lie in the image. Document 01,
+-- 'Taken and left' and 'Which samples an opcode touches'.
 use Prim.Native.Nat.{ℕ, _+_, _≤_}
 use Rattle.dng.specs.declared.Window.{Window}
 use Rattle.row_opcode.specs.declared.Place.{Place}

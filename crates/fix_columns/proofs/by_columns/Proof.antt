@@ -13,7 +13,8 @@ use Rattle.fix_columns.proofs.by_columns.Tie as tie
 
 -- the marks by columns
 by : (c : tie.After-known-told) → let a = c .before .before .before .before .before .before .before .before .before .args in
-    Holds (positions (a .w)) (listedIn true (a .w) (a .body .now) (a .points) (a .rects)) (a .marks .now) (c .before .before .before .before .before .gather .last .1 .1 .1 .1 .0)
+    Holds (positions (a .w)) (listedIn true (a .w) (a .body .now) (a .points) (a .rects)) (a .marks .now)
+    (c .before .before .before .before .before .gather .last .1 .1 .1 .1 .0)
     (c .before .n .given .0 .0)
 by c =
     let gather = c .before .before .before .before .before .gather in
@@ -29,14 +30,16 @@ slice-aggregate-in-order c =
 in-order-requires : tie.Need-in-order-requires
 in-order-requires c κs =
     let a = c .before .before .before .before .before .before .before .before .before .before .args in
-    turns (a .w) (a .body .now) (a .points) (a .rects) (c .before .before .before .before .before .before .before .before .before .before .pre) _ _ _ (by (c .before))
+    turns (a .w) (a .body .now) (a .points) (a .rects) (c .before .before .before .before .before .before .before .before .before .before .pre) _ _ _
+    (by (c .before))
 
 returns : tie.Need-returns
 returns c =
     let at = c .before .before .before .before .before .before .before .before .before .before .before .before .before in
     let a = at .args in
     let sorted = c .before .before .in-order in
-    turned-all (a .w) (a .body .now) (a .points) (a .rects) (at .pre) (a .marks .now) _ _ _ _ (sorted .result) (by (c .before .before .before .before)) (sorted .ensures)
+    turned-all (a .w) (a .body .now) (a .points) (a .rects) (at .pre) (a .marks .now) _ _ _ _ (sorted .result) (by (c .before .before .before .before))
+    (sorted .ensures)
     (sorted .kept .0) (c .before .before .before .before .before .before .before .before .before .gather .kept .1 .1 .1 .1 .0)
 
 returns-2 : tie.Need-returns-2

@@ -36,7 +36,9 @@ mul-compact : tie.Need-mul-compact
 mul-compact c = omega (
   arith,
   area
-      (c .before .before .before .before .before .before .before .before .before .before .before .before .before .before .before .before .before .before .args .w) (c .before .before .before .before .before .before .before .before .before .before .before .before .before .before .before .before .before .before .pre),
+      (c .before .before .before .before .before .before .before .before .before .before .before .before .before .before .before .before .before .before .args
+      .w) (c .before .before .before .before .before .before .before .before .before .before .before .before .before .before .before .before .before .before
+      .pre),
 )
 
 compact-requires : tie.Need-compact-requires
@@ -46,8 +48,10 @@ compact-requires c κs =
 
 returns-3 : tie.Need-returns-3
 returns-3 c =
-    let at = c .before .before .before .before .before .before .before .before .before .before .before .before .before .before .before .before .before .before .before .before .before in
-    let points = c .before .before .before .before .before .before .before .before .before .before .before .before .before .before .before .before .before .all-points in
+    let at = c .before .before .before .before .before .before .before .before .before .before .before .before .before .before .before .before .before .before
+    .before .before .before in
+    let points = c .before .before .before .before .before .before .before .before .before .before .before .before .before .before .before .before .before
+    .all-points in
     let rects = c .before .before .before .before .before .before .before .before .before .before .all-rects in
     let small = c .before .before .compact in
     list-done (at .args .across) (at .args .w) (at .args .body .now) (at .args .points) (at .args .rects) _ _ (points .result) (points .ensures) _ _

@@ -19,7 +19,12 @@ add-result c =
 
 returns-3 : tie.Need-returns-3
 returns-3 c = (
-  λ e. record { top = c .before .before .before .before .before .if1 .left; left = c .before .before .before .if2 .left; bottom = c .before .if3 .taken; right = ltb-true _ _ e },
+  λ e. record {
+    top = c .before .before .before .before .before .if1 .left;
+    left = c .before .before .before .if2 .left;
+    bottom = c .before .if3 .taken;
+    right = ltb-true _ _ e;
+  },
   λ e v. let a = c .before .before .before .before .before .before .before .args in omega (arith, ltb-false (a .column) (a .w .x0 + a .w .width) e, v .right),
 )
 

@@ -9,7 +9,8 @@ use Rattle.fix_scratch.proofs.Joining.{joined-as}
 use Rattle.fix_listed.proofs.point.Statement.{statement}
 use Rattle.fix_listed.proofs.point.Tie as tie
 
-within : (c : tie.Then1) → Within (c .before .before .before .before .before .before .args .w) (c .before .before .before .u32-at .result) (c .before .before .u32-at2 .result)
+within : (c : tie.Then1) → Within (c .before .before .before .before .before .before .args .w) (c .before .before .before .u32-at .result)
+    (c .before .before .u32-at2 .result)
 within c = c .before .inside .ensures .0 (c .if1 .taken)
 
 position-requires : tie.Need-position-requires

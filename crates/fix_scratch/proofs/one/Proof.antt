@@ -10,7 +10,8 @@ use Rattle.fix_scratch.proofs.one.Tie as tie
 returns : tie.Need-returns
 returns c =
     let at = c .before .before .before .before in
-    place-there _ _ _ _ (at .args .p) (at .pre .0) (sym (c .before .find .ensures (omega (arith, at .pre .0 .order, at .pre .0 .fits)) (at .pre .0 .rises)) ∙ c .if1 .taken)
+    place-there _ _ _ _ (at .args .p) (at .pre .0) (sym (c .before .find .ensures (omega (arith, at .pre .0 .order, at .pre .0 .fits)) (at .pre .0 .rises))
+    ∙ c .if1 .taken)
 
 pub one-spec : {M : Type 1} → statement M
 one-spec = tie.close (tie.spec

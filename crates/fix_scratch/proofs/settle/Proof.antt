@@ -50,8 +50,12 @@ place-requires c κs =
     let restart = c .before .before .before .restart in
     let join = c .before .before .before .before .before .before .before .join in
     let tidy = c .before .before .before .before .before .before .before .before .before .before .before .before .before .tidy in
-    let at = c .before .before .before .before .before .before .before .before .before .before .before .before .before .before .before .before .before .before .before .before in
-    (front-kept _ _ _ _ _ (tidied-packed _ _ _ _ _ _ (tidy .ensures) _ _ (join .ensures) (join .kept .0) .front) (restart .ensures) (restart .kept .0), at .pre .1 .2)
+    let at = c .before .before .before .before .before .before .before .before .before .before .before .before .before .before .before .before .before .before
+    .before .before in (
+      front-kept _ _ _ _ _ (tidied-packed _ _ _ _ _ _ (tidy .ensures) _ _ (join .ensures) (join .kept .0) .front) (restart .ensures) (restart .kept .0),
+      at .pre
+          .1 .2,
+    )
 
 returns-2 : tie.Need-returns-2
 returns-2 c =
@@ -59,7 +63,8 @@ returns-2 c =
     let restart = c .before .before .before .before .before .before .restart in
     let join = c .before .before .before .before .before .before .before .before .before .before .join in
     let tidy = c .before .before .before .before .before .before .before .before .before .before .before .before .before .before .before .before .tidy in
-    let overdue = c .before .before .before .before .before .before .before .before .before .before .before .before .before .before .before .before .before .before .before .before .overdue in
+    let overdue = c .before .before .before .before .before .before .before .before .before .before .before .before .before .before .before .before .before
+    .before .before .before .overdue in
     joined-next _ (λ q. false) _ _ _ _ _ _ _ _ (place .result)
     (gains-from _ _ _ _ _ _ _ _ (overdue .ensures)
     (gains-kept _ _ _ _ _ _ _ _ (gains-packed _ _ _ _ _ (tidied-packed _ _ _ _ _ _ (tidy .ensures) _ _ (join .ensures) (join .kept .0)))

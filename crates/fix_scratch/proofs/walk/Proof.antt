@@ -84,7 +84,8 @@ loop-again-2 c =
     )
 
 same-length : tie.Need-same-length Inv-loop μ-loop
-same-length c = c .before .before .before .before .push .kept .0 ∙ c .before .before .before .before .before .before .before .before .before .before .loop .inv .0 .long
+same-length c = c .before .before .before .before .push .kept .0 ∙ c .before .before .before .before .before .before .before .before .before .before .loop .inv
+    .0 .long
 
 returns : tie.Need-returns Inv-loop μ-loop
 returns c =

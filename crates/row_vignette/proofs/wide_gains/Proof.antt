@@ -27,7 +27,8 @@ loop-again c =
     let s = c .before .before .before .before .before .args in
     let a = c .before .before .before .loop in
     let value = c .wide-gain .ensures ∙ ap (λ (x : Float). wideGain (s .q) (s .m2) (s .dy2) (sub binary64 x (s .cx))) (c .before .f64-of-u32 .ensures) in
-    let grown = store nan (wideAt (s .q) (s .m2) (s .dy2) (s .cx) (s .x0)) 0 (a .j) (s .gains .now) (a .gains) _ (a .inv .0) value (omega arith) (omega arith) in
+    let grown = store nan (wideAt (s .q) (s .m2) (s .dy2) (s .cx) (s .x0)) 0 (a .j) (s .gains .now) (a .gains) _ (a .inv .0) value (omega arith) (omega arith)
+    in
     (grown, ap length grown ∙ length-each _ _)
 
 returns : tie.Need-returns Inv-loop μ-loop

@@ -3,14 +3,8 @@ use borrow.Author.Needs.{needs}
 use Rattle.run_answers.proofs.reading_numbers.Statement.{statement}
 use Rattle.run_answers.proofs.reading_numbers.Tie as tie
 
-returns : tie.Need-returns
-returns c = cc
-
-returns-2 : tie.Need-returns-2
-returns-2 c = cc
-
 pub reading-numbers-spec : {M : Type 1} → statement M
 reading-numbers-spec =
     tie.close
     (tie.spec
-    (λ c. search needs) (λ c κs. search needs) (λ c. search needs) (λ c κs. search needs) returns returns-2)
+    (λ c. search needs) (λ c κs. search needs) (λ c. search needs) (λ c κs. search needs) (λ c. cc) (λ c. cc))

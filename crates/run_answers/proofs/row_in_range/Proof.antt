@@ -27,7 +27,12 @@ mul-result c =
 returns-4 : tie.Need-returns-4
 unfolding rowInRange
 returns-4 c =
-    simp (le-leb _ _ (c .before .before .before .before .before .if1 .left), le-leb _ _ (c .before .before .before .before .if2 .left), le-leb _ _ (c .before .before .before .if3 .left))
+    simp (
+      le-leb _ _ (c .before .before .before .before .before .if1 .left),
+      le-leb _ _ (c .before .before .before .before .if2 .left),
+      le-leb _ _
+          (c .before .before .before .if3 .left),
+    )
 
 pub row-in-range-spec : {M : Type 1} → statement M
 row-in-range-spec = tie.close (tie.spec returns returns-2 returns-3 mul-result returns-4)

@@ -3,12 +3,9 @@ use borrow.Author.Needs.{needs}
 use Rattle.run_answers.proofs.whole_row.Statement.{statement}
 use Rattle.run_answers.proofs.whole_row.Tie as tie
 
-returns : tie.Need-returns
-returns c = cc
-
 pub whole-row-spec : {M : Type 1} → statement M
 whole-row-spec =
     tie.close
     (tie.spec
-    (λ c. search needs) (λ c. search needs) (λ c. search needs) (λ c. search needs) returns (λ c. search needs)
+    (λ c. search needs) (λ c. search needs) (λ c. search needs) (λ c. search needs) (λ c. cc) (λ c. search needs)
     (λ c. search needs) (λ c. search needs))

@@ -13,26 +13,12 @@ Inv-loop room₀ i₀ room i = Till (λ j. 0) room₀ room i
 abbrev μ-loop : tie.MeasureT-loop
 μ-loop room₀ i₀ room i = length room₀ - i
 
-loop-holds : tie.Need-loop-holds Inv-loop μ-loop
-loop-holds c = start _ _
-
-mul-room : tie.Need-mul-room Inv-loop μ-loop
-mul-room c = omega (arith, c .before .loop .inv .many)
-
-loop-less : tie.Need-loop-less Inv-loop μ-loop
-loop-less c = omega (arith, c .before .loop .inv .many)
-
-loop-again : tie.Need-loop-again Inv-loop μ-loop
-loop-again c = let at = c .before .loop in next 0 _ _ _ _ _ (at .inv) (c .loop-test .taken) refl
-
-same-length : tie.Need-same-length Inv-loop μ-loop
-same-length c = c .before .loop .inv .many
-
-returns : tie.Need-returns Inv-loop μ-loop
-returns c = cleared-all _ _ _ _ (c .before .loop .inv) (omega (arith, c .loop-test .left))
-
 pub clear-u16-spec : {M : Type 1} → statement M
 clear-u16-spec =
     tie.close
     (tie.spec
-    Inv-loop μ-loop loop-holds mul-room (λ c. omega arith) (λ c. omega arith) loop-less loop-again same-length returns)
+    Inv-loop μ-loop (λ c. start _ _) (λ c. omega (arith, c .before .loop .inv .many)) (λ c. omega arith)
+    (λ c. omega arith) (λ c. omega (arith, c .before .loop .inv .many))
+    (λ c. let at = c .before .loop in next 0 _ _ _ _ _ (at .inv) (c .loop-test .taken) refl)
+    (λ c. c .before .loop .inv .many)
+    (λ c. cleared-all _ _ _ _ (c .before .loop .inv) (omega (arith, c .loop-test .left))))

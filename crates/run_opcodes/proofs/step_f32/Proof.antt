@@ -12,7 +12,8 @@ use Rattle.run_opcodes.proofs.step_f32.Tie as tie
 returns : tie.Need-returns
 returns c =
     let a = c .before .before .before .before .before .before .before .args in
-    lent (a .w) (λ (l : List ℕ). ruleOf (frameOf (a .w) (a .scale)) (a .op) l) (now (a .samples)) (c .before .before .before .body .ensures) (c .before .before .window-step .ensures)
+    lent (a .w) (λ (l : List ℕ). ruleOf (frameOf (a .w) (a .scale)) (a .op) l) (now (a .samples)) (c .before .before .before .body .ensures)
+    (c .before .before .window-step .ensures)
 
 pub step-f32-spec : {M : Type 1} → statement M
 step-f32-spec = tie.close (tie.spec

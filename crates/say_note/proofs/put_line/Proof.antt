@@ -8,10 +8,12 @@ use Rattle.say_note.proofs.put_line.Statement.{statement}
 use Rattle.say_note.proofs.put_line.Tie as tie
 
 returns : tie.Need-returns
-returns c = let a = c .before .before .before .before .before .args in appended-as (about-none (now (a .head)) (now (a .codes)) (now (a .end)) (omega arith)) (appended-none _ _)
+returns c = let a = c .before .before .before .before .before .args in appended-as (about-none (now (a .head)) (now (a .codes)) (now (a .end)) (omega arith))
+    (appended-none _ _)
 
 put-requires : tie.Need-put-requires
-put-requires c κs = let a = c .before .before .before .before .before .before .args in omega (arith, about-length (now (a .head)) (now (a .codes)) (now (a .end)) (c .before .if1 .left))
+put-requires c κs = let a = c .before .before .before .before .before .before .args in
+    omega (arith, about-length (now (a .head)) (now (a .codes)) (now (a .end)) (c .before .if1 .left))
 
 put-names-requires : tie.Need-put-names-requires
 put-names-requires c κs =

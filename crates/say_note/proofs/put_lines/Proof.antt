@@ -18,7 +18,8 @@ put-about-requires-2 c κs =
     let b6 = c .before .before .before .before .before .before in
     let a = b6 .before .before .before .before .before .before .args in
     one-fits (namesOf pixel (itemsOf (now (a .list)))) (namesOf skipped (itemsOf (now (a .list)))) (namesOf every (itemsOf (now (a .list))))
-    (b6 .put-about .ensures) _ _ (c .before .before .before .if1 .taken) (b6 .put-about .kept .1 .1 .0) (b6 .before .before .before .before .before .before .pre)
+    (b6 .put-about .ensures) _ _ (c .before .before .before .if1 .taken) (b6 .put-about .kept .1 .1 .0)
+    (b6 .before .before .before .before .before .before .pre)
 
 put-about-requires-3 : tie.Need-put-about-requires-3
 put-about-requires-3 c κs =

@@ -14,7 +14,12 @@ returns c = note-long _ (c .before .before .before .before .before .if1 .taken) 
 put-malformed-requires : tie.Need-put-malformed-requires
 put-malformed-requires c κs =
     let b4 = c .before .before .before .before in
-    omega (arith, b4 .before .before .before .before .pre, malformed-bound (now (b4 .before .before .before .before .args .list)) (sym (b4 .read .ensures) ∙ c .before .before .after .given .1))
+    omega (
+      arith,
+      b4 .before .before .before .before .pre,
+      malformed-bound (now (b4 .before .before .before .before .args .list))
+          (sym (b4 .read .ensures) ∙ c .before .before .after .given .1),
+    )
 
 put-lines-requires : tie.Need-put-lines-requires
 put-lines-requires c κs =
@@ -24,7 +29,8 @@ put-lines-requires c κs =
 returns-2 : tie.Need-returns-2
 returns-2 c =
     let b7 = c .before .before .before .before .before .before .before in
-    note-malformed _ (b7 .before .if1 .left) (b7 .read .ensures) (c .before .before .before .before .before .after .given .1) (c .before .before .put-malformed .ensures)
+    note-malformed _ (b7 .before .if1 .left) (b7 .read .ensures) (c .before .before .before .before .before .after .given .1)
+    (c .before .before .put-malformed .ensures)
 
 returns-3 : tie.Need-returns-3
 returns-3 c =

@@ -32,7 +32,12 @@ loop-again c =
     )
 
 returns : tie.Need-returns Inv-loop μ-loop
-returns c = omega (arith, over-end (c .before .before .before .args .maxval) (c .before .before .before .args .samples .now) (c .before .loop .i) (c .loop-test .left), c .before .loop .inv .0)
+returns c = omega (
+  arith,
+  over-end (c .before .before .before .args .maxval) (c .before .before .before .args .samples .now) (c .before .loop .i)
+      (c .loop-test .left),
+  c .before .loop .inv .0,
+)
 
 pub count-over-spec : {M : Type 1} → statement M
 count-over-spec =

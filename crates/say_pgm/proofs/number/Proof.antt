@@ -1,4 +1,5 @@
--- `say_pgm::number` meets its contract. The loop's invariant: the digits from i on, after those that say `value`, give the number, held at the end. Assumes nothing.
+-- `say_pgm::number` meets its contract. The loop's invariant: the digits from i on, after those that say `value`, give the number, held at the end. Assumes
+-- nothing.
 use Prim.Native.Nat.{_+_, _-_, _≤_, min}
 use mathlib.Core.Path.{_≡_, refl, _∙_}
 use borrow.Author.Needs.{needs}
@@ -39,11 +40,25 @@ loop-again c =
     let b6 = c .before .before .before .before .before .before in
     let r = c .before .before .before .is-digit .ensures in
     let in-it = c .before .before .before .before .before .loop-test .taken in
-    let on = not-false _ (c .before .before .if1 .left) in
-    (omega arith, digits-on _ _ in-it r on ∙ b6 .loop .inv .1, decimal-on _ _ _ _ _ in-it r on (c .before .digit .ensures .0) (c .more .ensures) ∙ b6 .loop .inv .2)
+    let on = not-false _ (c .before .before .if1 .left) in (
+      omega arith,
+      digits-on _ _ in-it r on ∙ b6 .loop .inv .1,
+      decimal-on _ _ _ _ _ in-it r on (c .before .digit .ensures .0) (c .more .ensures)
+          ∙ b6 .loop .inv .2,
+    )
 
 returns-2 : tie.Need-returns-2 Inv-loop μ-loop
-returns-2 c = record { starts = refl; ends = digits-end _ _ (c .loop-test .left) ∙ c .before .loop .inv .1; held = omega (arith, decimal-end (c .before .loop .value) (c .before .before .before .args .bytes .now) (c .before .loop .i) (c .loop-test .left), c .before .loop .inv .2, c .before .loop .inv .0) }
+returns-2 c = record {
+  starts = refl;
+  ends = digits-end _ _ (c .loop-test .left) ∙ c .before .loop .inv .1;
+  held = omega (
+    arith,
+    decimal-end (c .before .loop .value) (c .before .before .before .args .bytes .now) (c .before .loop .i) (c .loop-test .left),
+    c
+        .before .loop .inv .2,
+    c .before .loop .inv .0,
+  );
+}
 
 pub number-spec : {M : Type 1} → statement M
 number-spec =

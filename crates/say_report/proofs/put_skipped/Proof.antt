@@ -39,7 +39,8 @@ returns c =
     (within-then _ _
     (within-then _ _
     (within-then _ _
-    (within-then _ _ (counted _ _ _ (c1 .before .count .ensures) (c1 .put-line-if .ensures)) (counted _ _ _ (c2 .before .count2 .ensures) (c2 .put-line-if2 .ensures)))
+    (within-then _ _ (counted _ _ _ (c1 .before .count .ensures) (c1 .put-line-if .ensures))
+    (counted _ _ _ (c2 .before .count2 .ensures) (c2 .put-line-if2 .ensures)))
     (counted _ _ _ (c3 .before .count3 .ensures) (c3 .put-line-if3 .ensures)))
     (counted _ _ _ (c4 .before .count4 .ensures) (c4 .put-line-if4 .ensures)))
     (counted _ _ _ (c5 .before .count5 .ensures) (c5 .put-line-if5 .ensures)))

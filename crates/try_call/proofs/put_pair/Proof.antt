@@ -14,7 +14,9 @@ slice-write-text-2 : tie.Need-slice-write-text-2
 slice-write-text-2 c = simp length-set (omega arith)
 
 returns : tie.Need-returns
-returns c = pair-put _ _ _ _ (c .before .before .before .pre) ∙ ap₂ (λ (x y : ℕ). take (c .before .before .before .args .at) (now (c .before .before .before .args .text)) ++ (x ∷ y ∷ [])) (c .before .digit .ensures) (c .digit2 .ensures)
+returns c = pair-put _ _ _ _ (c .before .before .before .pre)
+    ∙ ap₂ (λ (x y : ℕ). take (c .before .before .before .args .at) (now (c .before .before .before .args .text)) ++ (x ∷ y ∷ [])) (c .before .digit .ensures)
+    (c .digit2 .ensures)
 
 pub put-pair-spec : {M : Type 1} → statement M
 put-pair-spec =

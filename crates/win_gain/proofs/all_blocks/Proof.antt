@@ -64,7 +64,12 @@ one-block-requires c κs =
     )
 
 loop-less : tie.Need-loop-less Inv-loop μ-loop
-loop-less c = omega (arith, c .before .before .before .before .before .before .before .before .before .before .if1 .taken, c .before .before .before .before .before .before .one-block .ensures .2)
+loop-less c = omega (
+  arith,
+  c .before .before .before .before .before .before .before .before .before .before .if1 .taken,
+  c .before .before .before .before
+      .before .before .one-block .ensures .2,
+)
 
 loop-again : tie.Need-loop-again Inv-loop μ-loop
 loop-again c =

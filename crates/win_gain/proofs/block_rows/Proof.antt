@@ -100,7 +100,8 @@ loop-again c =
     let a = s .args in
     rows-turn (a .w) _ _ (s .pre .0) (s .pre .1) (h .loop .inv) (i .if1 .taken) (h .before .before .row-width .ensures)
     (h .before .row-stride .ensures) (e .smaller .ensures) (omega (arith, e .before .if2 .left))
-    (λ g. rule g (a .r) (a .from) (a .count) (a .body .now) (a .points-v) (a .points-h) (a .grid) (a .map-planes)) refl (p .place-at .ensures) (c .before .before .row-block .ensures)
+    (λ g. rule g (a .r) (a .from) (a .count) (a .body .now) (a .points-v) (a .points-h) (a .grid) (a .map-planes)) refl (p .place-at .ensures)
+    (c .before .before .row-block .ensures)
 
 pub block-rows-spec : {M : Type 1} → statement M
 block-rows-spec =

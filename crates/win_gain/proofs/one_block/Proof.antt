@@ -34,7 +34,8 @@ near : (f : tie.After-fill-block) → begun f .args .from + f .fill-block .resul
 near f =
     let s = begun f in
     let l = pitched f in
-    far-fits (s .args .w .x0) (s .args .from) (s .args .r) (f .fill-block .ensures .1) (l .larger .ensures) (s .pre .5) (s .pre .6) (omega (arith, l .larger .ensures, l .before .struct-known .given))
+    far-fits (s .args .w .x0) (s .args .from) (s .args .r) (f .fill-block .ensures .1) (l .larger .ensures) (s .pre .5) (s .pre .6)
+    (omega (arith, l .larger .ensures, l .before .struct-known .given))
 
 returns : tie.Need-returns
 returns c =
