@@ -578,6 +578,8 @@ fn worst(n: usize, what: &str) -> Vec<u8> {
     };
     m.two(entries as u16);
     let from = 8 + 6 + 12 * entries;
+    let block = n / 65_536 * 8 + 8;
+    let edge = (n / block - 4) * block;
     let mut r = Rng::new(7, 0);
     for k in 0..entries {
         let (start, end) = match what {
@@ -598,27 +600,15 @@ fn worst(n: usize, what: &str) -> Vec<u8> {
                 let a = r.within(from, n);
                 (a, r.within(a, n))
             }
-            // a little less than two blocks of the table, across their edge
-            w if w.starts_with("small") => {
-                let block = n / 65_536 * 8 + 8;
-                let edge = (n / block - 4) * block;
-                (edge - block + 1, edge + block - 1)
-            }
+            // nearly all of a block of the table, one more, and nearly all of a third
+            w if w.starts_with("small") => (edge - block + 1, edge + 2 * block - 1),
             // the same, from shortly before another edge, behind a byte that is not zero
-            w if w.starts_with("edges") => {
-                let block = n / 65_536 * 8 + 8;
-                let edge = (n / block - 4) * block;
-                (edge - block - 6, edge + block - 1)
-            }
+            w if w.starts_with("edges") => (edge - block - 6, edge + 2 * block - 1),
             // all of the rest from the end of a block on, and a few bytes across that edge, in turn
-            w if w.starts_with("pair") => {
-                let block = n / 65_536 * 8 + 8;
-                let edge = (from / block + 2) * block;
-                match k % 2 {
-                    0 => (edge - 8, n),
-                    _ => (edge - 8, edge + 8),
-                }
-            }
+            w if w.starts_with("pair") => match k % 2 {
+                0 => (from / block * block + 2 * block - 8, n),
+                _ => (from / block * block + 2 * block - 8, from / block * block + 2 * block + 8),
+            },
             _ => unreachable!(),
         };
         m.entry(330, 4, ((end - start) / 4) as u32, start as u32);
@@ -629,8 +619,7 @@ fn worst(n: usize, what: &str) -> Vec<u8> {
         m.bytes[from + (n - from) / 2] = 1;
     }
     if what.starts_with("edges") {
-        let block = n / 65_536 * 8 + 8;
-        m.bytes[(n / block - 5) * block - 7] = 1;
+        m.bytes[edge - block - 7] = 1;
     }
     m.bytes
 }
