@@ -20,7 +20,7 @@ use Rattle.dng.specs.declared.Answer.the-variants as Ans
 use Rattle.dng.specs.declared.RowAnswer.the-variants as Row
 use Rattle.dng.specs.declared.Reading.the-variants as R
 use Rattle.dng.specs.declared.Reason.the-variants as Why
-use Rattle.dng.specs.List.{Item, refusal, extent, firstCut, headerWhy, insideWhy, fieldWhy, whyFrom, whyOf, readingOf, itemsOf, counted, readFrom, stepAt, nextAt, parsedAt, warpAt, polynomialAt, countedAt, gainAt, badListAt, half}
+use Rattle.dng.specs.List.{Item, refusal, extent, firstCut, headerWhy, insideWhy, fieldWhy, whyFrom, whyOf, readingOf, itemsOf, counted, readFrom, stepAt, nextAt, parsedAt, warpAt, vignetteAt, constantAt, trimAt, polynomialAt, countedAt, gainAt, badListAt, half}
 use Rattle.dng.specs.Select.{onRegion, onWindow, onRow, inWindow, active, wholePixel}
 use Rattle.dng.specs.Value.{mapTable, mapTable16}
 use Rattle.dng.specs.Repair.{anyBelow, countBelow, complete, pointAt, rectAt, listed, badValue, marksOf, moved, sound, tallyOn, repairAt, soundOn, markedIn, repairedIn, leftIn}
@@ -113,6 +113,6 @@ pub record Bench : Type 0 where
   pub P12-number : readingNumbersOf (readingOf (listOf (polynomial 9 80 ∷ []))) .number ≡ 25
 
 pub bench : Bench
-unfolding big extent firstCut headerWhy insideWhy fieldWhy whyFrom whyOf each selects onColumns roundHeld readingOf itemsOf counted readFrom stepAt nextAt parsedAt warpAt polynomialAt countedAt gainAt badListAt onRegion onWindow inWindow active wholePixel mapTable mapTable16 anyBelow countBelow complete pointAt rectAt listed badValue marksOf moved sound tallyOn repairAt soundOn markedIn repairedIn leftIn namesOf takes16On takes16From takesRows repairOn performAll rowOn inRange rowInRange ranOn runOut rowOut ofInt round units odd size span climb mul div add eq
+unfolding big extent firstCut headerWhy insideWhy fieldWhy whyFrom whyOf each selects onColumns roundHeld readingOf itemsOf counted readFrom stepAt nextAt parsedAt vignetteAt constantAt trimAt warpAt polynomialAt countedAt gainAt badListAt onRegion onWindow inWindow active wholePixel mapTable mapTable16 anyBelow countBelow complete pointAt rectAt listed badValue marksOf moved sound tallyOn repairAt soundOn markedIn repairedIn leftIn namesOf takes16On takes16From takesRows repairOn performAll rowOn inRange rowInRange ranOn runOut rowOut ofInt round units odd size span climb mul div add eq
 bench =
     record { P1 = refl; P1-number = refl; P2 = refl; P2-over = refl; P2-number = refl; P3 = refl; P4 = refl; P4-none = refl; P5 = refl; P5-f32 = refl; P6 = refl; P7 = refl; P8 = refl; P9 = refl; P9-u16 = refl; P9-row = refl; P10 = refl; P10-planes = refl; P11 = refl; P11-run = refl; P12 = refl; P12-over = refl; P12-number = refl }

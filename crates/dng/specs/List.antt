@@ -166,6 +166,15 @@ warpAt s at len =
     (WarpRectilinear n (f64At s (at + 4 + 6 * n * 8)) (f64At s (at + 4 + (6 * n + 1) * 8)))
     (WarpRectilinear 0 half half)
 
+-- 3: seven f64
+unfoldable pub vignetteAt : List ℕ → ℕ → ℕ → Parsed
+vignetteAt s at len = given (leb 56 len) (FixVignetteRadial (radialAt s at)) (insideWhy vignetteFields s at len)
+
+-- 4: constant, phase
+unfoldable pub constantAt : List ℕ → ℕ → ℕ → Parsed
+constantAt s at len =
+    given (leb 8 len) (FixBadPixelsConstant (u32At s at) (u32At s (at + 4))) (insideWhy constantFields s at len)
+
 -- 5: phase, np, nr, then np points (row, column) and nr rectangles (top, left, bottom, right);
 -- 24 at np, the first of the sum's counts
 unfoldable pub badListAt : List ℕ → ℕ → ℕ → Parsed
@@ -174,6 +183,12 @@ badListAt s at len =
     let nr = u32At s (at + 8) in
     given (leb 12 len && leb (12 + (8 * np + 16 * nr)) len) (FixBadPixelsList (u32At s at) np nr)
     (fieldWhy badListFields Why.Count 4 s at len)
+
+-- 6: four numbers
+unfoldable pub trimAt : List ℕ → ℕ → ℕ → Parsed
+trimAt s at len =
+    given (leb 16 len) (TrimBounds (u32At s at) (u32At s (at + 4)) (u32At s (at + 8)) (u32At s (at + 12)))
+    (insideWhy trimFields s at len)
 
 -- 7 and 10 to 13: a region, n, and n values of `size` bytes; n is at most 16,777,216, and 0 is allowed
 unfoldable pub countedAt : ℕ → (Region → ℕ → Opcode) → List ℕ → ℕ → ℕ → Parsed
@@ -206,13 +221,10 @@ unfoldable pub parsedAt : List ℕ → ℕ → ℕ → ℕ → Parsed
 parsedAt s id at len =
     cond (eqb id 1) (P.Read (warpAt s at len))
     (cond (eqb id 2) (P.Read WarpFisheye)
-    (cond (eqb id 3) (given (leb 56 len) (FixVignetteRadial (radialAt s at))
-    (insideWhy vignetteFields s at len))
-    (cond (eqb id 4) (given (leb 8 len) (FixBadPixelsConstant (u32At s at) (u32At s (at + 4)))
-    (insideWhy constantFields s at len))
+    (cond (eqb id 3) (vignetteAt s at len)
+    (cond (eqb id 4) (constantAt s at len)
     (cond (eqb id 5) (badListAt s at len)
-    (cond (eqb id 6) (given (leb 16 len) (TrimBounds (u32At s at) (u32At s (at + 4)) (u32At s (at + 8)) (u32At s (at + 12)))
-    (insideWhy trimFields s at len))
+    (cond (eqb id 6) (trimAt s at len)
     (cond (eqb id 7) (countedAt 2 MapTable s at len)
     (cond (eqb id 8) (polynomialAt s at len)
     (cond (eqb id 9) (gainAt s at len)

@@ -26,7 +26,7 @@ use Rattle.dng.specs.declared.Reason.{Reason}
 use Rattle.dng.specs.declared.Reason.the-variants as Why
 use Rattle.dng.specs.declared.Parsed.{Parsed}
 use Rattle.dng.specs.declared.Parsed.the-variants as P
-use Rattle.dng.specs.List.{Item, reasonNumber, refusal, extent, firstCut, headerFields, vignetteFields, constantFields, badListFields, trimFields, countedFields, gainFields, headerWhy, insideWhy, fieldWhy, whyFrom, whyOf, itemsOf, readingOf, counted, readFrom, stepAt, nextAt, parsedAt, warpAt, badListAt, countedAt, polynomialAt, gainAt}
+use Rattle.dng.specs.List.{Item, reasonNumber, refusal, extent, firstCut, headerFields, vignetteFields, constantFields, badListFields, trimFields, countedFields, gainFields, headerWhy, insideWhy, fieldWhy, whyFrom, whyOf, itemsOf, readingOf, counted, readFrom, stepAt, nextAt, parsedAt, warpAt, vignetteAt, constantAt, trimAt, badListAt, countedAt, polynomialAt, gainAt}
 use Rattle.dng.specs.Select.{onRegion, inWindow, active}
 use Rattle.dng.specs.Value.{Frame, mapTable, mapPolynomial, horner, nth, delta, scaled, position, mix, lineAt, gainOf, gained, ruleOf}
 use Rattle.dng.specs.Repair.{countBelow, complete, pointAt, rectAt, badValue, marksOf, moved, sound, tallyOn, tallyAt, repairAt, soundOn, markedIn, repairedIn, leftIn}
@@ -86,7 +86,7 @@ pub record Layouts : Type 0 where
   pub other : read 14 [] ≡ P.Read (Other 14)
 
 pub layouts : Layouts
-unfolding big extent firstCut insideWhy fieldWhy parsedAt warpAt badListAt countedAt polynomialAt gainAt ofBits ofFields odd trailingZeros ofInt round units size span climb
+unfolding big extent firstCut insideWhy fieldWhy parsedAt vignetteAt constantAt trimAt warpAt badListAt countedAt polynomialAt gainAt ofBits ofFields odd trailingZeros ofInt round units size span climb
 layouts =
     record { warp = refl; vignette = refl; constant = refl; constant-short = refl; bad-list = refl; bad-list-short = refl; trim = refl; table = refl; table-short = refl; polynomial = refl; gain = refl; gain-no-planes = refl; gain-no-planes-short = refl; gain-none = refl; delta-row = refl; delta-column = refl; scale-row = refl; scale-column = refl; other = refl }
 
@@ -205,7 +205,7 @@ pub record Entries : Type 0 where
   pub flags : map (λ (i : Item). i .entry) (itemsOf (listOf (flagged 1 ∷ flagged 2 ∷ flagged 3 ∷ []))) ≡ flaggedAt 1 20 ∷ flaggedAt 2 36 ∷ flaggedAt 3 52 ∷ []
 
 pub entries : Entries
-unfolding big itemsOf counted readFrom stepAt nextAt parsedAt
+unfolding big itemsOf counted readFrom stepAt nextAt parsedAt vignetteAt constantAt trimAt
 entries = record { flags = refl }
 
 -- ---- refusals: document 02, M-100
@@ -265,7 +265,7 @@ pub record Cuts : Type 0 where
   pub scale-column-last : zeros 13 35 ≡ cut 32
 
 pub cuts : Cuts
-unfolding big extent firstCut insideWhy fieldWhy parsedAt badListAt countedAt polynomialAt gainAt
+unfolding big extent firstCut insideWhy fieldWhy parsedAt vignetteAt constantAt trimAt badListAt countedAt polynomialAt gainAt
 cuts =
     record { vignette-first = refl; vignette-second = refl; vignette-last = refl; constant-first = refl; constant-last = refl; bad-list-first = refl; bad-list-last = refl; trim-first = refl; trim-last = refl; table-first = refl; table-pitch = refl; table-last = refl; polynomial-first = refl; polynomial-last = refl; gain-first = refl; gain-spacing = refl; gain-spacing-part = refl; gain-origin = refl; gain-last = refl; gain-none = refl; delta-row-first = refl; delta-row-last = refl; delta-column-first = refl; delta-column-last = refl; scale-row-first = refl; scale-row-last = refl; scale-column-first = refl; scale-column-last = refl }
 
@@ -284,7 +284,7 @@ pub record Counts : Type 0 where
   pub gain-missing : read 9 (area ++ (words (1 ∷ 1 ∷ []) ++ (doubles ++ words (1 ∷ [])))) ≡ miscounted 32
 
 pub counts : Counts
-unfolding big extent firstCut insideWhy fieldWhy parsedAt badListAt countedAt polynomialAt gainAt
+unfolding big extent firstCut insideWhy fieldWhy parsedAt vignetteAt constantAt trimAt badListAt countedAt polynomialAt gainAt
 counts =
     record { points = refl; rects = refl; table = refl; line = refl; degree = refl; degree-over = refl; gain-planes = refl; gain-missing = refl }
 
@@ -321,7 +321,7 @@ pub record Refusals : Type 0 where
   pub degree-first : readingOf (listOf (entry 8 (area ++ words (9 ∷ [])) ∷ entry 10 (area ++ words (1 ∷ [])) ∷ [])) ≡ refused 0 Why.Degree 52
 
 pub refusals : Refusals
-unfolding big extent firstCut headerWhy insideWhy fieldWhy whyFrom whyOf readingOf itemsOf counted readFrom stepAt nextAt parsedAt warpAt countedAt polynomialAt
+unfolding big extent firstCut headerWhy insideWhy fieldWhy whyFrom whyOf readingOf itemsOf counted readFrom stepAt nextAt parsedAt vignetteAt constantAt trimAt warpAt countedAt polynomialAt
 refusals =
     record { numbers = refl; count-cut = refl; id-cut = refl; version-cut = refl; flags-cut = refl; length-cut = refl; second-cut = refl; limit = refl; over = refl; long = refl; long-second = refl; warp = refl; inside = refl; inside-second = refl; count-first = refl; degree-first = refl }
 
@@ -348,5 +348,5 @@ pub record Runs : Type 0 where
   pub marks-short : u16Out (frame 4 1) 1 (marks 1) (listOf (entry 2 [] ∷ constant 0 ∷ [])) pair (9 ∷ []) ≡ out (Ans.Marks 1) pair (9 ∷ [])
 
 pub runs : Runs
-unfolding big firstCut insideWhy whyFrom whyOf each roundHeld readingOf itemsOf counted readFrom stepAt nextAt parsedAt inWindow active countBelow complete badValue marksOf moved sound tallyOn repairAt soundOn markedIn repairedIn leftIn namesOf takes16On takes16From repairOn performAll inRange ranOn runOut ofInt round units odd trailingZeros size span climb add sum div
+unfolding big firstCut insideWhy whyFrom whyOf each roundHeld readingOf itemsOf counted readFrom stepAt nextAt parsedAt vignetteAt constantAt trimAt inWindow active countBelow complete badValue marksOf moved sound tallyOn repairAt soundOn markedIn repairedIn leftIn namesOf takes16On takes16From repairOn performAll inRange ranOn runOut ofInt round units odd trailingZeros size span climb add sum div
 runs = record { side-by-side = refl; malformed = refl; range-first = refl; period-none = refl; marks-tight = refl; marks-short = refl }

@@ -3,6 +3,8 @@
 use dng::Cursor;
 use dng::Entry;
 use dng::Next;
+use dng::Reason;
+use dng::Refusal;
 ghost use mathlib.Core.Path.{_≡_};
 ghost use Prim.Native.Nat.{_+_, _≤_};
 ghost use lib.ListN.{length};
@@ -23,22 +25,30 @@ fn header(list: &[u8], at: usize) -> Entry
     }
 }
 
-// The entry at a cursor. Its body is compared with what the list has left, so that no sum can wrap.
+// The entry at a cursor; or 20, at the word of its header that is not whole; or 22, at its length. The body is compared
+// with what the list has left, so that no sum can wrap.
 pub fn next(list: &[u8], c: Cursor) -> Next
     ensures { λ r. ⌜ r ≡ nextAt (now (list .entry)) c ⌝ }
 {
     let at = c.at;
-    let n = list.len();
-    if n < 16 {
-        return Next::Malformed;
-    }
-    if n - 16 < at {
-        return Next::Malformed;
+    let left = num_words::less(list.len(), at);
+    if left < 16 {
+        return Next::Malformed {
+            why: Refusal {
+                reason: Reason::Ends,
+                at: at + left / 4 * 4,
+            },
+        };
     }
     let e = header(list, at);
     let len = e.len;
-    if n - 16 - at < len {
-        return Next::Malformed;
+    if left - 16 < len {
+        return Next::Malformed {
+            why: Refusal {
+                reason: Reason::TooLong,
+                at: at + 12,
+            },
+        };
     }
     Next::Found {
         entry: e,

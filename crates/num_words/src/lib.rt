@@ -13,8 +13,9 @@ fn wide(x: u8) -> u64
     x as u64
 }
 
-// How many positions have k more bytes behind them: one comparison with it is the whole range test, and it moves out of a loop.
-fn less(n: usize, k: usize) -> usize
+// n less k, or 0. Of a length it says how many positions have k more bytes behind them: one comparison with it is the
+// whole range test, and it moves out of a loop.
+pub fn less(n: usize, k: usize) -> usize
     ensures { λ r. ⌜ r ≡ n - k ⌝ }
 {
     if k < n { n - k } else { 0 }
