@@ -5,7 +5,7 @@ use mathlib.Core.Bool.{Bool, true, false, cond}
 use mathlib.Core.List.{List, [], _∷_, _++_}
 use Prim.Native.Nat.{ℕ, zero, suc, _+_, _-_, _*_, _/_, _≤_, _<_, zero-le}
 use native.Mathlib.Numerals.{unary-clauses}
-use native.Mathlib.Nat.{add-assoc, zero-add, zero-mul, mul-zero, mul-suc, add-mul, add-div-right, div-eq-of-lt}
+use native.Mathlib.Nat.{add-assoc, suc-mul, zero-add, zero-mul, mul-zero, mul-suc, add-mul, add-div-right, div-eq-of-lt}
 use native.Mathlib.Decide.{decLe}
 use native.Mathlib.Omega.{arith}
 use borrow.Author.Tests.{le-leb, lt-leb}
@@ -17,6 +17,11 @@ pub extent-append : (xs ys : List ℕ) → extent (xs ++ ys) ≡ extent xs + ext
 unfolding extent
 extent-append [] ys = sym (zero-add (extent ys))
 extent-append (x ∷ xs) ys = ap (λ (k : ℕ). x + k) (extent-append xs ys) ∙ sym (add-assoc x (extent xs) (extent ys))
+
+pub extent-same : (n k : ℕ) → extent (replicate n k) ≡ n * k
+unfolding extent
+extent-same zero k = sym (zero-mul k)
+extent-same (suc n) k = omega (arith, extent-same n k, suc-mul n k)
 
 pub cut-bound : (fields : List ℕ) (n : ℕ) → firstCut fields n ≤ n
 unfolding firstCut

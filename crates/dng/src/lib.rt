@@ -132,11 +132,11 @@ impl Opcode {
 
 // An entry of a list: its header words as they stand, and where its body lies in the list.
 pub struct Entry {
+    pub at: usize,
+    pub len: usize,
     pub id: u32,
     pub version: u32,
     pub flags: u32,
-    pub at: usize,
-    pub len: usize,
 }
 
 // A position in the lent list.

@@ -19,11 +19,9 @@ use Rattle.dng.proofs.Cuts.{cut-same}
 module _ (s : List ℕ) (c : Cursor) where
   -- fewer than 16 bytes are left: the word that is not whole starts at the last multiple of four
   pub cut :
-      {n : ℕ} → n ≡ length s - c .at → n < 16 → N.Malformed (refusal Why.Ends (c .at + n / 4 * 4)) ≡ nextAt s c
+      length s < c .at + 16 → N.Malformed (refusal Why.Ends (c .at + (length s - c .at) / 4 * 4)) ≡ nextAt s c
   unfolding nextAt headerWhy
-  cut e h =
-      let l : length s < c .at + 16 = omega arith in
-      rw e (simp (lt-leb _ _ l, cut-same 4 4 (length s - c .at) (omega arith) (omega arith)))
+  cut h = simp (lt-leb _ _ h, cut-same 4 4 (length s - c .at) (omega arith) (omega arith))
 
   -- the body ends past the list
   pub long :
