@@ -1,6 +1,6 @@
 // One kind of work on one side, for counting or for time: the same list, window and samples for both. See compare/bench.
 use dng_opcodes::{apply, apply_u16, parse, Opcode, PlaneImage, RowOps};
-use rolbhunga::{Answer, Frame, Reading, Room};
+use rolbhunga::{Frame, Reading, Room};
 use std::time::Instant;
 
 const KINDS: [&str; 15] = [
@@ -76,7 +76,6 @@ struct Work {
     floats: Vec<f32>,
     wholes: Vec<u16>,
     marks: usize,
-    values: usize,
 }
 
 fn body(kind: &str, w: usize, h: usize, planes: usize, pitch: u32) -> (u32, Vec<u8>) {
@@ -166,7 +165,7 @@ impl Work {
             wholes[i * planes] = 0;
         }
         let floats = wholes.iter().map(|&v| v as f32).collect();
-        // Scratch exactly as long as is needed: the distinct positions, and a mean for each of their planes.
+        // Scratch exactly as long as is needed: the distinct positions.
         let marks = match id {
             4 => wholes.iter().step_by(planes).filter(|&&v| v == 0).count(),
             5 => {
@@ -178,11 +177,11 @@ impl Work {
             }
             _ => 0,
         };
-        Work { list, frame, floats, wholes, marks, values: marks * planes }
+        Work { list, frame, floats, wholes, marks }
     }
 
-    fn ours(&self, kind: &str, f: &mut [f32], u: &mut [u16], marks: &mut [u32], values: &mut [f32]) {
-        let mut room = Room { marks, values, names: &mut [] };
+    fn ours(&self, kind: &str, f: &mut [f32], u: &mut [u16], marks: &mut [u32]) {
+        let mut room = Room { marks, names: &mut [] };
         let n = self.frame.width * self.frame.planes;
         let done = if kind.ends_with("-rows") {
             let row = self.frame.row();
@@ -248,8 +247,8 @@ fn named(kind: &str, n: u32) {
     at.sort_unstable();
     at.dedup();
     let mut samples = vec![1.0; 2048 * 1536];
-    let (mut marks, mut values) = (vec![0; at.len()], vec![0.0; at.len()]);
-    let mut room = Room { marks: &mut marks, values: &mut values, names: &mut [] };
+    let mut marks = vec![0; at.len()];
+    let mut room = Room { marks: &mut marks, names: &mut [] };
     let frame = Frame::new(2048, 1536, 1).period(2);
     mark(1);
     let done = frame.run_f32(&list, &mut samples, &mut room).number() == 0;
@@ -289,10 +288,8 @@ fn beside(kind: &str, whole: bool, planes: usize, ours: bool) {
     let mut wholes: Vec<u16> = (0..w * h * planes).map(|i| (i % 4093) as u16).collect();
     let mut floats: Vec<f32> = wholes.iter().map(|&v| v as f32).collect();
     let marks: usize = at.iter().map(|r| ((r[2] - r[0]) * (r[3] - r[1])) as usize).sum();
-    let (mut marks, mut values) = (vec![0; marks], vec![0.0; marks * planes]);
-    let answer = frame.run_u16(&list, &mut wholes.clone(), &mut Room { marks: &mut marks, values: &mut values, names: &mut [] });
-    let Answer::Done { repaired, .. } = answer else { panic!("not repaired") };
-    let mut room = Room { marks: &mut marks, values: &mut values[..repaired as usize * planes], names: &mut [] };
+    let mut marks = vec![0; marks];
+    let mut room = Room { marks: &mut marks, names: &mut [] };
     let ops = parse(&list).expect("the list can be read");
     mark(1);
     let done = match (ours, whole) {
@@ -317,8 +314,8 @@ fn overlapping(kind: &str, n: u32) {
     let size = |r: [u32; 4]| ((r[2] - r[0]) * (r[3] - r[1])) as usize;
     let room = size(first) + size(again);
     let mut samples = vec![1.0; (w * h) as usize];
-    let (mut marks, mut values) = (vec![0; room], vec![0.0; room]);
-    let mut room = Room { marks: &mut marks, values: &mut values, names: &mut [] };
+    let mut marks = vec![0; room];
+    let mut room = Room { marks: &mut marks, names: &mut [] };
     let frame = Frame::new(w as usize, h as usize, 1).period(2);
     mark(1);
     let done = frame.run_f32(&list, &mut samples, &mut room).number() == 0;
@@ -336,7 +333,7 @@ fn many(kind: &str, n: u32) {
     let done = if kind == "read" {
         rolbhunga::read(&list) == Reading::Whole
     } else {
-        frame.run_f32(&list, &mut samples, &mut Room { marks: &mut [], values: &mut [], names: &mut [] }).number() == 0
+        frame.run_f32(&list, &mut samples, &mut Room { marks: &mut [], names: &mut [] }).number() == 0
     };
     mark(2);
     assert!(done);
@@ -376,7 +373,7 @@ fn main() {
     let form = FORMS.iter().rev().find(|f| args[2].ends_with(**f)).expect("a form");
     let kind = args[2].strip_suffix(form).expect("a kind");
     let x = Work::new(kind, form, w, h);
-    let (mut marks, mut values) = (vec![0; x.marks], vec![0.0; x.values]);
+    let mut marks = vec![0; x.marks];
     // The Rust's list is read before: only its run counts. Here reading is part of every call.
     let ops = parse(&x.list).expect("the list can be read");
     let mut best = u128::MAX;
@@ -386,7 +383,7 @@ fn main() {
         let from = Instant::now();
         mark(1);
         if args[3] == "ours" {
-            x.ours(kind, &mut f, &mut u, &mut marks, &mut values);
+            x.ours(kind, &mut f, &mut u, &mut marks);
         } else {
             x.theirs(kind, &ops, &mut f, &mut u);
         }

@@ -15,11 +15,11 @@
  *     2  the list is malformed; `entry` entries were read whole before that
  *     3  the form does not take this list
  *     4  the skip buffer `names` is shorter than the skipped opcodes
- *     5  the repair `opcode` marks more positions than `marks` has entries
- *     6  the repair `opcode` has more new values than `values` has entries
+ *     5  the repair `opcode` marks more positions than `marks` has entries; nothing of it is written
+ *        (6 is withdrawn: it is never given, and no other answer has its number)
  *   100  `work` has fewer entries than the bytes have whole samples (the functions over bytes alone; tested before all others)
- * They are tested in this order, 5 before 6 opcode by opcode. On 1 to 4 and on 100 the samples are as they were; on 5 and 6 they are as after
- * the opcodes before. Numbers that are not named here are 0.
+ * They are tested in this order, 5 opcode by opcode. On 1 to 4 and on 100 the samples are as they were; on 5 they are as
+ * after the opcodes before. Numbers that are not named here are 0.
  */
 #ifndef ROLBHUNGA_H
 #define ROLBHUNGA_H
@@ -37,7 +37,7 @@ extern "C" {
 #define ROLBHUNGA_NOT_TAKEN 3u
 #define ROLBHUNGA_NAMES 4u
 #define ROLBHUNGA_MARKS 5u
-#define ROLBHUNGA_VALUES 6u
+/* 6 is withdrawn */
 #define ROLBHUNGA_WORK 100u
 
 /* A list has at most so many opcodes, so that a skip buffer of so many bytes is never too short. */
@@ -95,18 +95,17 @@ typedef struct rolbhunga_row_numbers {
 rolbhunga_numbers rolbhunga_read(const uint8_t *list, size_t list_len);
 
 /* Runs a list on f32 samples.
- * marks, values: scratch, as long as the list's largest repair needs; width * height and width * height * planes entries are always enough.
- * Both hold only zeros at every return.
+ * marks: the scratch for a repair, which is 4 bytes a marked position and nothing else, as long as the list's largest
+ * repair needs; width * height entries are always enough. It holds only zeros at every return.
  * names: on 0 it starts with one byte for each skipped opcode in list order, its id, 0 for one that is not known; it is otherwise as it was.
  * The run skips WarpRectilinear, WarpFisheye, TrimBounds, unknown opcodes, and a MapTable with no entries. */
 rolbhunga_numbers rolbhunga_run_f32(const uint8_t *list, size_t list_len, float *samples, size_t samples_len, rolbhunga_window window,
-                                    rolbhunga_settings settings, uint32_t *marks, size_t marks_len, float *values, size_t values_len,
-                                    uint8_t *names, size_t names_len);
+                                    rolbhunga_settings settings, uint32_t *marks, size_t marks_len, uint8_t *names,
+                                    size_t names_len);
 
 /* The same on u16 samples, for lists of MapTable, opcodes that are not applied, and at most one repair. An empty MapTable has no name here. */
 rolbhunga_numbers rolbhunga_run_u16(const uint8_t *list, size_t list_len, uint16_t *samples, size_t samples_len, rolbhunga_window window,
-                                    size_t period, uint32_t *marks, size_t marks_len, float *values, size_t values_len, uint8_t *names,
-                                    size_t names_len);
+                                    size_t period, uint32_t *marks, size_t marks_len, uint8_t *names, size_t names_len);
 
 /* Runs a list on one row, the row y of the image, as the f32 run would; for lists with no repair and no empty MapTable. Answers 0 to 3. */
 rolbhunga_row_numbers rolbhunga_run_row(const uint8_t *list, size_t list_len, float *row, size_t row_len, rolbhunga_row_window window,
@@ -117,11 +116,11 @@ rolbhunga_row_numbers rolbhunga_run_row(const uint8_t *list, size_t list_len, fl
  * sample is written back, and a NaN is then the pattern 7fc00000 hex, whatever it was before. */
 rolbhunga_numbers rolbhunga_bytes_f32(const uint8_t *list, size_t list_len, uint8_t *bytes, size_t bytes_len, rolbhunga_window window,
                                       rolbhunga_settings settings, float *work, size_t work_len, uint32_t *marks, size_t marks_len,
-                                      float *values, size_t values_len, uint8_t *names, size_t names_len);
+                                      uint8_t *names, size_t names_len);
 
 rolbhunga_numbers rolbhunga_bytes_u16(const uint8_t *list, size_t list_len, uint8_t *bytes, size_t bytes_len, rolbhunga_window window,
-                                      size_t period, uint16_t *work, size_t work_len, uint32_t *marks, size_t marks_len, float *values,
-                                      size_t values_len, uint8_t *names, size_t names_len);
+                                      size_t period, uint16_t *work, size_t work_len, uint32_t *marks, size_t marks_len,
+                                      uint8_t *names, size_t names_len);
 
 rolbhunga_row_numbers rolbhunga_bytes_row(const uint8_t *list, size_t list_len, uint8_t *bytes, size_t bytes_len,
                                           rolbhunga_row_window window, size_t y, float scale, float *work, size_t work_len);

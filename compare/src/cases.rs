@@ -7,7 +7,6 @@ use rolbhunga::Frame;
 #[derive(Clone, Copy, Default, Debug)]
 pub struct Lengths {
     pub marks: usize,
-    pub values: usize,
     pub names: usize,
     pub work: usize,
 }
@@ -193,9 +192,9 @@ impl Case {
     // Each buffer at what a repair or the names need, one less, or more.
     pub fn set_lengths(&mut self, r: &mut Rng, o: &Oracle) {
         let (repairs, names) = o.needs_f32();
-        self.f = lengths(r, &repairs, names, self.frame.planes, self.floats.len());
+        self.f = lengths(r, &repairs, names, self.floats.len());
         let (repairs, names) = o.needs_u16();
-        self.u = lengths(r, &repairs, names, self.frame.planes, self.wholes.len());
+        self.u = lengths(r, &repairs, names, self.wholes.len());
         self.row_work = near(r, self.row.len());
         self.over = r.below(4);
     }
@@ -204,7 +203,6 @@ impl Case {
     pub fn set_exact(&mut self, o: &Oracle) {
         let exact = |needs: (Vec<crate::doc01::Need>, usize), n: usize| Lengths {
             marks: needs.0.iter().map(|n| n.marked as usize).max().unwrap_or(0),
-            values: needs.0.iter().map(|n| n.repaired as usize * self.frame.planes).max().unwrap_or(0),
             names: needs.1,
             work: n,
         };
@@ -224,17 +222,13 @@ fn near(r: &mut Rng, n: usize) -> usize {
     }
 }
 
-fn lengths(r: &mut Rng, repairs: &[crate::doc01::Need], names: usize, planes: usize, samples: usize) -> Lengths {
-    let most = |f: &dyn Fn(&crate::doc01::Need) -> usize| repairs.iter().map(f).max().unwrap_or(0);
+// The scratch by the largest repair, or by one of them.
+fn lengths(r: &mut Rng, repairs: &[crate::doc01::Need], names: usize, samples: usize) -> Lengths {
     let marked = |n: &crate::doc01::Need| n.marked as usize;
-    let values = |n: &crate::doc01::Need| n.repaired as usize * planes.min(8);
-    let one = |r: &mut Rng, f: &dyn Fn(&crate::doc01::Need) -> usize| {
-        if repairs.is_empty() || !r.once(3) {
-            most(f)
-        } else {
-            f(&repairs[r.below(repairs.len())])
-        }
+    let marks = if repairs.is_empty() || !r.once(3) {
+        repairs.iter().map(marked).max().unwrap_or(0)
+    } else {
+        marked(&repairs[r.below(repairs.len())])
     };
-    let (m, v) = (one(r, &marked), one(r, &values));
-    Lengths { marks: near(r, m), values: near(r, v), names: near(r, names), work: near(r, samples) }
+    Lengths { marks: near(r, marks), names: near(r, names), work: near(r, samples) }
 }

@@ -42,7 +42,6 @@ impl<T: Copy + PartialEq> Lent<T> {
 
 struct Buffers {
     marks: Lent<u32>,
-    values: Lent<f32>,
     names: Lent<u8>,
 }
 
@@ -54,20 +53,19 @@ impl Buffers {
     fn new(l: &Lengths) -> Buffers {
         Buffers {
             marks: Lent::new((0..l.marks).map(|i| i as u32 ^ 0x55aa_0000), 0x1111_1111),
-            values: Lent::new((0..l.values).map(|i| i as f32 + 0.5), 1.25),
             names: Lent::new((0..l.names).map(old_name), 0xdd),
         }
     }
 
     fn room(&mut self) -> Room<'_> {
-        Room { marks: self.marks.lend(), values: self.values.lend(), names: self.names.lend() }
+        Room { marks: self.marks.lend(), names: self.names.lend() }
     }
 
     fn check(&self, names: &[u8]) -> Result<(), String> {
-        if !(self.marks.guarded() && self.values.guarded() && self.names.guarded()) {
+        if !(self.marks.guarded() && self.names.guarded()) {
             return Err("wrote past the end of a lent buffer".into());
         }
-        if self.marks.now().iter().any(|&m| m != 0) || self.values.now().iter().any(|v| v.to_bits() != 0) {
+        if self.marks.now().iter().any(|&m| m != 0) {
             return Err("scratch is not zero".into());
         }
         for (i, &b) in self.names.now().iter().enumerate() {
@@ -87,8 +85,7 @@ fn answer_of(n: Numbers) -> Answer {
         2 => Answer::Malformed { entry: n.entry },
         3 => Answer::NotTaken,
         4 => Answer::Names,
-        5 => Answer::Marks { opcode: n.opcode },
-        _ => Answer::Values { opcode: n.opcode },
+        _ => Answer::Marks { opcode: n.opcode },
     }
 }
 
@@ -219,8 +216,6 @@ fn bytes_f32(c: &Case, w: &Want<f32>) -> Result<(), String> {
             work.len(),
             r.marks.as_mut_ptr(),
             r.marks.len(),
-            r.values.as_mut_ptr(),
-            r.values.len(),
             r.names.as_mut_ptr(),
             r.names.len(),
         )
@@ -258,8 +253,6 @@ fn bytes_u16(c: &Case, w: &Want<u16>) -> Result<(), String> {
             work.len(),
             r.marks.as_mut_ptr(),
             r.marks.len(),
-            r.values.as_mut_ptr(),
-            r.values.len(),
             r.names.as_mut_ptr(),
             r.names.len(),
         )

@@ -69,7 +69,9 @@ fn fits(c: &Case) -> bool {
 fn shows(c: &Case, r: &Replay) -> Vec<(String, usize)> {
     let (form, number) = (r.form, r.numbers.number);
     if form == 0 || number != 0 {
-        return vec![(format!("{form} {number}"), 10)];
+        // stopped by 5, some after opcodes that changed samples
+        let after = if r.before == r.after { "" } else { " after a change" };
+        return vec![(format!("{form} {number}{after}"), 10)];
     }
     if r.before == r.after {
         return vec![(format!("{form} same"), 10)];
@@ -105,7 +107,7 @@ pub fn write(folder: &str, seed: u64) {
         for r in replays(&c, &o) {
             let kinds = shows(&c, &r);
             let wanted = kinds.iter().any(|(k, most)| seen.get(k).map_or(true, |n| n < most));
-            if !wanted || r.lengths.marks > 64 || r.lengths.values > 64 || r.lengths.names > 64 {
+            if !wanted || r.lengths.marks > 64 || r.lengths.names > 64 {
                 continue;
             }
             for (k, _) in kinds {
@@ -120,7 +122,7 @@ pub fn write(folder: &str, seed: u64) {
                 put(&mut cases, n);
             }
             put(&mut cases, g.scale.to_bits() as usize);
-            for n in [c.y, r.lengths.marks, r.lengths.values, r.lengths.names, r.before.len()] {
+            for n in [c.y, r.lengths.marks, r.lengths.names, r.before.len()] {
                 put(&mut cases, n);
             }
             cases.extend_from_slice(&r.before);

@@ -233,15 +233,8 @@ fn want<'a, T>(c: &Case, o: &'a Oracle, run: &'a Option<Run<T>>, l: &Lengths) ->
     }
     let (mut repaired, mut left) = (0, 0);
     for r in &run.repairs {
-        let short = if r.need.marked > l.marks as u64 {
-            5
-        } else if r.need.repaired * c.frame.planes as u64 > l.values as u64 {
-            6
-        } else {
-            0
-        };
-        if short != 0 {
-            return Want { numbers: Numbers { opcode: r.opcode, ..numbers(short) }, samples: Some(&r.before), names: &[] };
+        if r.need.marked > l.marks as u64 {
+            return Want { numbers: Numbers { opcode: r.opcode, ..numbers(5) }, samples: Some(&r.before), names: &[] };
         }
         repaired += r.need.repaired;
         left += r.need.left;

@@ -55,10 +55,8 @@ fn smaller(c: &Case) -> Vec<Case> {
     }
     for n in [0, 1] {
         put(&|d| d.f.marks = n);
-        put(&|d| d.f.values = n);
         put(&|d| d.f.names = n);
         put(&|d| d.u.marks = n);
-        put(&|d| d.u.values = n);
         put(&|d| d.u.names = n);
     }
     put(&|d| d.f.work = d.floats.len());
@@ -100,7 +98,7 @@ fn weight(c: &Case) -> usize {
         - c.floats.iter().filter(|b| **b == 0x3f80_0000).count() / 2
         + filled(c.wholes.len(), c.wholes.iter().filter(|b| **b == 0).count())
         + filled(c.row.len(), c.row.iter().filter(|b| **b == 0).count())
-        + [c.f.marks, c.f.values, c.f.names, c.u.marks, c.u.values, c.u.names, c.over].iter().sum::<usize>()
+        + [c.f.marks, c.f.names, c.u.marks, c.u.names, c.over].iter().sum::<usize>()
         + c.f.work.abs_diff(c.floats.len())
         + c.u.work.abs_diff(c.wholes.len())
         + c.row_work.abs_diff(c.row.len())

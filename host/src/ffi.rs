@@ -66,8 +66,6 @@ extern "C" {
         settings: Settings,
         marks: *mut u32,
         marks_len: usize,
-        values: *mut f32,
-        values_len: usize,
         names: *mut u8,
         names_len: usize,
     ) -> Numbers;
@@ -81,8 +79,6 @@ extern "C" {
         period: usize,
         marks: *mut u32,
         marks_len: usize,
-        values: *mut f32,
-        values_len: usize,
         names: *mut u8,
         names_len: usize,
     ) -> Numbers;
@@ -108,8 +104,6 @@ extern "C" {
         work_len: usize,
         marks: *mut u32,
         marks_len: usize,
-        values: *mut f32,
-        values_len: usize,
         names: *mut u8,
         names_len: usize,
     ) -> Numbers;
@@ -125,8 +119,6 @@ extern "C" {
         work_len: usize,
         marks: *mut u32,
         marks_len: usize,
-        values: *mut f32,
-        values_len: usize,
         names: *mut u8,
         names_len: usize,
     ) -> Numbers;

@@ -26,8 +26,9 @@ pub const WORK: u32 = 100;
 /// The opcodes that a list can have at most, so that so many bytes of names are always enough.
 pub const MAX_OPCODES: usize = 4096;
 
-/// What a run answers. On `Range` to `Names` and on `Work` samples and names are as they were; on `Marks` and `Values` the samples
-/// are as after the opcodes before, and the names are as they were. The scratch holds only zeros after every call.
+/// What a run answers. On `Range` to `Names` and on `Work` samples and names are as they were; on `Marks` the samples
+/// are as after the opcodes before, and the names are as they were. The scratch holds only zeros after every call. The
+/// number 6 is withdrawn: no answer has it.
 #[derive(Debug, Clone, Copy, PartialEq, Eq)]
 pub enum Answer {
     /// 0: done. The skip buffer starts with `names` bytes, one for each skipped opcode (its id, 0 for an unknown one).
@@ -40,10 +41,9 @@ pub enum Answer {
     NotTaken,
     /// 4: the skip buffer is shorter than the skipped opcodes.
     Names,
-    /// 5: the repair `opcode` marks more positions than there is room for.
+    /// 5: the repair `opcode` marks more positions than there is room for; nothing of it is written.
     Marks { opcode: usize },
-    /// 6: the repair `opcode` has more new values than there is room for.
-    Values { opcode: usize },
+    // 6 is withdrawn
     /// 100, of the forms over bytes alone: the work room has fewer entries than the bytes have samples.
     Work,
 }
@@ -58,7 +58,6 @@ impl Answer {
             Answer::NotTaken => 3,
             Answer::Names => 4,
             Answer::Marks { .. } => 5,
-            Answer::Values { .. } => 6,
             Answer::Work => WORK,
         }
     }
@@ -76,7 +75,6 @@ impl Answer {
             3 => Answer::NotTaken,
             4 => Answer::Names,
             5 => Answer::Marks { opcode: n.opcode },
-            6 => Answer::Values { opcode: n.opcode },
             WORK => Answer::Work,
             other => unreachable!("no answer has the number {other}"),
         }
@@ -146,11 +144,10 @@ pub fn read(list: &[u8]) -> Reading {
     }
 }
 
-/// The buffers that a run is lent: the u32 and f32 scratch of the repairs, which hold only zeros after every call, and the skip
-/// buffer.
+/// The buffers that a run is lent: the scratch for a repair, which is 4 bytes a marked position and nothing else and
+/// holds only zeros after every call, and the skip buffer.
 pub struct Room<'a> {
     pub marks: &'a mut [u32],
-    pub values: &'a mut [f32],
     pub names: &'a mut [u8],
 }
 
@@ -158,29 +155,26 @@ pub struct Room<'a> {
 #[derive(Debug, Clone)]
 pub struct Scratch {
     pub marks: Vec<u32>,
-    pub values: Vec<f32>,
     pub names: Vec<u8>,
 }
 
 impl Scratch {
     /// A scratch with so many entries of each kind.
-    pub fn new(marks: usize, values: usize, names: usize) -> Scratch {
-        Scratch { marks: vec![0; marks], values: vec![0.0; values], names: vec![0; names] }
+    pub fn new(marks: usize, names: usize) -> Scratch {
+        Scratch { marks: vec![0; marks], names: vec![0; names] }
     }
 
-    /// A scratch that no list outgrows on this frame: the answers 4, 5 and 6 cannot come. It has an entry for every position and a
-    /// value for every sample, which for the largest frames is more than most machines have; [`Scratch::new`] takes less. A frame
-    /// whose width, height or planes pass the limits, which every run refuses, gets only the names.
+    /// A scratch that no list outgrows on this frame: the answers 4 and 5 cannot come. It has an entry of 4 bytes for
+    /// every position, which for the largest frames is more than most machines have; [`Scratch::new`] takes less. A
+    /// frame whose width or height passes the limits, which every run refuses, gets only the names.
     pub fn enough(frame: &Frame) -> Scratch {
-        let fits = frame.width <= 65_536 && frame.height <= 65_536 && frame.planes <= 8;
-        let positions = if fits { frame.width * frame.height } else { 0 };
-        let values = positions * if fits { frame.planes } else { 0 };
-        Scratch::new(positions, values, MAX_OPCODES)
+        let fits = frame.width <= 65_536 && frame.height <= 65_536;
+        Scratch::new(if fits { frame.width * frame.height } else { 0 }, MAX_OPCODES)
     }
 
     /// The scratch, lent.
     pub fn room(&mut self) -> Room<'_> {
-        Room { marks: &mut self.marks, values: &mut self.values, names: &mut self.names }
+        Room { marks: &mut self.marks, names: &mut self.names }
     }
 }
 
@@ -299,8 +293,6 @@ impl Frame {
                 self.settings(),
                 room.marks.as_mut_ptr(),
                 room.marks.len(),
-                room.values.as_mut_ptr(),
-                room.values.len(),
                 room.names.as_mut_ptr(),
                 room.names.len(),
             )
@@ -320,8 +312,6 @@ impl Frame {
                 self.period,
                 room.marks.as_mut_ptr(),
                 room.marks.len(),
-                room.values.as_mut_ptr(),
-                room.values.len(),
                 room.names.as_mut_ptr(),
                 room.names.len(),
             )
@@ -344,8 +334,6 @@ impl Frame {
                 work.len(),
                 room.marks.as_mut_ptr(),
                 room.marks.len(),
-                room.values.as_mut_ptr(),
-                room.values.len(),
                 room.names.as_mut_ptr(),
                 room.names.len(),
             )
@@ -367,8 +355,6 @@ impl Frame {
                 work.len(),
                 room.marks.as_mut_ptr(),
                 room.marks.len(),
-                room.values.as_mut_ptr(),
-                room.values.len(),
                 room.names.as_mut_ptr(),
                 room.names.len(),
             )

@@ -64,7 +64,7 @@ fn tables() {
 #[test]
 fn an_empty_table() {
     let (f, l) = (Frame::new(1, 1, 1), list(&[table(ALL, &[])]));
-    let mut scratch = Scratch::new(0, 0, 1);
+    let mut scratch = Scratch::new(0, 1);
     assert_eq!(f.run_f32(&l, &mut [1.0], &mut scratch.room()), Answer::Done { names: 1, repaired: 0, left: 0 });
     assert_eq!(scratch.names, [7]);
     let a = f.run_u16(&l, &mut [1], &mut scratch.room());
@@ -78,36 +78,47 @@ fn refusals() {
     let l = list(&[(2, vec![]), constant(0)]);
     let mut s = [10.0, 0.0, 19.0];
     let old = s;
-    let mut go = |f: Frame, l: &[u8], marks, values, names| {
-        let mut x = Scratch::new(marks, values, names);
+    let mut go = |f: Frame, l: &[u8], marks, names| {
+        let mut x = Scratch::new(marks, names);
         x.marks.fill(9);
-        x.values.fill(9.0);
         let a = f.run_f32(l, &mut s, &mut x.room());
-        assert!(x.marks.iter().all(|&m| m == 0) && x.values.iter().all(|&v| v == 0.0));
+        assert!(x.marks.iter().all(|&m| m == 0));
         assert_eq!(s, old);
         a
     };
-    assert_eq!(go(f.period(65_537), &l, 1, 1, 1), Answer::Range);
-    assert_eq!(go(Frame::new(3, 1, 9), &[], 1, 1, 1), Answer::Range);
-    assert_eq!(go(f, &l[..30], 1, 1, 1), Answer::Malformed { entry: 1 });
-    assert_eq!(go(f, &l, 1, 1, 0), Answer::Names);
-    assert_eq!(go(f, &l, 0, 1, 1), Answer::Marks { opcode: 1 });
-    assert_eq!(go(f, &l, 1, 0, 1), Answer::Values { opcode: 1 });
+    assert_eq!(go(f.period(65_537), &l, 1, 1), Answer::Range);
+    assert_eq!(go(Frame::new(3, 1, 9), &[], 1, 1), Answer::Range);
+    assert_eq!(go(f, &l[..30], 1, 1), Answer::Malformed { entry: 1 });
+    assert_eq!(go(f, &l, 1, 0), Answer::Names);
+    assert_eq!(go(f, &l, 0, 1), Answer::Marks { opcode: 1 });
     let two = list(&[constant(0), constant(1)]);
     let a = f.run_u16(&two, &mut [10, 0, 19], &mut Scratch::enough(&f).room());
     assert_eq!((a, a.number()), (Answer::NotTaken, 3));
 }
 
+// One mark is enough for every plane of a position; a run that goes on past one repair can meet 5 at the next, and keeps
+// what the first wrote.
+#[test]
+fn one_mark() {
+    let mut s = [10.0, 20.0, 0.0, 0.0, 19.0, 29.0];
+    let a = Frame::new(3, 1, 2).run_f32(&list(&[constant(0)]), &mut s, &mut Scratch::new(1, 0).room());
+    assert_eq!((a, s), (Answer::Done { names: 0, repaired: 1, left: 0 }, [10.0, 20.0, 14.5, 24.5, 19.0, 29.0]));
+    let l = list(&[constant(0), (5, words(&[0, 0, 1, 0, 0, 1, 2]))]);
+    let mut s = [10.0, 0.0, 19.0];
+    let a = Frame::new(3, 1, 1).run_f32(&l, &mut s, &mut Scratch::new(1, 0).room());
+    assert_eq!((a, s), (Answer::Marks { opcode: 1 }, [10.0, 14.5, 19.0]));
+}
+
 #[test]
 fn bytes() {
     let (f, l) = (Frame::new(3, 1, 1), list(&[constant(0)]));
-    let (mut marks, mut values) = ([3], [3.0]);
+    let mut marks = [3];
     let mut b = vec![0xab; 13];
     for (i, v) in [10.0f32, 0.0, 19.0].iter().enumerate() {
         b[4 * i..4 * i + 4].copy_from_slice(&v.to_le_bytes());
     }
     let before = b.clone();
-    let mut room = Room { marks: &mut marks, values: &mut values, names: &mut [] };
+    let mut room = Room { marks: &mut marks, names: &mut [] };
     assert_eq!(f.bytes_f32(&l, &mut b, &mut [1.0; 2], &mut room), Answer::Work);
     assert_eq!(b, before);
     let mut work = [1.0; 4];

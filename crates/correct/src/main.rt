@@ -218,7 +218,6 @@ fn is_done(a: Answer) -> bool {
         Answer::NotTaken => false,
         Answer::Names => false,
         Answer::Marks { opcode: _ } => false,
-        Answer::Values { opcode: _ } => false,
     }
 }
 
@@ -286,21 +285,11 @@ fn mend_raster(
     samples: &mut [u16],
     wide: &mut [f32],
     marks: &mut [u32],
-    values: &mut [f32],
 ) {
     say_pgm::decode(raster, maxval, &mut *samples);
     let w = window_of(width, height);
     let mut names = [0u8; 4096];
-    match run_stored::mend(
-        list,
-        &mut *samples,
-        wide,
-        w,
-        period,
-        marks,
-        values,
-        &mut names,
-    ) {
+    match run_stored::mend(list, &mut *samples, wide, w, period, marks, &mut names) {
         Mended::Whole { answer } => {
             finish(
                 out,
@@ -345,7 +334,6 @@ fn mend_file(
     samples: &mut [u16],
     wide: &mut [f32],
     marks: &mut [u32],
-    values: &mut [f32],
 ) {
     match say_pgm::read_frame(front(file, n), samples.len()) {
         Frame::Whole {
@@ -372,7 +360,6 @@ fn mend_file(
                             part,
                             wide,
                             marks,
-                            values,
                         );
                     }
                 }
@@ -401,13 +388,12 @@ fn run_raw(
     raster: &mut [u8],
     samples: &mut [f32],
     marks: &mut [u32],
-    values: &mut [f32],
 ) {
     say_pgm::decode_f32(raster, &mut *samples);
     let mut names = [0u8; 4096];
     let w = window_of(width, height);
     let set = Settings { period, scale: 1.0 };
-    let a = run_window::run_f32(list, &mut *samples, w, set, marks, values, &mut names);
+    let a = run_window::run_f32(list, &mut *samples, w, set, marks, &mut names);
     if is_done(a) {
         say_pgm::encode_f32(samples, &mut *raster);
         if write_frame(out, b"", raster) {
@@ -428,7 +414,6 @@ fn run_raw_file(
     file: &mut [u8],
     samples: &mut [f32],
     marks: &mut [u32],
-    values: &mut [f32],
 ) {
     let count = say_pgm::area(width, height);
     if 524288 < count {
@@ -444,17 +429,7 @@ fn run_raw_file(
         if bytes <= file.len() {
             let raster = &mut file[0..bytes];
             let part = &mut samples[0..count];
-            run_raw(
-                out,
-                period,
-                list,
-                width,
-                height,
-                raster,
-                part,
-                marks,
-                values,
-            );
+            run_raw(out, period, list, width, height, raster, part, marks);
         }
     }
 }
@@ -468,7 +443,6 @@ fn mend_args(
     samples: &mut [u16],
     wide: &mut [f32],
     marks: &mut [u32],
-    values: &mut [f32],
 ) {
     let first = o.first;
     if 8 < first {
@@ -491,7 +465,6 @@ fn mend_args(
             file,
             wide,
             marks,
-            values,
         );
     } else {
         mend_file(
@@ -503,7 +476,6 @@ fn mend_args(
             samples,
             wide,
             marks,
-            values,
         );
     }
 }
@@ -516,13 +488,12 @@ fn mend_in(
     samples: &mut [u16; 524288],
     wide: &mut [f32; 524288],
     marks: &mut [u32; 131072],
-    values: &mut [f32; 131072],
 ) {
-    mend_args(o, list, file, samples, wide, marks, values);
+    mend_args(o, list, file, samples, wide, marks);
 }
 
-// All room is here: six and a half megabytes, which the default stack of eight holds. A list has at most 262,143 bytes, a frame at most
-// 524,288 samples, a repair at most 131,072 positions.
+// All room is here: six megabytes, which the default stack of eight holds. A list has at most 262,143 bytes, a frame
+// at most 524,288 samples, a repair at most 131,072 positions.
 fn main() {
     let o = raw_option(period_option());
     if !is_in_order(o) {
@@ -534,14 +505,5 @@ fn main() {
     let mut samples = [0u16; 524288];
     let mut wide = [0.0f32; 524288];
     let mut marks = [0u32; 131072];
-    let mut values = [0.0f32; 131072];
-    mend_in(
-        o,
-        &mut list,
-        &mut file,
-        &mut samples,
-        &mut wide,
-        &mut marks,
-        &mut values,
-    );
+    mend_in(o, &mut list, &mut file, &mut samples, &mut wide, &mut marks);
 }

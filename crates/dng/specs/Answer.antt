@@ -18,8 +18,8 @@ use Rattle.dng.specs.declared.Refusal.{Refusal}
 use Rattle.dng.specs.declared.Reading.{Reading}
 use Rattle.dng.specs.declared.Reading.the-variants as R
 use Rattle.dng.specs.List.{Item, reasonNumber, readingOf, itemsOf}
-use Rattle.dng.specs.Value.{Frame, one, nought}
-use Rattle.dng.specs.Run.{Kind, f32Kind, u16Kind, Class, skipped, skipped16, takes16, takesRows, namesOf, Progress, going, marksFull, valuesFull, Room, performAll, rowOn}
+use Rattle.dng.specs.Value.{Frame, one}
+use Rattle.dng.specs.Run.{Kind, f32Kind, u16Kind, Class, skipped, skipped16, takes16, takesRows, namesOf, Progress, going, marksFull, Room, performAll, rowOn}
 
 -- ---- the ranges
 
@@ -39,7 +39,7 @@ rowInRange w y n =
     && (leb y 16842751 && leb n (w .width * w .planes)))))))
 
 -- ---- the paper's number and values for each answer; entry and opcode numbers, offset, names and totals are 0 where
--- they are not named
+-- they are not named. 2, of document 01, is 20 to 25 by M-100; 6 is withdrawn by M-104. Both are given to nothing
 
 -- 20 to 25 (document 02, M-100): the entries read whole before it, and the byte
 abbrev pub malformedNumbers : ℕ → Refusal → Numbers
@@ -53,7 +53,6 @@ numbersOf (Ans.Malformed k why) = malformedNumbers k why
 numbersOf Ans.NotTaken = record { number = 3; entry = 0; offset = 0; opcode = 0; names = 0; repaired = 0; left = 0 }
 numbersOf Ans.Names = record { number = 4; entry = 0; offset = 0; opcode = 0; names = 0; repaired = 0; left = 0 }
 numbersOf (Ans.Marks k) = record { number = 5; entry = 0; offset = 0; opcode = k; names = 0; repaired = 0; left = 0 }
-numbersOf (Ans.Values k) = record { number = 6; entry = 0; offset = 0; opcode = k; names = 0; repaired = 0; left = 0 }
 
 abbrev pub readingNumbersOf : Reading → Numbers
 readingNumbersOf (R.Whole n) = record { number = 0; entry = 0; offset = 0; opcode = 0; names = 0; repaired = 0; left = 0 }
@@ -65,8 +64,8 @@ rowNumbersOf Row.Range = record { number = 1; entry = 0; offset = 0; opcode = 0;
 rowNumbersOf (Row.Malformed k why) = malformedNumbers k why
 rowNumbersOf Row.NotTaken = record { number = 3; entry = 0; offset = 0; opcode = 0; names = 0; repaired = 0; left = 0 }
 
--- ---- a run: the refusals 1, 20 to 25, 3, 4 in order, samples and names unchanged; then opcode by opcode 5 before 6;
--- names only on 0
+-- ---- a run: the refusals 1, 20 to 25, 3, 4 in order, samples and names unchanged; then opcode by opcode 5; names only
+-- on 0
 
 pub record Out (A : Type 0) : Type 0 where
   pub answer : Answer
@@ -83,7 +82,6 @@ written l b = l ++ drop (length l) b
 abbrev pub finished : {A : Type 0} → List ℕ → List ℕ → Progress A → Out A
 finished l names (going s r t) = record { answer = Ans.Done (length l) r t; samples = s; names = written l names }
 finished l names (marksFull s k) = unchanged (Ans.Marks k) s names
-finished l names (valuesFull s k) = unchanged (Ans.Values k) s names
 
 module _ {A : Type 0} (kind : Kind A) (takes : List Item → Bool) (skip : Class → Bool) where
   -- a list that is read whole: 3, 4, then the run
@@ -118,13 +116,12 @@ f32Out w set room list s names =
 abbrev pub u16Out : Window → (period : ℕ) → Room → List ℕ → List ℕ → List ℕ → Out ℕ
 u16Out w period room list s names = runOut u16Kind takes16 skipped16 w period room list s names
 
--- What a run promises of its result r and of what it leaves: the answer, the samples and the names are those of o, and both scratch buffers hold zeros alone.
-pub record Ran {A : Type 0} (o : Out A) (room : Room) (r : Answer) (samples : List A) (names marks : List ℕ) (values : List Float) : Type 0 where
+-- What a run promises of its result r and of what it leaves: the answer, the samples and the names are those of o, and the scratch holds zeros alone.
+pub record Ran {A : Type 0} (o : Out A) (room : Room) (r : Answer) (samples : List A) (names marks : List ℕ) : Type 0 where
   pub answered : r ≡ o .answer
   pub left : samples ≡ o .samples
   pub named : names ≡ o .names
   pub marksClear : marks ≡ replicate (room .marks) 0
-  pub valuesClear : values ≡ replicate (room .values) nought
 
 -- ---- a row: 1, 20 to 25, 3 in order, the row unchanged on each
 
@@ -155,7 +152,6 @@ wholeFrame (Ans.Malformed k why) = false
 wholeFrame Ans.NotTaken = false
 wholeFrame Ans.Names = false
 wholeFrame (Ans.Marks k) = false
-wholeFrame (Ans.Values k) = false
 
 abbrev pub wholeRow : RowAnswer → Bool
 wholeRow (Row.Done n) = eqb n 0

@@ -61,9 +61,9 @@ third = record { width = 4; height = 1; planes = 1; stride = 4; x0 = 2; y0 = 0; 
 abbrev pixel : Window
 pixel = record { width = 1; height = 1; planes = 3; stride = 1; x0 = 0; y0 = 0; «full_width» = 1; «full_height» = 1 }
 
--- room for eight marks and eight values
+-- room for eight marks
 abbrev pub room : Room
-room = record { marks = 8; values = 8 }
+room = record { marks = 8 }
 
 abbrev pub whole : ℕ → Float
 whole n = ofInt binary32 (pos n)

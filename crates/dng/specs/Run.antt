@@ -130,24 +130,21 @@ u16Kind =
 
 -- ---- the run
 
--- how far a run has come: going on, with the totals so far, or stopped by 5 or 6 at an opcode, with the samples as they are then
+-- how far a run has come: going on, with the totals so far, or stopped by 5 at an opcode, with the samples as they are then
 pub data Progress (A : Type 0) : Type 0 where
   going : List A → (repaired left : ℕ) → Progress A
-  marksFull valuesFull : List A → (opcode : ℕ) → Progress A
+  marksFull : List A → (opcode : ℕ) → Progress A
 
--- room: how many entries the u32 scratch and the f32 scratch have
+-- room: how many entries the u32 scratch has
 pub record Room : Type 0 where
   pub marks : ℕ
-  pub values : ℕ
 
 module _ {A : Type 0} (kind : Kind A) (w : Window) (period : ℕ) (room : Room) where
-  -- A repair with the marks `bad`: 5 before 6, nothing of it done on either.
+  -- A repair with the marks `bad`: on 5 nothing of it is done.
   unfoldable pub repairOn : (ℕ → Bool) → (opcode : ℕ) → List A → (repaired left : ℕ) → Progress A
   repairOn bad k s r l =
       cond (leb (markedIn w bad) (room .marks))
-      (cond (leb (w .planes * repairedIn w period bad) (room .values))
       (going (each (repairAt (kind .none) (kind .toFloat) (kind .ofMean) w period bad s) s) (r + repairedIn w period bad) (l + leftIn w period bad))
-      (valuesFull s k))
       (marksFull s k)
 
   -- One opcode, over the whole window. One that is never applied, and a table with no entries, change nothing.
@@ -161,7 +158,6 @@ module _ {A : Type 0} (kind : Kind A) (w : Window) (period : ℕ) (room : Room) 
   abbrev pub perform : List ℕ → Item → (opcode : ℕ) → Progress A → Progress A
   perform list i k (going s r l) = performOn (classOf (i .op)) (i .op) (bodyOf list (i .entry)) k s r l
   perform list i k (marksFull s o) = marksFull s o
-  perform list i k (valuesFull s o) = valuesFull s o
 
   -- all opcodes, in list order, numbered from k on
   unfoldable pub performAll : List ℕ → ℕ → List Item → Progress A → Progress A

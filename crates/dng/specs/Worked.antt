@@ -329,7 +329,7 @@ refusals =
 
 -- room for so many marks
 abbrev marks : ℕ → Room
-marks n = record { marks = n; values = 8 }
+marks n = record { marks = n }
 
 -- samples of which two side by side are marked by the constant 0
 abbrev pair : List ℕ

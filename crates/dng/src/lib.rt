@@ -260,9 +260,6 @@ pub enum Answer {
     Marks {
         opcode: usize,
     },
-    Values {
-        opcode: usize,
-    },
 }
 
 // What a row call answers. It names no opcode; `skipped` is how many of the list's the f32 run would name.

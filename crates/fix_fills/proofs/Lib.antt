@@ -1,5 +1,8 @@
 pub mod Counting
 pub mod Lying
-pub mod Filling
-pub mod Rooms
+pub mod Placing
+pub mod Reading
+pub mod Order
+pub mod Planes
 pub mod Looking
+pub mod Passing

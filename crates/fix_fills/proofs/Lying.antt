@@ -1,21 +1,21 @@
 -- Where a mark lies: its row and column in the window, and what is said of these is said of the mark. Assumes nothing.
-use Prim.Native.Nat.{ℕ, _/_, _%_, _^_, _≤_, _<_}
-use mathlib.Core.Path.{_≡_, subst, ap₂}
+use Prim.Native.Nat.{ℕ, _+_, _/_, _%_, _^_, _≤_, _<_}
+use mathlib.Core.Path.{_≡_, subst, ap₂, _∙_}
 use mathlib.Core.Bool.{Bool, true}
 use mathlib.Core.List.{List}
-use native.Mathlib.Nat.{mod-lt, div-lt-iff-lt-mul, mul-comm}
+use native.Mathlib.Nat.{mod-lt, div-lt-iff-lt-mul, mul-comm, add-zero}
 use native.Mathlib.Omega.{arith}
 use lib.ListN.{getD, take}
 use lib.Seq.{getD-take, length-take-le}
 use Rattle.dng.specs.declared.Window.{Window}
 use Rattle.dng.specs.Repair.{positions}
 use Rattle.fix_scratch.specs.Marks.{Fits}
-use Rattle.fix_constant.specs.Parts.{Finds}
+use Rattle.fix_constant.specs.Parts.{Pixel, Finds}
 use Rattle.fix_near.specs.declared.Near.{Near}
-use Rattle.fix_near.specs.Looks.{Asks, Lone, nearOf, Lists}
+use Rattle.fix_near.specs.Looks.{Asks, Lone, firstOf, nearOf, Lists}
 use Rattle.num_sorted.specs.Sorts.{occ, has}
 use Rattle.num_sorted.proofs.Occ.{occ-at, some-has}
-use Rattle.fix_fills.specs.Fills.{Marking, Told, nearAt}
+use Rattle.fix_fills.specs.Fills.{Marking, Lies, pixelOf, nearAt}
 
 module _ (w : Window) (f : Fits w) (q : ℕ) (h : q < positions w) where
   pub column-in : q % w .width < w .width
@@ -49,13 +49,23 @@ module _ (marks : List ℕ) (n : ℕ) (w : Window) (step : ℕ) (m : Marking mar
   pub mark-finds : (part : ℕ) → part ≡ 2 ^ 32 / w .width → Finds marks i w part
   mark-finds part e = record { fits = m .fits; held = omega (arith, m .held); inside = mark-in; part = e }
 
--- (x, y) is the spot of position q
-module _ (w : Window) (step : ℕ) (bad : ℕ → Bool) (q x y : ℕ) (s : (x ≡ q % w .width) × (y ≡ q / w .width)) where
+module _ (w : Window) (step : ℕ) (bad : ℕ → Bool) (q x y : ℕ) (s : Lies w q x y) where
   pub spot-asks : {marks : List ℕ} {n : ℕ} → Asks marks n w step (q % w .width) (q / w .width) → Asks marks n w step x y
   spot-asks a = rw (s .0, s .1) a
 
-  pub spot-lone : (lone : Bool) → Told lone bad w step q → lone ≡ true → Lone bad w step x y
-  spot-lone lone t e = rw (s .0, s .1) (t e)
+  pub spot-lone : Lone bad w step (q % w .width) (q / w .width) → Lone bad w step x y
+  spot-lone l = rw (s .0, s .1) l
 
   pub spot-near : (r : Near) → Lists r (nearOf w step bad x y) → Lists r (nearAt w step bad q)
   spot-near r l = subst (λ (z : List ℕ). Lists r z) (ap₂ (λ (x y : ℕ). nearOf w step bad x y) (s .0) (s .1)) l
+
+  -- its first sample
+  pub spot-first : (from : ℕ) → from ≡ firstOf w x y + 0 → from ≡ pixelOf w q
+  spot-first from e = e ∙ add-zero (firstOf w x y) ∙ ap₂ (λ (x y : ℕ). firstOf w x y) (s .0) (s .1)
+
+-- the spot of a mark is a pixel of the window, whose plane 0 is there
+pub mark-pixel : (marks : List ℕ) (n : ℕ) (w : Window) (step : ℕ) (m : Marking marks n w step) (i : ℕ) → i < n → (x y : ℕ)
+    → Lies w (getD marks i 0) x y → Pixel w x y × (0 < w .planes)
+mark-pixel marks n w step m i h x y s =
+    let a : Asks marks n w step x y = rw (s .0, s .1) (mark-asks marks n w step m i h) in
+    (record { fits = a .fits; column = a .column; row = a .row }, a .fits .some)

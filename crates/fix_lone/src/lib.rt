@@ -1,10 +1,11 @@
-// Whether a mark is lone, that is, none of its eight neighbours is marked: seen from the marks beside it, with no search.
+// Whether a mark is lone, that is, none of its eight neighbours is marked: seen from the marks beside it, with no
+// search.
 ghost use mathlib.Core.Path.{_≡_};
 ghost use mathlib.Core.Bool.{true};
-ghost use Prim.Native.Nat.{_+_, _-_, _*_, _/_, _%_, _≤_, _<_};
+ghost use Prim.Native.Nat.{_+_, _-_, _*_, _≤_};
 ghost use lib.ListN.{getD};
 ghost use Rattle.fix_scratch.specs.Marks.{Fits};
-ghost use Rattle.fix_near.specs.Looks.{Asks, Lone, marked};
+ghost use Rattle.fix_near.specs.Looks.{AsksMark, LoneMark};
 ghost use Rattle.fix_places.specs.Beside.{Reached};
 use dng::Window;
 
@@ -23,10 +24,12 @@ fn less(a: usize, b: usize) -> usize
     if a < b { 0 } else { a - b }
 }
 
-// Where the neighbours of mark i in the row above would stand among the marks, sought from an earlier answer on. A hint: only speed depends on it.
-pub fn above_from(marks: &[u32], n: usize, w: Window, period: usize, i: usize, from: usize) -> usize
-    requires { ⌜ (i < n) × Asks (now marks) n w period (getD (now marks) i 0 % w .width) (getD (now marks) i 0 / w .width) ⌝ }
-    ensures { λ r. ⌜ Reached (now (marks .entry)) n from (getD (now (marks .entry)) i 0 - (period * w .width + period)) r ⌝ }
+// Where the neighbours of mark i in the row above would stand among the marks, sought from an earlier answer on. A
+// hint: only speed depends on it.
+fn above_from(marks: &[u32], n: usize, w: Window, period: usize, i: usize, from: usize) -> usize
+    requires { ⌜ AsksMark (now marks) n w period i ⌝ }
+    ensures { λ r.
+        ⌜ Reached (now (marks .entry)) n from (getD (now (marks .entry)) i 0 - (period * w .width + period)) r ⌝ }
 {
     let q = fix_places::mark(marks, i);
     let lo = less(q, reach(w, period) + period);
@@ -34,17 +37,19 @@ pub fn above_from(marks: &[u32], n: usize, w: Window, period: usize, i: usize, f
 }
 
 // The same of the row below.
-pub fn below_from(marks: &[u32], n: usize, w: Window, period: usize, i: usize, from: usize) -> usize
-    requires { ⌜ (i < n) × Asks (now marks) n w period (getD (now marks) i 0 % w .width) (getD (now marks) i 0 / w .width) ⌝ }
-    ensures { λ r. ⌜ Reached (now (marks .entry)) n from (getD (now (marks .entry)) i 0 + period * w .width - period) r ⌝ }
+fn below_from(marks: &[u32], n: usize, w: Window, period: usize, i: usize, from: usize) -> usize
+    requires { ⌜ AsksMark (now marks) n w period i ⌝ }
+    ensures { λ r.
+        ⌜ Reached (now (marks .entry)) n from (getD (now (marks .entry)) i 0 + period * w .width - period) r ⌝ }
 {
     let q = fix_places::mark(marks, i);
     let lo = q + reach(w, period) - period;
     fix_places::onward(marks, n, from, lo)
 }
 
-// Whether mark i is known to be lone. The places are hints: where they are not those of the rows above and below, the answer is no.
-pub fn alone(
+// Whether mark i is known to be lone. The places are hints: where they are not those of the rows above and below, the
+// answer is no.
+fn alone(
     marks: &[u32],
     n: usize,
     w: Window,
@@ -53,10 +58,8 @@ pub fn alone(
     up: usize,
     down: usize,
 ) -> bool
-    requires { ⌜ (i < n) × Asks (now marks) n w period (getD (now marks) i 0 % w .width) (getD (now marks) i 0 / w .width) ⌝ }
-    ensures { λ r.
-        ⌜ (r ≡ true
-        → Lone (marked (now (marks .entry)) n) w period (getD (now (marks .entry)) i 0 % w .width) (getD (now (marks .entry)) i 0 / w .width)) ⌝ }
+    requires { ⌜ AsksMark (now marks) n w period i ⌝ }
+    ensures { λ r. ⌜ (r ≡ true → LoneMark (now (marks .entry)) n w period i) ⌝ }
 {
     let q = fix_places::mark(marks, i);
     let far = reach(w, period);
@@ -70,4 +73,23 @@ pub fn alone(
         return false;
     }
     fix_places::free(marks, n, down, q + far - period, q + far + period)
+}
+
+// The same where `rows` has an earlier mark's places of the rows above and below: they move on to those of mark i.
+pub fn lone_mark(
+    marks: &[u32],
+    n: usize,
+    w: Window,
+    period: usize,
+    i: usize,
+    rows: &mut [usize; 2],
+) -> bool
+    requires { ⌜ AsksMark (now marks) n w period i ⌝ }
+    ensures { λ r. ⌜ (r ≡ true → LoneMark (now (marks .entry)) n w period i) ⌝ }
+{
+    let up = above_from(marks, n, w, period, i, rows[0]);
+    let down = below_from(marks, n, w, period, i, rows[1]);
+    rows[0] = up;
+    rows[1] = down;
+    alone(marks, n, w, period, i, up, down)
 }

@@ -1,8 +1,8 @@
 -- Sums over the sound neighbours, by where their samples begin, are the tallies of the definition; and a sum turn by turn. Over any sample kind.
 -- Assumes nothing.
-use Prim.Native.Nat.{ℕ, zero, suc, _+_, _≤_, _<_}
+use Prim.Native.Nat.{ℕ, zero, suc, _+_, _*_, _≤_, _<_}
 use mathlib.Core.Path.{_≡_, refl, sym, ap, ap₂, _∙_}
-use mathlib.Core.Bool.{Bool, true}
+use mathlib.Core.Bool.{Bool, true, false}
 use mathlib.Core.List.{List, [], _∷_}
 use native.Mathlib.Nat.{not-suc-le-zero, le-of-suc-le-suc}
 use native.Mathlib.Numerals.{add-one}
@@ -77,20 +77,27 @@ module _ (w : Window) (period : ℕ) (bad : ℕ → Bool) (x y : ℕ) where
   pub near-few : length (nearOf w period bad x y) ≤ 8
   near-few = omega (arith, near-count, sound-few (w .width) (w .height) period bad x y steps)
 
-  near-all-on : (P : ℕ → Type 0) → ((xx yy : ℕ) → xx < w .width → yy < w .height → P (firstOf w xx yy)) → (ds : List (ℤ × ℤ))
+  near-all-on : (P : ℕ → Type 0)
+      → ((xx yy : ℕ) → xx < w .width → yy < w .height → bad (yy * w .width + xx) ≡ false → P (firstOf w xx yy)) → (ds : List (ℤ × ℤ))
       → (j : ℕ) → j < length (nearOn w period bad x y ds) → P (getD (nearOn w period bad x y ds) j 0)
   unfolding nearOn
   near-all-on P h [] = λ j k. absurd (not-suc-le-zero k)
   near-all-on P h (d ∷ ds) =
       let rest : List ℕ = nearOn w period bad x y ds in
       sound-any (w .width) (w .height) period bad x y d (λ (l : List ℕ). (j : ℕ) → j < length l → P (getD l j 0))
-      (λ xx yy. firstOf w xx yy ∷ rest) rest (λ xx yy p q. each-of P (firstOf w xx yy) rest (h xx yy p q) (near-all-on P h ds)) (near-all-on P h ds)
+      (λ xx yy. firstOf w xx yy ∷ rest) rest (λ xx yy p q u. each-of P (firstOf w xx yy) rest (h xx yy p q u) (near-all-on P h ds)) (near-all-on P h ds)
 
-  -- each of them has its samples
+  -- each of them is an unmarked position of the window
+  pub near-all : (P : ℕ → Type 0)
+      → ((xx yy : ℕ) → xx < w .width → yy < w .height → bad (yy * w .width + xx) ≡ false → P (firstOf w xx yy))
+      → (j : ℕ) → j < length (nearOf w period bad x y) → P (getD (nearOf w period bad x y) j 0)
+  near-all P h = near-all-on P h steps
+
+  -- so it has its samples
   pub near-there : (samples plane : ℕ) → complete w samples ≡ true → plane < w .planes → (j : ℕ) → j < length (nearOf w period bad x y)
       → getD (nearOf w period bad x y) j 0 + plane < samples
   near-there samples plane full h =
-      near-all-on (λ (a : ℕ). a + plane < samples) (λ xx yy p q. place-in w xx yy p q samples plane h full) steps
+      near-all (λ (a : ℕ). a + plane < samples) (λ xx yy p q u. place-in w xx yy p q samples plane h full)
 
   module _ (value : ℕ → ℕ → Float) (of : ℕ → Float) (same : (xx yy : ℕ) → value xx yy ≡ of (firstOf w xx yy)) where
     near-tally-on : (ds : List (ℤ × ℤ)) (t : Tally)

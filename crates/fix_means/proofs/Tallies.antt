@@ -45,7 +45,7 @@ tally-count width height period bad value x y =
 
 sound-le : (width height period : ℕ) (bad : ℕ → Bool) (x y : ℕ) (d : ℤ × ℤ) → sound width height period bad x y d (λ xx yy. 1) 0 ≤ 1
 sound-le width height period bad x y d =
-    sound-any width height period bad x y d (λ (k : ℕ). k ≤ 1) (λ xx yy. 1) 0 (λ xx yy h k. omega arith) (omega arith)
+    sound-any width height period bad x y d (λ (k : ℕ). k ≤ 1) (λ xx yy. 1) 0 (λ xx yy h k u. omega arith) (omega arith)
 
 pub sound-few : (width height period : ℕ) (bad : ℕ → Bool) (x y : ℕ) (ds : List (ℤ × ℤ))
     → soundOn width height period bad x y ds ≤ length ds

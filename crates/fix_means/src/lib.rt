@@ -1,11 +1,9 @@
 // The mean of the samples of sound neighbours, f32 and u16.
 ghost use mathlib.Core.Path.{_≡_};
-ghost use Prim.Native.Nat.{_+_, _≤_};
-ghost use lib.Ieee.{nan, binary32};
-ghost use lib.ListN.{length, getD, take};
-ghost use Rattle.num_convert.specs.Convert.{wholeIn};
+ghost use Prim.Native.Nat.{_≤_};
+ghost use lib.ListN.{length};
 ghost use Rattle.dng.specs.Repair.{meanOf};
-ghost use Rattle.fix_means.specs.Means.{Reads, meanOver};
+ghost use Rattle.fix_means.specs.Means.{Reads, mean32, mean16};
 
 // A sum over so many, divided by how many they are.
 fn divided(sum: f32, n: usize) -> f32
@@ -18,7 +16,7 @@ fn divided(sum: f32, n: usize) -> f32
 // The mean of the first n pixels' samples in one plane: f32 sum from 0, in order, one division.
 pub fn mean_f32(samples: &[f32], at: &[usize; 8], n: usize, plane: usize) -> f32
     requires { ⌜ Reads (length (now samples)) (now at) n plane ⌝ }
-    ensures { λ r. ⌜ r ≡ meanOver (λ a. getD (now (samples .entry)) (a + plane) nan) (take n (now (at .entry))) ⌝ }
+    ensures { λ r. ⌜ r ≡ mean32 (now (samples .entry)) (now (at .entry)) n plane ⌝ }
 {
     let mut sum: f32 = 0.0;
     let mut i = 0;
@@ -33,7 +31,7 @@ pub fn mean_f32(samples: &[f32], at: &[usize; 8], n: usize, plane: usize) -> f32
 // The same of u16 samples, each exact in an f32.
 pub fn mean_u16(samples: &[u16], at: &[usize; 8], n: usize, plane: usize) -> f32
     requires { ⌜ Reads (length (now samples)) (now at) n plane ⌝ }
-    ensures { λ r. ⌜ r ≡ meanOver (λ a. wholeIn binary32 (getD (now (samples .entry)) (a + plane) 0)) (take n (now (at .entry))) ⌝ }
+    ensures { λ r. ⌜ r ≡ mean16 (now (samples .entry)) (now (at .entry)) n plane ⌝ }
 {
     let mut sum: f32 = 0.0;
     let mut i = 0;

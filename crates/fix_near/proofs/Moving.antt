@@ -9,6 +9,7 @@ use mir.Syntax.{w64}
 use mir.Val.{toZ, ofZ}
 use mir.ValLaws.{toZ-ofZ}
 use Rattle.dng.specs.Repair.{moved}
+use Rattle.num_sorted.proofs.Occ.{equal-or}
 use Rattle.fix_near.specs.Looks.{oneStep}
 
 module _ (x period n : ℕ) where
@@ -27,6 +28,18 @@ module _ (x period n : ℕ) where
   pub moved-back : (d : ℤ) → d ≡ negsuc 0 → period ≤ x → x - period ≡ moved x d period n
   unfolding moved
   moved-back d e h = rw (e, le-leb (1 * period) x (omega arith)) (omega arith)
+
+-- a step is none, on or back
+one-of : {C : Type 0} (d : ℤ) → oneStep d ≡ true → (d ≡ pos 0 → C) → (d ≡ pos 1 → C) → (d ≡ negsuc 0 → C) → C
+unfolding oneStep
+one-of (pos k) e none on back = equal-or k 0 (λ z. none (ap pos z)) (λ z. on (ap pos (omega (arith, leb-true k 1 e))))
+one-of (negsuc k) e none on back = back (ap negsuc (eqb-true k 0 e))
+
+-- and stays inside, where a period on both sides does
+pub moved-in : (x period n : ℕ) → period ≤ x → x + period < n → (d : ℤ) → oneStep d ≡ true → moved x d period n < n
+moved-in x period n low high d e =
+    one-of d e (λ z. omega (arith, moved-none x period n d z)) (λ z. omega (arith, moved-on x period n d z))
+    (λ z. omega (arith, moved-back x period n d z low))
 
 -- a step that the code tests by its bits
 pub is-none : (d : ℤ) → oneStep d ≡ true → ofZ w64 d ≡ 0 → d ≡ pos 0

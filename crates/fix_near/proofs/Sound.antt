@@ -8,20 +8,22 @@ use lib.IntN.{ℤ}
 use Rattle.dng.specs.Repair.{moved, sound}
 
 module _ (width height period : ℕ) (bad : ℕ → Bool) (x y : ℕ) (d : ℤ × ℤ) where
-  -- what is so for `t`, and for `f` at any position of the window, is so for the neighbour
-  pub sound-any : {B : Type 0} (P : B → Type 0) (f : ℕ → ℕ → B) (t : B) → ((xx yy : ℕ) → xx < width → yy < height → P (f xx yy)) → P t
+  -- what is so for `t`, and for `f` at any unmarked position of the window, is so for the neighbour
+  pub sound-any : {B : Type 0} (P : B → Type 0) (f : ℕ → ℕ → B) (t : B)
+      → ((xx yy : ℕ) → xx < width → yy < height → bad (yy * width + xx) ≡ false → P (f xx yy)) → P t
       → P (sound width height period bad x y d f t)
   unfolding sound
   sound-any P f t h k =
       let xx : ℕ = moved x (d .0) period width in
       let yy : ℕ = moved y (d .1) period height in
-      go xx yy (ltb xx width) (ltb yy height) (not (bad (yy * width + xx))) (ltb-true xx width) (ltb-true yy height)
+      go xx yy (ltb xx width) (ltb yy height) (bad (yy * width + xx)) (ltb-true xx width) (ltb-true yy height) (h xx yy)
     where
-      go : (xx yy : ℕ) (a b c : Bool) → (a ≡ true → xx < width) → (b ≡ true → yy < height) → P (cond (a && (b && c)) (f xx yy) t)
-      go xx yy true true true p q = h xx yy (p refl) (q refl)
-      go xx yy true true false p q = k
-      go xx yy true false c p q = k
-      go xx yy false b c p q = k
+      go : (xx yy : ℕ) (a b c : Bool) → (a ≡ true → xx < width) → (b ≡ true → yy < height)
+          → (xx < width → yy < height → c ≡ false → P (f xx yy)) → P (cond (a && (b && not c)) (f xx yy) t)
+      go xx yy true true true p q h = k
+      go xx yy true true false p q h = h (p refl) (q refl) refl
+      go xx yy true false c p q h = k
+      go xx yy false b c p q h = k
 
   -- a function of what is made of the neighbour
   pub sound-ap : {A B : Type 0} (g : A → B) (f : ℕ → ℕ → A) (t : A)

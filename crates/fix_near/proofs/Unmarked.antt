@@ -1,18 +1,16 @@
--- With no neighbour marked, the sound neighbours are those with no marks at all; and all eight where they lie in the window. Assumes nothing.
-use Prim.Native.Nat.{ℕ, _+_, _-_, _*_, _<_}
+-- With no neighbour marked, the sound neighbours are those with no marks at all. Assumes nothing.
+use Prim.Native.Nat.{ℕ, _+_, _*_, _<_}
 use mathlib.Core.Path.{_≡_, refl, sym, ap, _∙_}
 use mathlib.Core.Bool.{Bool, true, false, not, _&&_, cond}
 use mathlib.Core.List.{List, [], _∷_}
-use native.Mathlib.Nat.{add-zero}
 use native.Mathlib.Omega.{arith}
-use borrow.Author.Tests.{lt-ltb, ltb-true}
+use borrow.Author.Tests.{ltb-true}
 use lib.Dec.{ltb}
-use lib.IntN.{ℤ, pos, negsuc}
+use lib.IntN.{ℤ}
 use Rattle.dng.specs.declared.Window.{Window}
 use Rattle.dng.specs.Repair.{steps, moved, sound}
 use Rattle.num_sorted.specs.Sorts.{occ, has, Rises}
-use Rattle.fix_near.specs.Looks.{Asks, Inside, LoneOn, Lone, none, marked, firstOf, nearOn, nearOf}
-use Rattle.fix_near.proofs.Moving.{moved-none, moved-on, moved-back}
+use Rattle.fix_near.specs.Looks.{Asks, LoneOn, Lone, none, marked, firstOf, nearOn, nearOf}
 
 module _ (bad : ℕ → Bool) (w : Window) (period x y : ℕ) where
   lone-sound : {B : Type 0} (d : ℤ × ℤ) (f : ℕ → ℕ → B) (t : B)
@@ -55,42 +53,3 @@ module _ (marks : List ℕ) (n : ℕ) (w : Window) (period x y : ℕ) where
   unfolding has occ
   asked-near true e l = rw e (lone-near (marked marks n) w period x y (l refl))
   asked-near false e l = ap (λ (j : ℕ). nearOf w period (marked marks j) x y) e
-
--- ---- all eight in the window
-
-module _ (w : Window) (period x y : ℕ) where
-  -- one step of the list
-  step-in : (d : ℤ × ℤ) (ds : List (ℤ × ℤ)) {p : ℕ} {l : List ℕ} (xx yy : ℕ) → xx ≡ moved x (d .0) period (w .width)
-      → yy ≡ moved y (d .1) period (w .height) → xx < w .width → yy < w .height → p ≡ firstOf w xx yy + 0 → l ≡ nearOn w period none x y ds
-      → p ∷ l ≡ nearOn w period none x y (d ∷ ds)
-  unfolding nearOn sound
-  step-in d ds xx yy e f h k u v = rw (← e, ← f, lt-ltb xx (w .width) h, lt-ltb yy (w .height) k, u, add-zero (firstOf w xx yy), v) refl
-
-  no-step : [] ≡ nearOn w period none x y []
-  unfolding nearOn
-  no-step = refl
-
-  pub eight-near : Inside w period x y → {a b c d e f g h : ℕ}
-      → a ≡ firstOf w (x - period) y + 0 → b ≡ firstOf w (x + period) y + 0 → c ≡ firstOf w x (y - period) + 0 → d ≡ firstOf w x (y + period) + 0
-      → e ≡ firstOf w (x - period) (y - period) + 0 → f ≡ firstOf w (x + period) (y + period) + 0
-      → g ≡ firstOf w (x - period) (y + period) + 0 → h ≡ firstOf w (x + period) (y - period) + 0
-      → a ∷ b ∷ c ∷ d ∷ e ∷ f ∷ g ∷ h ∷ [] ≡ nearOf w period none x y
-  eight-near i p q r s t u v z =
-      let left = moved-back x period (w .width) (negsuc 0) refl (i .left) in
-      let right = moved-on x period (w .width) (pos 1) refl in
-      let column = moved-none x period (w .width) (pos 0) refl in
-      let up = moved-back y period (w .height) (negsuc 0) refl (i .up) in
-      let down = moved-on y period (w .height) (pos 1) refl in
-      let row = moved-none y period (w .height) (pos 0) refl in
-      let hx : x < w .width = omega (arith, i .right) in
-      let hy : y < w .height = omega (arith, i .down) in
-      let hl : x - period < w .width = omega arith in
-      let hu : y - period < w .height = omega arith in
-      step-in (negsuc 0, pos 0) _ (x - period) y left row hl hy p
-      (step-in (pos 1, pos 0) _ (x + period) y right row (i .right) hy q
-      (step-in (pos 0, negsuc 0) _ x (y - period) column up hx hu r
-      (step-in (pos 0, pos 1) _ x (y + period) column down hx (i .down) s
-      (step-in (negsuc 0, negsuc 0) _ (x - period) (y - period) left up hl hu t
-      (step-in (pos 1, pos 1) _ (x + period) (y + period) right down (i .right) (i .down) u
-      (step-in (negsuc 0, pos 1) _ (x - period) (y + period) left down hl (i .down) v
-      (step-in (pos 1, negsuc 0) _ (x + period) (y - period) right up (i .right) hu z no-step)))))))

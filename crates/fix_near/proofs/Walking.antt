@@ -17,8 +17,9 @@ use Rattle.dng.specs.Repair.{steps, moved, sound}
 use Rattle.fix_near.specs.declared.Step.{Step}
 use Rattle.fix_near.specs.declared.Neighbour.{Neighbour}
 use Rattle.fix_near.specs.declared.Neighbour.the-variants as N
-use Rattle.fix_near.specs.Looks.{pairOf, oneStep, openAt, soundOf, firstOf, nearOn, nearOf}
+use Rattle.fix_near.specs.Looks.{Inside, none, pairOf, oneStep, openAt, soundOf, firstOf, nearOn, nearOf}
 use Rattle.fix_near.proofs.Sound.{sound-ap}
+use Rattle.fix_near.proofs.Moving.{moved-in}
 use Rattle.fix_constant.proofs.Places.{and-first, and-second}
 
 -- ---- one position
@@ -111,6 +112,15 @@ step-one all i e h =
     good : single (stepOn all i) ≡ true
     good = ap single (step-at all i e) ∙ each single steps i (pairOf stay) (unfold oneStep in refl) h
 
+-- with a period on all sides, every step leads to a position of the window
+pub step-inside : (w : Window) (period x y : ℕ) → Inside w period x y → (all : List Step) (i : ℕ) → map pairOf all ≡ steps → i < 8 → {xx yy : ℕ}
+    → xx ≡ moved x (stepOn all i .0) period (w .width) → yy ≡ moved y (stepOn all i .1) period (w .height) → (xx < w .width) × (yy < w .height)
+step-inside w period x y s all i e h f g =
+    let one = step-one all i e h in (
+      rw f (moved-in x period (w .width) (s .left) (s .right) (stepOn all i .0) (one .0)),
+      rw g (moved-in y period (w .height) (s .up) (s .down) (stepOn all i .1) (one .1)),
+    )
+
 -- the sound neighbour, as any answer that is made of it
 abbrev pick : {B : Type 0} → Neighbour → (ℕ → ℕ → B) → B → B
 pick (N.At x y) f t = f x y
@@ -175,6 +185,16 @@ module _ {w : Window} {period : ℕ} {bad : ℕ → Bool} {x y i : ℕ} {at : Li
         long = k .long;
         left = ap (λ (l : List ℕ). take count at ++ l) (sym n) ∙ k .left;
       }
+
+  -- nothing is marked: every position of the window is sound
+  pub walk-free : (all : List Step) {xx yy p : ℕ} → map pairOf all ≡ steps → i < 8 → bad ≡ none → xx ≡ moved x (stepOn all i .0) period (w .width)
+      → yy ≡ moved y (stepOn all i .1) period (w .height) → (xx < w .width) × (yy < w .height) → p ≡ firstOf w xx yy + 0
+      → Walked w period bad x y (i + 1) (set at count p) (count + 1)
+  walk-free all {xx} {yy} e h b f g s u =
+      walk-at all {r = N.At xx yy} e h
+      (open-sound (w .width) (w .height) bad xx yy (s .0) (s .1) (ap (λ (m : ℕ → Bool). m (yy * w .width + xx)) b)
+      ∙ step-is w period bad x y xx yy (stepOn all i) f g)
+      refl u
 
   pub walk-end : 8 ≤ i → (count ≡ length (nearOf w period bad x y)) × (take count at ≡ nearOf w period bad x y)
   unfolding nearOn

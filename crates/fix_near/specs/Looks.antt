@@ -1,12 +1,13 @@
--- What is asked of a position whose neighbours are looked for, which of them are sound, and the steps and neighbours as the code has them.
+-- What is asked of a position whose neighbours are looked for, which of them are sound, and the steps and neighbours as
+-- the code has them.
 -- Document 01, 'What each does to a value', Repair.
-use Prim.Native.Nat.{ℕ, _+_, _*_, _≤_, _<_}
-use mathlib.Core.Bool.{Bool, false, not, _&&_, cond}
+use Prim.Native.Nat.{ℕ, _+_, _*_, _/_, _%_, _≤_, _<_}
+use mathlib.Core.Bool.{Bool, true, false, not, _&&_, cond}
 use mathlib.Core.List.{List, [], _∷_}
 use mathlib.Core.Path.{_≡_}
 use lib.Dec.{leb, ltb, eqb}
 use lib.IntN.{ℤ, pos, negsuc}
-use lib.ListN.{length, take}
+use lib.ListN.{length, getD, take}
 use Rattle.dng.specs.declared.Window.{Window}
 use Rattle.dng.specs.Repair.{steps, moved, sound}
 use Rattle.fix_scratch.specs.Marks.{Fits}
@@ -53,6 +54,14 @@ LoneOn bad w period x y (d ∷ ds) =
 unfoldable pub Lone : (ℕ → Bool) → Window → (period x y : ℕ) → Type 0
 Lone bad w period x y = LoneOn bad w period x y steps
 
+-- ---- the same of mark i
+
+abbrev pub AsksMark : List ℕ → (n : ℕ) → Window → (period i : ℕ) → Type 0
+AsksMark marks n w period i = (i < n) × Asks marks n w period (getD marks i 0 % w .width) (getD marks i 0 / w .width)
+
+abbrev pub LoneMark : List ℕ → (n : ℕ) → Window → (period i : ℕ) → Type 0
+LoneMark marks n w period i = Lone (marked marks n) w period (getD marks i 0 % w .width) (getD marks i 0 / w .width)
+
 -- ---- where their samples begin
 
 abbrev pub firstOf : Window → (x y : ℕ) → ℕ
@@ -62,7 +71,8 @@ firstOf w x y = (y * w .stride + x) * w .planes
 unfoldable pub nearOn : Window → (period : ℕ) → (ℕ → Bool) → (x y : ℕ) → List (ℤ × ℤ) → List ℕ
 nearOn w period bad x y [] = []
 nearOn w period bad x y (d ∷ ds) =
-    sound (w .width) (w .height) period bad x y d (λ xx yy. firstOf w xx yy ∷ nearOn w period bad x y ds) (nearOn w period bad x y ds)
+    sound (w .width) (w .height) period bad x y d
+    (λ xx yy. firstOf w xx yy ∷ nearOn w period bad x y ds) (nearOn w period bad x y ds)
 
 abbrev pub nearOf : Window → (period : ℕ) → (ℕ → Bool) → (x y : ℕ) → List ℕ
 nearOf w period bad x y = nearOn w period bad x y steps
@@ -81,6 +91,11 @@ pairOf s = (s .dx, s .dy)
 unfoldable pub oneStep : ℤ → Bool
 oneStep (pos k) = leb k 1
 oneStep (negsuc k) = eqb k 0
+
+-- a step of the period from (x, y), which 64 bits hold
+abbrev pub Steps : (period x y : ℕ) → ℤ × ℤ → Type 0
+Steps period x y d =
+    ((oneStep (d .0) ≡ true) × (oneStep (d .1) ≡ true)) × ((period ≤ 65536) × ((x ≤ 65536) × (y ≤ 65536)))
 
 -- the position (x, y), where it lies in the window and is not marked
 unfoldable pub openAt : (width height : ℕ) → (ℕ → Bool) → (x y : ℕ) → Neighbour

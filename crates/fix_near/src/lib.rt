@@ -6,8 +6,9 @@ ghost use Prim.Native.Nat.{_≤_, _<_};
 ghost use Rattle.dng.specs.Repair.{steps, moved};
 ghost use Rattle.fix_scratch.specs.Marks.{Fits};
 ghost use Rattle.fix_places.specs.Beside.{Ascends};
-ghost use Rattle.fix_near.specs.Looks.{Asks, Inside, none, Lone, marked, pairOf, oneStep, openAt, soundOf, nearOf, Lists};
+ghost use Rattle.fix_near.specs.Looks.{Asks, Inside, none, Lone, marked, pairOf, oneStep, Steps, openAt, soundOf, nearOf, Lists};
 use dng::Window;
+use fix_constant::Spot;
 
 // One step to a neighbour, in columns and rows of the period.
 pub struct Step {
@@ -57,6 +58,18 @@ fn shifted(at: usize, d: i64, period: usize, outside: usize) -> usize
     if at < period { outside } else { at - period }
 }
 
+// The position one step away; the width or the height where that would be below 0.
+fn stepped(w: Window, period: usize, x: usize, y: usize, s: Step) -> Spot
+    requires { ⌜ Steps period x y (pairOf s) ⌝ }
+    ensures { λ r. ⌜ (r .x ≡ moved x (s .dx) period (w .width)) × (r .y ≡ moved y (s .dy) period (w .height)) ⌝ }
+{
+    let dx = s.dx;
+    let dy = s.dy;
+    let xx = shifted(x, dx, period, w.width);
+    let yy = shifted(y, dy, period, w.height);
+    Spot { x: xx, y: yy }
+}
+
 // Whether the position lies in the window and is not marked; it is sought among the marks from place k.
 fn sound_at(
     marks: &[u32],
@@ -93,17 +106,15 @@ fn beside(
     places: &mut [usize; 8],
     k: usize,
 ) -> Neighbour
-    requires { ⌜ Asks (now marks) n w period x y × (((oneStep (s .dx) ≡ true) × (oneStep (s .dy) ≡ true)) × (k < 8)) ⌝ }
+    requires { ⌜ Asks (now marks) n w period x y × (Steps period x y (pairOf s) × (k < 8)) ⌝ }
     ensures { λ r. ⌜ r ≡ soundOf (w .width) (w .height) period (marked (now (marks .entry)) n) x y (pairOf s) ⌝ }
 {
-    let dx = s.dx;
-    let dy = s.dy;
-    let xx = shifted(x, dx, period, w.width);
-    let yy = shifted(y, dy, period, w.height);
-    sound_at(marks, n, w, xx, yy, places, k)
+    let to = stepped(w, period, x, y, s);
+    sound_at(marks, n, w, to.x, to.y, places, k)
 }
 
-// The sound neighbours, step by step. Each step has a place among the marks, which moves on with the positions that are asked for.
+// The sound neighbours, step by step. Each step has a place among the marks, which moves on with the positions that are
+// asked for.
 fn around(
     marks: &[u32],
     n: usize,
@@ -165,27 +176,21 @@ fn lone_inside(w: Window, period: usize, x: usize, y: usize, lone: bool) -> bool
     false
 }
 
-// All eight neighbours, none marked and each in the window: one by one, so that no array of steps and no test is left of it.
+// All eight neighbours, none marked and each in the window, step by step. Nothing is tested, so that no loop is left
+// of the walk when it is compiled.
 fn eight(w: Window, period: usize, x: usize, y: usize) -> Near
-    requires { ⌜ Fits w × Inside w period x y ⌝ }
+    requires { ⌜ Fits w × ((period ≤ 65536) × Inside w period x y) ⌝ }
     ensures { λ r. ⌜ Lists r (nearOf w period none x y) ⌝ }
 {
-    let left = x - period;
-    let right = x + period;
-    let up = y - period;
-    let down = y + period;
-    let a = fix_constant::place(w, left, y, 0);
-    let b = fix_constant::place(w, right, y, 0);
-    let c = fix_constant::place(w, x, up, 0);
-    let d = fix_constant::place(w, x, down, 0);
-    let e = fix_constant::place(w, left, up, 0);
-    let f = fix_constant::place(w, right, down, 0);
-    let g = fix_constant::place(w, left, down, 0);
-    let h = fix_constant::place(w, right, up, 0);
-    Near {
-        at: [a, b, c, d, e, f, g, h],
-        n: 8,
+    let all = steps();
+    let mut at = [0; 8];
+    let mut i = 0;
+    while i < 8 {
+        let to = stepped(w, period, x, y, all[i]);
+        at[i] = fix_constant::place(w, to.x, to.y, 0);
+        i += 1;
     }
+    Near { at, n: i }
 }
 
 // How many marks are to be looked at: around a lone position, none.

@@ -1,12 +1,9 @@
 -- The marks of an opcode by its kind, and what a repair asks and answers around its stages. Over any sample kind. Assumes nothing.
-use Prim.Native.Nat.{ℕ, zero, suc, _-_, _*_, _≤_, _<_}
-use mathlib.Core.Path.{_≡_, refl, sym, ap, subst, fun-ext}
+use Prim.Native.Nat.{ℕ, zero, suc, _-_, _≤_}
+use mathlib.Core.Path.{_≡_, refl, sym, subst, fun-ext}
 use mathlib.Core.Bool.{Bool, true, false}
 use mathlib.Core.List.{List, [], _∷_}
-use native.Mathlib.Nat.{mul-zero}
 use native.Mathlib.Omega.{arith}
-use borrow.Author.Tests.{leb-true}
-use lib.Dec.{leb}
 use lib.Ieee.{Float}
 use lib.ListN.{length}
 use types.Run.{OneOf, miss}
@@ -17,50 +14,22 @@ use Rattle.dng.specs.declared.Opcode.{Opcode}
 use Rattle.dng.specs.declared.Opcode.the-variants.{WarpRectilinear, WarpFisheye, FixVignetteRadial, FixBadPixelsConstant, FixBadPixelsList, TrimBounds, MapTable, MapPolynomial, GainMap, DeltaPerRow, DeltaPerColumn, ScalePerRow, ScalePerColumn, Other}
 use Rattle.dng.specs.Repair.{complete, positions, stepOf, badValue, markedIn, marksOn, marksOf, repairAt}
 use Rattle.dng.specs.Run.{Kind}
-use Rattle.dng.specs.Answer.{inRange}
 use Rattle.fix_scratch.specs.declared.Marked.{Marked}
 use Rattle.fix_scratch.specs.declared.Marked.the-variants as M
 use Rattle.fix_scratch.specs.Marks.{Fits, Gathered, Holds, chosen}
 use Rattle.fix_listed.specs.Listed.{listedAt}
 use Rattle.fix_scratch.proofs.Chosen.{chosen-rises, chosen-in}
 use Rattle.fix_near.specs.Looks.{marked}
-use Rattle.fix_constant.proofs.Places.{and-first, and-second}
 use Rattle.num_sorted.specs.Sorts.{occ, has}
 use Rattle.num_sorted.proofs.Occ.{has-true}
 use Rattle.pointwise.specs.Points.{each}
 use Rattle.fix_repair.specs.declared.Fixed.{Fixed}
 use Rattle.fix_repair.specs.declared.Fixed.the-variants as F
 use Rattle.fix_repair.specs.Fixes.{Fixes}
-use Rattle.fix_fills.specs.Fills.{Marking, countIn, mended}
-use Rattle.fix_repair.specs.Works.{Ranges, Mended, Settled}
+use Rattle.fix_fills.specs.Fills.{Marking, countIn}
+use Rattle.fix_repair.specs.Works.{Settled}
 use Rattle.fix_repair.proofs.Counting.{count-none}
 use Rattle.fix_repair.proofs.Totals.{repair-none, fixes-none, fixes-marks, fixes-settled}
-
--- ---- what the ranges say
-
-pub ranges-of : (w : Window) (period : ℕ) → inRange w period ≡ true → Ranges w × (period ≤ 65536)
-unfolding inRange
-ranges-of w period e =
-    let e1 = and-second (leb (w .width) 65536) _ e in
-    let e2 = and-second (leb (w .height) 65536) _ e1 in
-    let e3 = and-second (leb (w .stride) 65536) _ e2 in
-    let e4 = and-second (leb 1 (w .planes)) _ e3 in
-    let e5 = and-second (leb (w .planes) 8) _ e4 in
-    let e6 = and-second (leb (w .x0) 16777216) _ e5 in
-    let e7 = and-second (leb (w .y0) 16777216) _ e6 in
-    let e8 = and-second (leb (w .«full_width») 16777216) _ e7 in
-    let e9 = and-second (leb (w .«full_height») 16777216) _ e8 in (
-      record {
-        width = leb-true (w .width) 65536 (and-first (leb (w .width) 65536) _ e);
-        height = leb-true (w .height) 65536 (and-first (leb (w .height) 65536) _ e1);
-        stride = leb-true (w .stride) 65536 (and-first (leb (w .stride) 65536) _ e2);
-        some = leb-true 1 (w .planes) (and-first (leb 1 (w .planes)) _ e3);
-        planes = leb-true (w .planes) 8 (and-first (leb (w .planes) 8) _ e4);
-        x0 = leb-true (w .x0) 16777216 (and-first (leb (w .x0) 16777216) _ e5);
-        y0 = leb-true (w .y0) 16777216 (and-first (leb (w .y0) 16777216) _ e6);
-      },
-      leb-true period 65536 e9,
-    )
 
 -- ---- the marks of an opcode
 
@@ -125,39 +94,23 @@ marking w bad m m′ n period step f far e h same =
       inside = λ q i. omega (arith, chosen-in bad 0 (positions w) q (has-true (chosen bad 0 (positions w)) q (rw (h .front) at i)) .0);
     }
 
--- the new values have room, or not
-module _ (p m room : ℕ) where
-  pub settled-done : {A : Type 0} (s s′ new : List A) (n m′ : ℕ) (o : Fixed) → p * m′ ≤ room → m′ ≡ m → o ≡ F.Done m′ (n - m′) → s′ ≡ new
-      → Settled s s′ new p room n m o
-  settled-done s s′ new n m′ o r c d f =
-      subst (λ (o : Fixed). Settled s s′ new p room n m o) (sym d)
-      (record { repaired = c; left = ap (λ (k : ℕ). n - k) c; fits = subst (λ (k : ℕ). p * k ≤ room) c r; samples = f })
+-- no marks: nothing is repaired, and the samples stay
+module _ (w : Window) (step : ℕ) (marks : List ℕ) (n : ℕ) (e : n ≡ 0) where
+  pub settled-none : (r : Fixed) → r ≡ F.Done 0 (0 - 0) → Settled marks n w step r
+  unfolding countIn
+  settled-none r d = rw (e, d) refl
 
-  pub settled-short : {A : Type 0} (s new : List A) (n : ℕ) → room < p * m → Settled s s new p room n m F.Values
-  settled-short s new n r = (r, refl)
+  pub samples-none : {A : Type 0} (none : A) (toFloat : A → Float) (ofMean : Float → A) (s : List A)
+      → s ≡ each (repairAt none toFloat ofMean w step (marked marks n) s) s
+  unfolding has occ
+  samples-none none toFloat ofMean s = rw e (sym (repair-none none toFloat ofMean w (marked marks 0) (λ q. refl) step s))
 
--- no marks: the samples stay, whatever the scratch
-module _ {A : Type 0} (none : A) (toFloat : A → Float) (ofMean : Float → A) (w : Window) (step : ℕ) (marks : List ℕ) (room : ℕ) (s : List A) where
-  mended-none : Mended s (each (repairAt none toFloat ofMean w step (marked marks 0) s) s) (w .planes) room 0 (mended marks 0 w step) 0 0
-  unfolding countIn has occ
-  mended-none =
-      record {
-        repaired = refl;
-        left = refl;
-        fits = omega (arith, mul-zero (w .planes));
-        samples = sym (repair-none none toFloat ofMean w (marked marks 0) (λ q. refl) step s);
-      }
-
-  pub settled-none : (n : ℕ) (o : Fixed) → n ≡ 0 → o ≡ F.Done 0 (0 - 0)
-      → Settled s s (each (repairAt none toFloat ofMean w step (marked marks n) s) s) (w .planes) room n (mended marks n w step) o
-  settled-none n o e d = rw (e, d) mended-none
-
-module _ {A : Type 0} (kind : Kind A) (w : Window) (period : ℕ) (op : Opcode) (b : List ℕ) (s : List A) (m : List ℕ) (room : ℕ) where
+module _ {A : Type 0} (kind : Kind A) (w : Window) (period : ℕ) (op : Opcode) (b : List ℕ) (s : List A) (m : List ℕ) where
   -- the window is not whole: no marks
   pub fix-none : complete w (length s) ≡ false
-      → Fixes kind w period (record { marks = length m; values = room }) (marksOf (kind .none) w (kind .isBad) op b s) s s (F.Done 0 0)
+      → Fixes kind w period (record { marks = length m }) (marksOf (kind .none) w (kind .isBad) op b s) s s (F.Done 0 0)
   unfolding marksOf
-  fix-none e = fixes-none kind w period (record { marks = length m; values = room }) (marksOf (kind .none) w (kind .isBad) op b s) s (λ q. rw e refl)
+  fix-none e = fixes-none kind w period (record { marks = length m }) (marksOf (kind .none) w (kind .isBad) op b s) s (λ q. rw e refl)
 
   marks-as : complete w (length s) ≡ true → marksOn (kind .none) w (kind .isBad) op b s ≡ marksOf (kind .none) w (kind .isBad) op b s
   unfolding marksOf
@@ -165,10 +118,10 @@ module _ {A : Type 0} (kind : Kind A) (w : Window) (period : ℕ) (op : Opcode) 
 
   pub fix-marks : complete w (length s) ≡ true → (r : Marked) (m′ : List ℕ) → r ≡ M.TooMany
       → Gathered (positions w) (marksOn (kind .none) w (kind .isBad) op b s) m m′ r
-      → Fixes kind w period (record { marks = length m; values = room }) (marksOf (kind .none) w (kind .isBad) op b s) s s F.Marks
+      → Fixes kind w period (record { marks = length m }) (marksOf (kind .none) w (kind .isBad) op b s) s s F.Marks
   unfolding markedIn
   fix-marks e r m′ d g =
-      fixes-marks kind w period (record { marks = length m; values = room }) (marksOf (kind .none) w (kind .isBad) op b s) s
+      fixes-marks kind w period (record { marks = length m }) (marksOf (kind .none) w (kind .isBad) op b s) s
       (subst (λ (f : ℕ → Bool). Gathered (positions w) f m m′ M.TooMany) (marks-as e)
       (subst (λ (r : Marked). Gathered (positions w) (marksOn (kind .none) w (kind .isBad) op b s) m m′ r) d g))
 
@@ -183,10 +136,10 @@ module _ {A : Type 0} (kind : Kind A) (w : Window) (period : ℕ) (op : Opcode) 
     pub fix-asks : (step : ℕ) → Fits w → period ≤ 65536 → step ≡ stepOf period → length m′ ≡ length m → Marking m′ n w step
     fix-asks step f far p same = marking w (marksOf (kind .none) w (kind .isBad) op b s) m m′ n period step f far p held same
 
-    pub fix-settled : (step : ℕ) (s′ : List A) (o : Fixed) → step ≡ stepOf period
-        → Settled s s′ (each (repairAt (kind .none) (kind .toFloat) (kind .ofMean) w step (marked m′ n) s) s) (w .planes) room n (mended m′ n w step) o
-        → Fixes kind w period (record { marks = length m; values = room }) (marksOf (kind .none) w (kind .isBad) op b s) s s′ o
+    pub fix-settled : (step : ℕ) (s′ : List A) (o : Fixed) → step ≡ stepOf period → Settled m′ n w step o
+        → s′ ≡ each (repairAt (kind .none) (kind .toFloat) (kind .ofMean) w step (marked m′ n) s) s
+        → Fixes kind w period (record { marks = length m }) (marksOf (kind .none) w (kind .isBad) op b s) s s′ o
     unfolding markedIn
-    fix-settled step s′ o p t =
-        fixes-settled kind w period (record { marks = length m; values = room }) (marksOf (kind .none) w (kind .isBad) op b s) s s′ m′ n step p
-        (held .front) (held .all) (held .fits) o t
+    fix-settled step s′ o p done new =
+        fixes-settled kind w period (record { marks = length m }) (marksOf (kind .none) w (kind .isBad) op b s) s m′ n step p
+        (held .front) (held .all) (held .fits) s′ o done new

@@ -1,5 +1,4 @@
 pub mod Counting
-pub mod Placing
-pub mod Writing
+pub mod Windows
 pub mod Totals
 pub mod Gathering

@@ -1,10 +1,9 @@
 -- The totals are those of the definition, and what the stages answer is what the run's definition has. Over any sample kind.
 -- Assumes nothing.
 use Prim.Native.Nat.{ℕ, _+_, _-_, _*_, _/_, _%_, _≤_, _<_}
-use mathlib.Core.Path.{_≡_, refl, ap, subst, _∙_}
+use mathlib.Core.Path.{_≡_, refl, ap, _∙_}
 use mathlib.Core.Bool.{Bool, true, false, not, _&&_, cond, and-false}
 use mathlib.Core.List.{List}
-use native.Mathlib.Nat.{mul-zero}
 use native.Mathlib.Omega.{arith}
 use borrow.Author.Tests.{eq-eqb, ne-eqb, le-leb, lt-leb}
 use lib.Dec.{leb, eqb}
@@ -15,13 +14,12 @@ use Rattle.pointwise.proofs.Each.{each-agree, each-none}
 use Rattle.dng.specs.declared.Window.{Window}
 use Rattle.dng.specs.Select.{inWindow, rowOf, columnOf, planeOf}
 use Rattle.dng.specs.Repair.{positions, sampleAt, steps, stepOf, soundAt, markedIn, repairedIn, leftIn, repairAt}
-use Rattle.dng.specs.Run.{Kind, Room, going, marksFull, valuesFull, repairOn}
+use Rattle.dng.specs.Run.{Kind, Room, going, marksFull, repairOn}
 use Rattle.fix_scratch.specs.declared.Marked.the-variants as M
 use Rattle.fix_scratch.specs.Marks.{chosen}
 use Rattle.fix_scratch.proofs.Chosen.{count-same, chosen-has}
 use Rattle.fix_near.specs.Looks.{marked}
 use Rattle.fix_means.proofs.Tallies.{sound-on-ext, tally-ext}
-use Rattle.fix_constant.proofs.Places.{position-in}
 use Rattle.num_sorted.specs.Sorts.{has}
 use Rattle.num_sorted.proofs.Occ.{by-cases, equal-or}
 use Rattle.fix_repair.specs.declared.Fixed.{Fixed}
@@ -29,7 +27,7 @@ use Rattle.fix_repair.specs.declared.Fixed.the-variants as F
 use Rattle.fix_repair.specs.Fixes.{Fixes}
 use Rattle.fix_fills.specs.Fills.{mendable, countIn, mended}
 use Rattle.fix_repair.specs.Works.{Settled}
-use Rattle.fix_repair.proofs.Placing.{row-of, column-of}
+use Rattle.fix_fills.proofs.Placing.{position-of}
 use Rattle.fix_repair.proofs.Counting.{count-chosen, count-parts, count-none, count-below}
 
 -- ---- the totals
@@ -73,7 +71,7 @@ module _ {A : Type 0} (none : A) (toFloat : A → Float) (ofMean : Float → A) 
       by-cases (inWindow w j)
       (λ e. rw (
         e,
-        same (y * w .width + x) (position-in w x y (column-of w j e) (row-of w j e)),
+        same (y * w .width + x) (position-of w j e),
         tally-ext w (stepOf step) bad bad′ same x y f f (λ xx yy p q r. refl),
       ) refl)
       (λ e. rw e refl)
@@ -103,8 +101,6 @@ module _ {A : Type 0} (kind : Kind A) (w : Window) (period : ℕ) (room : Room) 
         count-none (positions w) bad h,
         le-leb 0 (room .marks) (omega arith),
         count-none (positions w) (λ q. bad q && leb 1 (soundAt w period bad q)) (λ q. rw (h q) refl),
-        mul-zero (w .planes),
-        le-leb 0 (room .values) (omega arith),
         count-none (positions w) (λ q. bad q && eqb (soundAt w period bad q) 0) (λ q. rw (h q) refl),
         repair-none (kind .none) (kind .toFloat) (kind .ofMean) w bad h period s,
       ) refl
@@ -112,19 +108,19 @@ module _ {A : Type 0} (kind : Kind A) (w : Window) (period : ℕ) (room : Room) 
   -- what is answered are the totals: so their sum is the number of marks, and at most that of the positions
   pub fixes-totals : (s′ : List A) (a b : ℕ) → Fixes kind w period room bad s s′ (F.Done a b) → (a ≡ repairedIn w period bad) × (b ≡ leftIn w period bad)
   unfolding repairOn
-  fixes-totals s′ a b f = go (leb (markedIn w bad) (room .marks)) (leb (w .planes * repairedIn w period bad) (room .values)) (f 0 0 0)
+  fixes-totals s′ a b f = go (leb (markedIn w bad) (room .marks)) (f 0 0 0)
     where
-      go : (x y : Bool)
+      go : (x : Bool)
           → going s′ (0 + a) (0 + b)
-          ≡ cond x (cond y (going (each (repairAt (kind .none) (kind .toFloat) (kind .ofMean) w period bad s) s) (0 + repairedIn w period bad) (0 + leftIn w period bad))
-          (valuesFull s 0)) (marksFull s 0)
+          ≡ cond x
+          (going (each (repairAt (kind .none) (kind .toFloat) (kind .ofMean) w period bad s) s) (0 + repairedIn w period bad) (0 + leftIn w period bad))
+          (marksFull s 0)
           → (a ≡ repairedIn w period bad) × (b ≡ leftIn w period bad)
-      go true true e =
+      go true e =
           let p : 0 + a ≡ 0 + repairedIn w period bad = cc in
           let q : 0 + b ≡ 0 + leftIn w period bad = cc in
           (omega arith, omega arith)
-      go true false e = absurd (let z : _≡_ {A = ℕ} 0 1 = cc in omega arith)
-      go false y e = absurd (let z : _≡_ {A = ℕ} 0 1 = cc in omega arith)
+      go false e = absurd (let z : _≡_ {A = ℕ} 0 1 = cc in omega arith)
 
   pub fixes-few : (s′ : List A) (a b : ℕ) → Fixes kind w period room bad s s′ (F.Done a b) → (a + b ≡ markedIn w bad) × (a + b ≤ positions w)
   unfolding markedIn
@@ -137,27 +133,15 @@ module _ {A : Type 0} (kind : Kind A) (w : Window) (period : ℕ) (room : Room) 
   unfolding repairOn
   fixes-marks h k a b = rw (lt-leb (markedIn w bad) (room .marks) h) refl
 
-  -- n marks at the front of the scratch
-  module _ (s′ : List A) (marks : List ℕ) (n step : ℕ) (d : step ≡ stepOf period) (e : take n marks ≡ chosen bad 0 (positions w)) (c : n ≡ markedIn w bad)
+  -- n marks at the front of the scratch, all of them settled
+  module _ (marks : List ℕ) (n step : ℕ) (d : step ≡ stepOf period) (e : take n marks ≡ chosen bad 0 (positions w)) (c : n ≡ markedIn w bad)
       (fit : n ≤ room .marks) where
-    new : List A
-    new = each (repairAt (kind .none) (kind .toFloat) (kind .ofMean) w step (marked marks n) s) s
-
-    many : mended marks n w step ≡ repairedIn w period bad
-    many = repaired-is w period step bad (take n marks) e d
-
-    room-marks : leb (markedIn w bad) (room .marks) ≡ true
-    room-marks = le-leb (markedIn w bad) (room .marks) (omega arith)
-
-    pub fixes-settled : (r : Fixed) → Settled s s′ (each (repairAt (kind .none) (kind .toFloat) (kind .ofMean) w step (marked marks n) s) s) (w .planes) (room .values) n (mended marks n w step) r
-        → Fixes kind w period room bad s s′ r
+    pub fixes-settled : (s′ : List A) (r : Fixed) → Settled marks n w step r
+        → s′ ≡ each (repairAt (kind .none) (kind .toFloat) (kind .ofMean) w step (marked marks n) s) s → Fixes kind w period room bad s s′ r
     unfolding repairOn
-    fixes-settled (F.Done a b) m k u v =
-        let first : a ≡ repairedIn w period bad = m .repaired ∙ many in
-        let rest : b ≡ leftIn w period bad = omega (arith, m .left, many, totals w period bad) in
+    fixes-settled s′ r done new k u v =
+        let many : mended marks n w step ≡ repairedIn w period bad = repaired-is w period step bad (take n marks) e d in
+        let rest : n - mended marks n w step ≡ leftIn w period bad = omega (arith, many, totals w period bad) in
         let all : s′ ≡ each (repairAt (kind .none) (kind .toFloat) (kind .ofMean) w period bad s) s =
-        m .samples ∙ repair-ext (kind .none) (kind .toFloat) (kind .ofMean) w (marked marks n) bad (held-same w period step bad (take n marks) e d) period step s d in
-        rw (room-marks, le-leb (w .planes * repairedIn w period bad) (room .values) (subst (λ (x : ℕ). w .planes * x ≤ room .values) many (m .fits)), first, rest, all) refl
-    fixes-settled F.Marks m k u v = absurd m
-    fixes-settled F.Values m k u v =
-        rw (room-marks, lt-leb (w .planes * repairedIn w period bad) (room .values) (subst (λ (x : ℕ). room .values < w .planes * x) many (m .0)), m .1) refl
+        new ∙ repair-ext (kind .none) (kind .toFloat) (kind .ofMean) w (marked marks n) bad (held-same w period step bad (take n marks) e d) period step s d in
+        rw (done, le-leb (markedIn w bad) (room .marks) (omega arith), rest, many, all) refl

@@ -4,7 +4,7 @@ use mathlib.Core.Bool.{Bool}
 use mathlib.Core.List.{List}
 use mathlib.Core.Path.{_≡_}
 use Rattle.dng.specs.declared.Window.{Window}
-use Rattle.dng.specs.Run.{Kind, Room, Progress, going, marksFull, valuesFull, repairOn}
+use Rattle.dng.specs.Run.{Kind, Room, Progress, going, marksFull, repairOn}
 use Rattle.fix_repair.specs.declared.Fixed.{Fixed}
 use Rattle.fix_repair.specs.declared.Fixed.the-variants as F
 
@@ -12,7 +12,6 @@ use Rattle.fix_repair.specs.declared.Fixed.the-variants as F
 abbrev pub progressOf : {A : Type 0} → Fixed → List A → (opcode repaired left : ℕ) → Progress A
 progressOf (F.Done a b) s k r l = going s (r + a) (l + b)
 progressOf F.Marks s k r l = marksFull s k
-progressOf F.Values s k r l = valuesFull s k
 
 -- a repair with the marks `bad` of the samples s answers r and leaves s′: whatever its number and the totals before it
 abbrev pub Fixes : {A : Type 0} → Kind A → Window → (period : ℕ) → Room → (ℕ → Bool) → (s s′ : List A) → Fixed → Type 0

@@ -17,7 +17,7 @@ use Rattle.dng.specs.declared.RowAnswer.the-variants as Row
 use Rattle.dng.specs.declared.Reading.{Reading}
 use Rattle.dng.specs.declared.Reading.the-variants as R
 use Rattle.dng.specs.List.{readingOf, itemsOf}
-use Rattle.dng.specs.Run.{Progress, going, marksFull, valuesFull, skipped, takesRows, namesOf, rowOn}
+use Rattle.dng.specs.Run.{Progress, going, marksFull, skipped, takesRows, namesOf, rowOn}
 use Rattle.dng.specs.Answer.{inRange, rowInRange, numbersOf, rowNumbersOf, readingNumbersOf, Out, unchanged, finished, ranOn, readOut, runOut, RowOut, rowFrameOf, rowRead, rowOut}
 use Rattle.law_promises.specs.Promises.{Call, End, outOf, Meets, Whole, skips, performed, Goes, When, RowWhen, Kept, Numbered}
 
@@ -71,7 +71,6 @@ module _ {A : Type 0} (c : Call A) where
           → leb (skips c) (length (c .names)) ≡ f → (p : Progress A) → all ≡ p → When c (tested t f p .answer)
       go i w true true t f (going s r l) e = (record { ranges = i; whole = w; taken = t; named = leb-true _ _ f }, refl, (s, e))
       go i w true true t f (marksFull s k) e = (record { ranges = i; whole = w; taken = t; named = leb-true _ _ f }, (s, e))
-      go i w true true t f (valuesFull s k) e = (record { ranges = i; whole = w; taken = t; named = leb-true _ _ f }, (s, e))
       go i w true false t f p e = (i, w, t, leb-false _ _ f)
       go i w false b t f p e = (i, w, t)
 
@@ -90,7 +89,6 @@ module _ {A : Type 0} (c : Call A) where
       ap₂ (λ (z : Bool) (r : Reading). cond z (reads r) (refused Ans.Range) .answer) (h .0) (h .1 .1)
       ∙ ap₂ (λ (y z : Bool). tested y z all .answer) (h .2) (lt-leb (skips c) (length (c .names)) (h .3))
   only (Ans.Marks k) h = ran-on (h .0) (marksFull (h .1 .0) k) (h .1 .1)
-  only (Ans.Values k) h = ran-on (h .0) (valuesFull (h .1 .0) k) (h .1 .1)
 
   -- ---- kept
 
@@ -127,13 +125,6 @@ module _ {A : Type 0} (c : Call A) where
             front = λ n r l h. absurd (let z : _≡_ {A = ℕ} 0 1 = cc in omega arith);
             back = λ n r l h. absurd (let z : _≡_ {A = ℕ} 0 1 = cc in omega arith);
           }
-      go i w true true t f (valuesFull s k) e =
-          record {
-            first = λ p q. absurd (omega arith);
-            any = λ p. refl;
-            front = λ n r l h. absurd (let z : _≡_ {A = ℕ} 0 1 = cc in omega arith);
-            back = λ n r l h. absurd (let z : _≡_ {A = ℕ} 0 1 = cc in omega arith);
-          }
       go i w true false t f p e = refused-holds Ans.Names (λ n r l h. let z : _≡_ {A = ℕ} 0 1 = cc in omega arith)
       go i w false b t f p e = refused-holds Ans.NotTaken (λ n r l h. let z : _≡_ {A = ℕ} 0 1 = cc in omega arith)
 
@@ -145,7 +136,6 @@ module _ {A : Type 0} (c : Call A) where
         written = λ n r l p. ap (take n) (m .named) ∙ holds .front n r l (sym (m .answered) ∙ p);
         after = λ n r l p. ap (drop n) (m .named) ∙ holds .back n r l (sym (m .answered) ∙ p);
         marks = m .marksClear;
-        values = m .valuesClear;
       }
 
 -- ---- numbers
@@ -157,7 +147,6 @@ no-totals (Ans.Malformed k) h = (refl, refl, refl)
 no-totals Ans.NotTaken h = (refl, refl, refl)
 no-totals Ans.Names h = (refl, refl, refl)
 no-totals (Ans.Marks k) h = (refl, refl, refl)
-no-totals (Ans.Values k) h = (refl, refl, refl)
 
 no-entry : (a : Answer) → (numbersOf a .number ≡ 2 → ⊥) → numbersOf a .entry ≡ 0
 no-entry (Ans.Done n r l) h = refl
@@ -166,16 +155,22 @@ no-entry (Ans.Malformed k) h = absurd (h refl)
 no-entry Ans.NotTaken h = refl
 no-entry Ans.Names h = refl
 no-entry (Ans.Marks k) h = refl
-no-entry (Ans.Values k) h = refl
 
-no-opcode : (a : Answer) → numbersOf a .number < 5 → numbersOf a .opcode ≡ 0
+no-opcode : (a : Answer) → (numbersOf a .number ≡ 5 → ⊥) → numbersOf a .opcode ≡ 0
 no-opcode (Ans.Done n r l) h = refl
 no-opcode Ans.Range h = refl
 no-opcode (Ans.Malformed k) h = refl
 no-opcode Ans.NotTaken h = refl
 no-opcode Ans.Names h = refl
-no-opcode (Ans.Marks k) h = absurd (omega arith)
-no-opcode (Ans.Values k) h = absurd (omega arith)
+no-opcode (Ans.Marks k) h = absurd (h refl)
+
+no-six : (a : Answer) → numbersOf a .number ≡ 6 → ⊥
+no-six (Ans.Done n r l) h = omega arith
+no-six Ans.Range h = omega arith
+no-six (Ans.Malformed k) h = omega arith
+no-six Ans.NotTaken h = omega arith
+no-six Ans.Names h = omega arith
+no-six (Ans.Marks k) h = omega arith
 
 row-number : (a : RowAnswer) → rowNumbersOf a .number ≤ 3
 row-number (Row.Done n) = omega arith
@@ -209,6 +204,7 @@ numbered =
       refused = no-totals;
       entry = no-entry;
       opcode = no-opcode;
+      withdrawn = no-six;
       row = row-number;
       rowEntry = row-entry;
       rowRest = row-rest;

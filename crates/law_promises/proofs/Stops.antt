@@ -1,18 +1,18 @@
 -- Where a run stops: at the first repair for which the scratch is too short, with the samples that the opcodes before it left. Assumes nothing.
-use Prim.Native.Nat.{ℕ, zero, suc, _+_, _*_, _≤_, _<_}
+use Prim.Native.Nat.{ℕ, zero, suc, _+_, _<_}
 use mathlib.Core.Bool.{Bool, true, false, cond}
 use mathlib.Core.List.{List, [], _∷_}
 use mathlib.Core.Path.{_≡_, refl, sym, ap, ap₂, subst, _∙_}
 use native.Mathlib.Omega.{arith}
-use borrow.Author.Tests.{leb-true, leb-false, le-leb, lt-leb}
+use borrow.Author.Tests.{leb-false, lt-leb}
 use lib.Dec.{leb}
 use lib.ListN.{take, drop}
 use Rattle.pointwise.specs.Points.{each}
 use Rattle.dng.specs.declared.Window.{Window}
 use Rattle.dng.specs.List.{Item, bodyOf, itemsOf}
 use Rattle.dng.specs.Repair.{marksOf, markedIn, repairedIn, leftIn, repairAt}
-use Rattle.dng.specs.Run.{Class, table, empty, local, repair, unapplied, classOf, Kind, Progress, going, marksFull, valuesFull, Room, repairOn, performOn, perform, performAll}
-use Rattle.law_promises.specs.Promises.{Call, performed, Reached, MarksOver, ValuesOver}
+use Rattle.dng.specs.Run.{Class, table, empty, local, repair, unapplied, classOf, Kind, Progress, going, marksFull, Room, repairOn, performOn, perform, performAll}
+use Rattle.law_promises.specs.Promises.{Call, performed, Reached, MarksOver}
 
 module _ {A : Type 0} (kind : Kind A) (w : Window) (period : ℕ) (room : Room) (list : List ℕ) where
   abbrev all : ℕ → List Item → Progress A → Progress A
@@ -31,11 +31,6 @@ module _ {A : Type 0} (kind : Kind A) (w : Window) (period : ℕ) (room : Room) 
   unfolding performAll
   still-marks k [] t o = refl
   still-marks k (i ∷ is) t o = still-marks (suc k) is t o
-
-  pub still-values : (k : ℕ) (is : List Item) (t : List A) (o : ℕ) → all k is (valuesFull t o) ≡ valuesFull t o
-  unfolding performAll
-  still-values k [] t o = refl
-  still-values k (i ∷ is) t o = still-values (suc k) is t o
 
   -- the first m opcodes, then the others
   split : (m k : ℕ) (is : List Item) (g : Progress A) → all k is g ≡ all (k + m) (drop m is) (all k (take m is) g)
@@ -61,37 +56,29 @@ module _ {A : Type 0} (kind : Kind A) (w : Window) (period : ℕ) (room : Room) 
   abbrev Now : Item → ℕ → List A → Progress A → Type 0
   Now i k s (going t r l) = Unit
   Now i k s (marksFull t o) = (t ≡ s) × (o ≡ k) × (classOf (i .op) ≡ repair) × (room .marks < markedIn w (bad i t))
-  Now i k s (valuesFull t o) =
-      (t ≡ s) × (o ≡ k) × (classOf (i .op) ≡ repair) × (markedIn w (bad i t) ≤ room .marks)
-      × (room .values < w .planes * repairedIn w period (bad i t))
 
   now : (i : Item) (k : ℕ) (s : List A) (r l : ℕ) → Now i k s (one i k (going s r l))
   unfolding repairOn
   now i k s r l = go (classOf (i .op)) refl
     where
-      mends : classOf (i .op) ≡ repair → (a b : Bool) → leb (markedIn w (bad i s)) (room .marks) ≡ a
-          → leb (w .planes * repairedIn w period (bad i s)) (room .values) ≡ b
-          → Now i k s (cond a (cond b
+      mends : classOf (i .op) ≡ repair → (a : Bool) → leb (markedIn w (bad i s)) (room .marks) ≡ a
+          → Now i k s (cond a
           (going (each (repairAt (kind .none) (kind .toFloat) (kind .ofMean) w period (bad i s) s) s) (r + repairedIn w period (bad i s)) (l + leftIn w period (bad i s)))
-          (valuesFull s k)) (marksFull s k))
-      mends e true true p q = tt
-      mends e true false p q = (refl, refl, e, leb-true _ _ p, leb-false _ _ q)
-      mends e false b p q = (refl, refl, e, leb-false _ _ p)
+          (marksFull s k))
+      mends e true p = tt
+      mends e false p = (refl, refl, e, leb-false _ _ p)
 
       go : (z : Class) → classOf (i .op) ≡ z → Now i k s (performOn kind w period room z (i .op) (bodyOf list (i .entry)) k s r l)
       go table e = tt
       go empty e = tt
       go local e = tt
-      go repair e = mends e (leb (markedIn w (bad i s)) (room .marks)) (leb (w .planes * repairedIn w period (bad i s)) (room .values)) refl refl
+      go repair e = mends e (leb (markedIn w (bad i s)) (room .marks)) refl
       go unapplied e = tt
 
   -- what a run shows that stops
   abbrev Seen : ℕ → List Item → Progress A → Progress A → Type 0
   Seen k is g (going t r l) = Unit
   Seen k is g (marksFull t o) = (m : ℕ) × (o ≡ k + m) × (f : From k is g m t) × (room .marks < markedIn w (bad (f .item) t))
-  Seen k is g (valuesFull t o) =
-      (m : ℕ) × (o ≡ k + m) × (f : From k is g m t) × (markedIn w (bad (f .item) t) ≤ room .marks)
-      × (room .values < w .planes * repairedIn w period (bad (f .item) t))
 
   module _ (i : Item) (is : List Item) (k : ℕ) (s : List A) (r l : ℕ) where
     here : {t : List A} → t ≡ s → classOf (i .op) ≡ repair → From k (i ∷ is) (going s r l) 0 t
@@ -115,7 +102,6 @@ module _ {A : Type 0} (kind : Kind A) (w : Window) (period : ℕ) (room : Room) 
     unfolding further
     lift e (going t a b) n = tt
     lift e (marksFull t o) n = (suc (n .0), omega (arith, n .1), further e (n .2), n .3)
-    lift e (valuesFull t o) n = (suc (n .0), omega (arith, n .1), further e (n .2), n .3, n .4)
 
     on : ((s′ : List A) (r′ l′ : ℕ) → Seen (suc k) is (going s′ r′ l′) (all (suc k) is (going s′ r′ l′)))
         → (g : Progress A) → one i k (going s r l) ≡ g → Now i k s g → Seen k (i ∷ is) (going s r l) (all (suc k) is g)
@@ -123,8 +109,6 @@ module _ {A : Type 0} (kind : Kind A) (w : Window) (period : ℕ) (room : Room) 
     on more (going s′ r′ l′) e n = lift e (all (suc k) is (going s′ r′ l′)) (more s′ r′ l′)
     on more (marksFull t o) e n =
         subst (Seen k (i ∷ is) (going s r l)) (sym (still-marks (suc k) is t o)) (0, omega (arith, n .1), here (n .0) (n .2), n .3)
-    on more (valuesFull t o) e n =
-        subst (Seen k (i ∷ is) (going s r l)) (sym (still-values (suc k) is t o)) (0, omega (arith, n .1), here (n .0) (n .2), n .3, n .4)
 
   seen : (is : List Item) (k : ℕ) (s : List A) (r l : ℕ) → Seen k is (going s r l) (all k is (going s r l))
   unfolding performAll
@@ -140,12 +124,6 @@ module _ {A : Type 0} (kind : Kind A) (w : Window) (period : ℕ) (room : Room) 
     one-marks : room .marks < markedIn w (bad i t) → one i k (going t r l) ≡ marksFull t k
     unfolding repairOn
     one-marks h = one-repair ∙ rw (lt-leb (markedIn w (bad i t)) (room .marks) h) refl
-
-    one-values : markedIn w (bad i t) ≤ room .marks → room .values < w .planes * repairedIn w period (bad i t) → one i k (going t r l) ≡ valuesFull t k
-    unfolding repairOn
-    one-values f h =
-        one-repair
-        ∙ rw (le-leb (markedIn w (bad i t)) (room .marks) f, lt-leb (w .planes * repairedIn w period (bad i t)) (room .values) h) refl
 
   -- the run from that repair on
   from-there : (m : ℕ) (is : List Item) (g : Progress A) (t : List A) (r l : ℕ) (i : Item) (rest : List Item) (p : Progress A)
@@ -171,7 +149,6 @@ module _ {A : Type 0} (c : Call A) where
   abbrev Shown : Progress A → Type 0
   Shown (going t r l) = Unit
   Shown (marksFull t k) = MarksOver c k t
-  Shown (valuesFull t k) = ValuesOver c k t
 
   show : (p : Progress A) → Seen (c .kind) (c .window) (c .period) (c .room) (c .list) 0 (itemsOf (c .list)) (going (c .samples) 0 0) p → Shown p
   unfolding there
@@ -179,9 +156,6 @@ module _ {A : Type 0} (c : Call A) where
   show (marksFull t k) n =
       let z : n .0 ≡ k = omega (arith, n .1) in
       subst (λ (m : ℕ). MarksOver c m t) z (record { reached = there (n .2); over = n .3 })
-  show (valuesFull t k) n =
-      let z : n .0 ≡ k = omega (arith, n .1) in
-      subst (λ (m : ℕ). ValuesOver c m t) z (record { reached = there (n .2); fits = n .3; over = n .4 })
 
   pub shown : (p : Progress A) → performed c (itemsOf (c .list)) ≡ p → Shown p
   shown p e = subst Shown e (show (performed c (itemsOf (c .list))) (seen (c .kind) (c .window) (c .period) (c .room) (c .list) (itemsOf (c .list)) 0 (c .samples) 0 0))
@@ -193,11 +167,3 @@ module _ {A : Type 0} (c : Call A) where
       (f .rest) (marksFull t k) (f .ran) (f .stands)
       (one-marks (c .kind) (c .window) (c .period) (c .room) (c .list) (f .item) k t (f .repaired) (f .left) (f .repairs) (h .over))
       ∙ still-marks (c .kind) (c .window) (c .period) (c .room) (c .list) (suc k) (f .rest) t k
-
-  pub values-stop : (k : ℕ) (t : List A) → ValuesOver c k t → performed c (itemsOf (c .list)) ≡ valuesFull t k
-  values-stop k t h =
-      let f = h .reached in
-      from-there (c .kind) (c .window) (c .period) (c .room) (c .list) k (itemsOf (c .list)) (going (c .samples) 0 0) t (f .repaired) (f .left) (f .item)
-      (f .rest) (valuesFull t k) (f .ran) (f .stands)
-      (one-values (c .kind) (c .window) (c .period) (c .room) (c .list) (f .item) k t (f .repaired) (f .left) (f .repairs) (h .fits) (h .over))
-      ∙ still-values (c .kind) (c .window) (c .period) (c .room) (c .list) (suc k) (f .rest) t k

@@ -1,6 +1,6 @@
 -- The totals of a run that goes on to the end are sums along it, and those of repaired and left positions add up to that of the marked ones.
 -- Assumes nothing.
-use Prim.Native.Nat.{ℕ, suc, _+_, _*_}
+use Prim.Native.Nat.{ℕ, suc, _+_}
 use mathlib.Core.Bool.{Bool, true, false, cond}
 use mathlib.Core.List.{List, [], _∷_}
 use mathlib.Core.Path.{_≡_, refl, sym, subst}
@@ -9,9 +9,9 @@ use lib.Dec.{leb}
 use Rattle.pointwise.specs.Points.{each}
 use Rattle.dng.specs.List.{Item, bodyOf, itemsOf}
 use Rattle.dng.specs.Repair.{markedIn, repairedIn, leftIn, repairAt}
-use Rattle.dng.specs.Run.{Class, table, empty, local, repair, unapplied, classOf, Progress, going, marksFull, valuesFull, repairOn, performOn, perform, performAll}
+use Rattle.dng.specs.Run.{Class, table, empty, local, repair, unapplied, classOf, Progress, going, marksFull, repairOn, performOn, perform, performAll}
 use Rattle.fix_repair.proofs.Totals.{totals}
-use Rattle.law_promises.proofs.Stops.{still-marks, still-values}
+use Rattle.law_promises.proofs.Stops.{still-marks}
 use Rattle.law_promises.specs.Promises.{Call, performed, marksOn, countOn, countAt, sumFrom, sumOver, Totals}
 
 module _ {A : Type 0} (c : Call A) where
@@ -42,7 +42,6 @@ module _ {A : Type 0} (c : Call A) where
   parts-at : (i : Item) (g : Progress A) → countAt c mended i g + countAt c stayed i g ≡ countAt c marked i g
   parts-at i (going t r l) = parts-on (classOf (i .op)) i t
   parts-at i (marksFull t k) = refl
-  parts-at i (valuesFull t k) = refl
 
   parts : (is : List Item) (k : ℕ) (g : Progress A) → sumFrom c mended k is g + sumFrom c stayed k is g ≡ sumFrom c marked k is g
   unfolding sumFrom
@@ -55,7 +54,6 @@ module _ {A : Type 0} (c : Call A) where
   abbrev Comes : (a b u v : ℕ) → Progress A → Type 0
   Comes a b u v (going t r l) = (r ≡ a + u) × (l ≡ b + v)
   Comes a b u v (marksFull t k) = Unit
-  Comes a b u v (valuesFull t k) = Unit
 
   one-comes : (i : Item) (k : ℕ) (s : List A) (a b : ℕ)
       → Comes a b (countAt c mended i (going s a b)) (countAt c stayed i (going s a b)) (one i k (going s a b))
@@ -65,27 +63,25 @@ module _ {A : Type 0} (c : Call A) where
       bad : ℕ → Bool
       bad = marksOn c i s
 
-      mends : (x y : Bool)
-          → Comes a b (mended bad) (stayed bad) (cond x (cond y
+      mends : (x : Bool)
+          → Comes a b (mended bad) (stayed bad) (cond x
           (going (each (repairAt (c .kind .none) (c .kind .toFloat) (c .kind .ofMean) (c .window) (c .period) bad s) s) (a + mended bad) (b + stayed bad))
-          (valuesFull s k)) (marksFull s k))
-      mends true true = (refl, refl)
-      mends true false = tt
-      mends false y = tt
+          (marksFull s k))
+      mends true = (refl, refl)
+      mends false = tt
 
       go : (z : Class) → Comes a b (countOn c mended z i s) (countOn c stayed z i s)
           (performOn (c .kind) (c .window) (c .period) (c .room) z (i .op) (bodyOf (c .list) (i .entry)) k s a b)
       go table = (omega arith, omega arith)
       go empty = (omega arith, omega arith)
       go local = (omega arith, omega arith)
-      go repair = mends (leb (marked bad) (c .room .marks)) (leb (c .window .planes * mended bad) (c .room .values))
+      go repair = mends (leb (marked bad) (c .room .marks))
       go unapplied = (omega arith, omega arith)
 
   -- what is still to come, after the totals have grown
   comes-on : (a b u v a′ b′ u′ v′ : ℕ) → a′ ≡ a + u → b′ ≡ b + v → (p : Progress A) → Comes a′ b′ u′ v′ p → Comes a b (u + u′) (v + v′) p
   comes-on a b u v a′ b′ u′ v′ x y (going t r l) h = (omega (arith, h .0), omega (arith, h .1))
   comes-on a b u v a′ b′ u′ v′ x y (marksFull t k) h = tt
-  comes-on a b u v a′ b′ u′ v′ x y (valuesFull t k) h = tt
 
   after-one : (k : ℕ) (is : List Item) (a b u v : ℕ)
       → ((s : List A) (a b : ℕ) → Comes a b (sumFrom c mended (suc k) is (going s a b)) (sumFrom c stayed (suc k) is (going s a b)) (all (suc k) is (going s a b)))
@@ -97,9 +93,6 @@ module _ {A : Type 0} (c : Call A) where
   after-one k is a b u v more (marksFull t o) h =
       subst (Comes a b (u + sumFrom c mended (suc k) is (marksFull t o)) (v + sumFrom c stayed (suc k) is (marksFull t o)))
       (sym (still-marks (c .kind) (c .window) (c .period) (c .room) (c .list) (suc k) is t o)) tt
-  after-one k is a b u v more (valuesFull t o) h =
-      subst (Comes a b (u + sumFrom c mended (suc k) is (valuesFull t o)) (v + sumFrom c stayed (suc k) is (valuesFull t o)))
-      (sym (still-values (c .kind) (c .window) (c .period) (c .room) (c .list) (suc k) is t o)) tt
 
   comes : (is : List Item) (k : ℕ) (s : List A) (a b : ℕ)
       → Comes a b (sumFrom c mended k is (going s a b)) (sumFrom c stayed k is (going s a b)) (all k is (going s a b))

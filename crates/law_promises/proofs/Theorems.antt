@@ -10,14 +10,14 @@ use borrow.Author.Tests.{eqb-true, eq-eqb}
 use Rattle.dng.specs.declared.Answer.{Answer}
 use Rattle.dng.specs.declared.Answer.the-variants as Ans
 use Rattle.dng.specs.List.{itemsOf}
-use Rattle.dng.specs.Run.{Progress, going, marksFull, valuesFull, skipped, namesOf}
+use Rattle.dng.specs.Run.{Progress, going, marksFull, skipped, namesOf}
 use Rattle.dng.specs.declared.RowAnswer.{RowAnswer}
 use Rattle.dng.specs.declared.RowAnswer.the-variants as Row
 use Rattle.dng.specs.Answer.{Out, finished, numbersOf, rowNumbersOf, wholeFrame, wholeRow}
 use Rattle.run_row.proofs.Laws.{determined as rows-determined, kept as rows-kept}
-use Rattle.law_promises.specs.Promises.{Forms, Determined, Call, End, outOf, Meets, skips, performed, Goes, When, RowWhen, MarksOver, ValuesOver, Exactly-when, Row-exactly-when, Keeps, Row-keeps, Numbered, Adds-up, Scratch, Row-calls, Whole-calls, Whole-calls-alike, Verdict, Row-verdict}
+use Rattle.law_promises.specs.Promises.{Forms, Determined, Call, End, outOf, Meets, skips, performed, Goes, When, RowWhen, MarksOver, Exactly-when, Row-exactly-when, Keeps, Row-keeps, Numbered, Adds-up, Scratch, Row-calls, Whole-calls, Whole-calls-alike, Verdict, Row-verdict}
 use Rattle.law_promises.proofs.Answers.{named, goes-on, when, only, kept, row-when, row-only}
-use Rattle.law_promises.proofs.Stops.{shown, marks-stop, values-stop}
+use Rattle.law_promises.proofs.Stops.{shown, marks-stop}
 use Rattle.law_promises.proofs.Answers as Answers
 use Rattle.law_promises.proofs.Sums as Sums
 use Rattle.law_promises.proofs.Rooms.{other-room}
@@ -37,7 +37,6 @@ determined =
             samples = a .left ∙ sym (b .left);
             names = a .named ∙ sym (b .named);
             marks = a .marksClear ∙ sym (b .marksClear);
-            values = a .valuesClear ∙ sym (b .valuesClear);
           };
       row = λ o r r′ t t′ a b. let d = rows-determined a b in (d .answers, d .rows);
       reading = λ list r r′ a b. a ∙ sym b;
@@ -60,21 +59,10 @@ module _ {A : Type 0} (c : Call A) (e : End A) (m : Meets (outOf c) (c .room) e)
     λ h. answers (Ans.Marks k) .1 (h .0, (h .1 .0, marks-stop c k (h .1 .0) (h .1 .1))),
   )
 
-  values : (k : ℕ) → (e .answer ≡ Ans.Values k) ↔ (Goes c × ((t : List A) × ValuesOver c k t))
-  values k = (
-    λ p. let h : When c (Ans.Values k) = answers (Ans.Values k) .0 p in (h .0, (h .1 .0, shown c (valuesFull (h .1 .0) k) (h .1 .1))),
-    λ h. answers (Ans.Values k) .1 (h .0, (h .1 .0, values-stop c k (h .1 .0) (h .1 .1))),
-  )
-
   marks-left : (k : ℕ) → e .answer ≡ Ans.Marks k → MarksOver c k (e .samples)
   marks-left k p =
       let h : When c (Ans.Marks k) = answers (Ans.Marks k) .0 p in
       subst (λ (t : List A). MarksOver c k t) (sym (stopped (h .0) (marksFull (h .1 .0) k) (h .1 .1))) (shown c (marksFull (h .1 .0) k) (h .1 .1))
-
-  values-left : (k : ℕ) → e .answer ≡ Ans.Values k → ValuesOver c k (e .samples)
-  values-left k p =
-      let h : When c (Ans.Values k) = answers (Ans.Values k) .0 p in
-      subst (λ (t : List A). ValuesOver c k t) (sym (stopped (h .0) (valuesFull (h .1 .0) k) (h .1 .1))) (shown c (valuesFull (h .1 .0) k) (h .1 .1))
 
   result : (n r l : ℕ) → e .answer ≡ Ans.Done n r l → performed c (itemsOf (c .list)) ≡ going (e .samples) r l
   result n r l p =
@@ -83,7 +71,7 @@ module _ {A : Type 0} (c : Call A) (e : End A) (m : Meets (outOf c) (c .room) e)
 
 pub exactly-when : Exactly-when
 exactly-when A c e m =
-    record { answers = answers c e m; marks = marks c e m; values = values c e m; result = result c e m; marksStop = marks-left c e m; valuesStop = values-left c e m }
+    record { answers = answers c e m; marks = marks c e m; result = result c e m; marksStop = marks-left c e m }
 
 pub row-exactly-when : Row-exactly-when
 row-exactly-when w scale y list row r t ran a = (
@@ -139,7 +127,6 @@ verdict A c e m = (there (e .answer) (λ n r l. settled n r l), back (e .answer)
     there Ans.NotTaken f h = absurd (false≢true h)
     there Ans.Names f h = absurd (false≢true h)
     there (Ans.Marks k) f h = absurd (false≢true h)
-    there (Ans.Values k) f h = absurd (false≢true h)
 
     back : (a : Answer) → ((n r l : ℕ) → a ≡ Ans.Done n r l → n ≡ skips c) → (numbersOf a .number ≡ 0) × (skips c ≡ 0) → wholeFrame a ≡ true
     back (Ans.Done n r l) f h = eq-eqb n 0 (f n r l refl ∙ h .1)
@@ -148,7 +135,6 @@ verdict A c e m = (there (e .answer) (λ n r l. settled n r l), back (e .answer)
     back Ans.NotTaken f h = absurd (omega (arith, h .0))
     back Ans.Names f h = absurd (omega (arith, h .0))
     back (Ans.Marks k) f h = absurd (omega (arith, h .0))
-    back (Ans.Values k) f h = absurd (omega (arith, h .0))
 
 pub row-verdict : Row-verdict
 row-verdict w scale y list row r t ran = (there r counted, back r counted)

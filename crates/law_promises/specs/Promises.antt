@@ -2,7 +2,7 @@
 -- Document 01, 'What comes back' and 'How a promise is judged'. Over any sample kind; proofs/Theorems proves each statement under its name in lower case:
 --     1 Determined   2 Exactly-when, Row-exactly-when   3 Keeps, Row-keeps, Numbered   4 Adds-up, Scratch
 --     5 Row-calls, Whole-calls, Whole-calls-alike   6 Verdict, Row-verdict
-use Prim.Native.Nat.{ℕ, suc, _+_, _*_, _≤_, _<_}
+use Prim.Native.Nat.{ℕ, suc, _+_, _≤_, _<_}
 use mathlib.Core.Bool.{Bool, true, false}
 use mathlib.Core.List.{List, [], _∷_}
 use mathlib.Core.Logic.{_↔_}
@@ -19,9 +19,8 @@ use Rattle.dng.specs.declared.RowAnswer.the-variants as Row
 use Rattle.dng.specs.declared.Reading.{Reading}
 use Rattle.dng.specs.declared.Reading.the-variants as R
 use Rattle.dng.specs.List.{Item, readingOf, itemsOf, bodyOf}
-use Rattle.dng.specs.Value.{nought}
 use Rattle.dng.specs.Repair.{marksOf, markedIn, repairedIn, leftIn}
-use Rattle.dng.specs.Run.{Class, table, empty, local, repair, unapplied, classOf, Kind, f32Kind, u16Kind, skipped, skipped16, takes16, takesRows, namesOf, Progress, going, marksFull, valuesFull, Room, perform, performAll}
+use Rattle.dng.specs.Run.{Class, table, empty, local, repair, unapplied, classOf, Kind, f32Kind, u16Kind, skipped, skipped16, takes16, takesRows, namesOf, Progress, going, marksFull, Room, perform, performAll}
 use Rattle.dng.specs.Answer.{inRange, rowInRange, numbersOf, rowNumbersOf, readingNumbersOf, Out, runOut, takesAll, frameOf, f32Out, u16Out, Ran, RowOut, rowOut, wholeFrame, wholeRow}
 use Rattle.run_row.specs.Rows.{RowRan}
 use Rattle.law_rows.specs.RowForm.{rowPart, rowPut, rowWindowOf, RowForm·if}
@@ -56,7 +55,6 @@ pub record End (A : Type 0) : Type 0 where
   pub samples : List A
   pub names : List ℕ
   pub marks : List ℕ
-  pub values : List Float
 
 module _ {A : Type 0} where
   abbrev pub outOf : Call A → Out A
@@ -64,7 +62,7 @@ module _ {A : Type 0} where
 
   -- the contract of a run
   abbrev pub Meets : Out A → Room → End A → Type 0
-  Meets o room e = Ran o room (e .answer) (e .samples) (e .names) (e .marks) (e .values)
+  Meets o room e = Ran o room (e .answer) (e .samples) (e .names) (e .marks)
 
 -- the two public runs are such calls
 pub record Forms : Type 0 where
@@ -80,7 +78,6 @@ pub record Same {A : Type 0} (e e′ : End A) : Type 0 where
   pub samples : e .samples ≡ e′ .samples
   pub names : e .names ≡ e′ .names
   pub marks : e .marks ≡ e′ .marks
-  pub values : e .values ≡ e′ .values
 
 pub record Determined : Type 1 where
   pub run : (A : Type 0) (o : Out A) (room : Room) (e e′ : End A) → Meets o room e → Meets o room e′ → Same e e′
@@ -116,7 +113,6 @@ module _ {A : Type 0} (c : Call A) where
   When Ans.Names =
       (inRange (c .window) (c .period) ≡ true) × Whole (c .list) × (c .takes (itemsOf (c .list)) ≡ true) × (length (c .names) < skips)
   When (Ans.Marks k) = Goes × ((t : List A) × (performed (itemsOf (c .list)) ≡ marksFull t k))
-  When (Ans.Values k) = Goes × ((t : List A) × (performed (itemsOf (c .list)) ≡ valuesFull t k))
 
   -- the marks of an item, on the samples t
   abbrev pub marksOn : Item → List A → ℕ → Bool
@@ -137,20 +133,13 @@ module _ {A : Type 0} (c : Call A) where
     pub reached : Reached k t
     pub over : c .room .marks < markedIn (c .window) (marksOn (reached .item) t)
 
-  -- 6: its marks fit, and the f32 scratch has fewer entries than its new values, one for each plane of a repaired position
-  pub record ValuesOver (k : ℕ) (t : List A) : Type 0 where
-    pub reached : Reached k t
-    pub fits : markedIn (c .window) (marksOn (reached .item) t) ≤ c .room .marks
-    pub over : c .room .values < c .window .planes * repairedIn (c .window) (c .period) (marksOn (reached .item) t)
-
--- a run: by the table; 5 and 6 also by the repair that is named; and the samples, on 0 the result, on 5 and 6 those that the opcodes before that repair left
+-- a run: by the table; 5 also by the repair that is named; and the samples, on 0 the result, on 5 those that the opcodes
+-- before that repair left, so that nothing of it is written
 pub record Exactly {A : Type 0} (c : Call A) (e : End A) : Type 0 where
   pub answers : (a : Answer) → (e .answer ≡ a) ↔ When c a
   pub marks : (k : ℕ) → (e .answer ≡ Ans.Marks k) ↔ (Goes c × ((t : List A) × MarksOver c k t))
-  pub values : (k : ℕ) → (e .answer ≡ Ans.Values k) ↔ (Goes c × ((t : List A) × ValuesOver c k t))
   pub result : (n r l : ℕ) → e .answer ≡ Ans.Done n r l → performed c (itemsOf (c .list)) ≡ going (e .samples) r l
   pub marksStop : (k : ℕ) → e .answer ≡ Ans.Marks k → MarksOver c k (e .samples)
-  pub valuesStop : (k : ℕ) → e .answer ≡ Ans.Values k → ValuesOver c k (e .samples)
 
 abbrev pub Exactly-when : Type 1
 Exactly-when = (A : Type 0) (c : Call A) (e : End A) → Meets (outOf c) (c .room) e → Exactly c e
@@ -180,7 +169,6 @@ pub record Kept {A : Type 0} (c : Call A) (e : End A) : Type 0 where
   pub after : (n r l : ℕ) → e .answer ≡ Ans.Done n r l → drop n (e .names) ≡ drop n (c .names)
   -- every return
   pub marks : e .marks ≡ replicate (c .room .marks) 0
-  pub values : e .values ≡ replicate (c .room .values) nought
 
 abbrev pub Keeps : Type 1
 Keeps = (A : Type 0) (c : Call A) (e : End A) → Meets (outOf c) (c .room) e → Kept c e
@@ -190,11 +178,14 @@ Row-keeps =
     (w : RowWindow) (scale : Float) (y : ℕ) (list : List ℕ) (row : List Float) (r : RowAnswer) (t : List Float)
     → RowRan (rowOut w scale y list row) r t → ((n : ℕ) → r ≡ Row.Done n → ⊥) → t ≡ row
 
--- the paper's numbers of every answer: names and totals 0 on a refusal, the entry's number 0 but in 2, the opcode's 0 but in 5 and 6
+-- the paper's numbers of every answer: names and totals 0 on a refusal, the entry's number 0 but in 2, the opcode's 0
+-- but in 5
 pub record Numbered : Type 0 where
   pub refused : (a : Answer) → 1 ≤ numbersOf a .number → (numbersOf a .names ≡ 0) × (numbersOf a .repaired ≡ 0) × (numbersOf a .left ≡ 0)
   pub entry : (a : Answer) → (numbersOf a .number ≡ 2 → ⊥) → numbersOf a .entry ≡ 0
-  pub opcode : (a : Answer) → numbersOf a .number < 5 → numbersOf a .opcode ≡ 0
+  pub opcode : (a : Answer) → (numbersOf a .number ≡ 5 → ⊥) → numbersOf a .opcode ≡ 0
+  -- 6 is withdrawn (M-104), and given to nothing else
+  pub withdrawn : (a : Answer) → numbersOf a .number ≡ 6 → ⊥
   -- a row gives 0, 1, 2 or 3
   pub row : (a : RowAnswer) → rowNumbersOf a .number ≤ 3
   pub rowEntry : (a : RowAnswer) → (rowNumbersOf a .number ≡ 2 → ⊥) → rowNumbersOf a .entry ≡ 0
@@ -216,7 +207,6 @@ module _ {A : Type 0} (c : Call A) (count : (ℕ → Bool) → ℕ) where
   abbrev pub countAt : Item → Progress A → ℕ
   countAt i (going t r l) = countOn (classOf (i .op)) i t
   countAt i (marksFull t k) = 0
-  countAt i (valuesFull t k) = 0
 
   -- the count of each repair's marks, on the samples as they are by then, summed along the run from opcode k on
   unfoldable pub sumFrom : ℕ → List Item → Progress A → ℕ
@@ -240,12 +230,12 @@ abbrev pub withRoom : {A : Type 0} → Call A → Room → Call A
 withRoom c room =
     record { kind = c .kind; takes = c .takes; skip = c .skip; window = c .window; period = c .period; room = room; list = c .list; samples = c .samples; names = c .names }
 
--- So the totals say how much scratch is enough: a run that answers 0 answers the same, and leaves the same, with any scratch that holds as many marks as
--- were repaired and left, and a value for each plane of those repaired.
+-- So the totals say how much scratch is enough: a run that answers 0 answers the same, and leaves the same, with any
+-- scratch that holds as many marks as were repaired and left.
 abbrev pub Scratch : Type 1
 Scratch =
     (A : Type 0) (c : Call A) (e : End A) → Meets (outOf c) (c .room) e → (n r l : ℕ) → e .answer ≡ Ans.Done n r l
-    → (room : Room) → r + l ≤ room .marks → c .window .planes * r ≤ room .values → outOf (withRoom c room) ≡ outOf c
+    → (room : Room) → r + l ≤ room .marks → outOf (withRoom c room) ≡ outOf c
 
 -- ---- 5. demand 3, of the calls
 
@@ -288,8 +278,8 @@ Whole-calls =
     → Meets (u16Out w period room list s names) room e → Meets (f32Out w (atOne period) room′ list (widened s) names′) room′ e′
     → Wholes-agree e e′
 
--- The same with one scratch for both, however short, and on 1, 2, 5 and 6 too: the f32 run answers what the whole-number form answers, but for the number
--- of names.
+-- The same with one scratch for both, however short, and on 1, 2 and 5 too: the f32 run answers what the whole-number
+-- form answers, but for the number of names.
 pub record Wholes-alike (list : List ℕ) (e : End ℕ) (e′ : End Float) : Type 0 where
   pub answers : e′ .answer ≡ renamed (length (namesOf skipped (itemsOf list))) (e .answer)
   pub samples : e .samples ≡ narrowed (e′ .samples)

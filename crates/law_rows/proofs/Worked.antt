@@ -42,7 +42,7 @@ abbrev settings : Settings
 settings = record { period = 1; scale = whole 1 }
 
 abbrev room : Room
-room = record { marks = 0; values = 0 }
+room = record { marks = 0 }
 
 -- nine samples: the first row, the gap, and a pixel and a half of the second row
 abbrev before : List Float

@@ -199,7 +199,3 @@ module _ (w : Window) (period : ℕ) (bad bad′ : ℕ → Bool) (same : Agree w
 pub marked-le : (w : Window) (bad : ℕ → Bool) → markedIn w bad ≤ positions w
 unfolding markedIn
 marked-le w bad = count-le (positions w) bad
-
-pub repaired-le : (w : Window) (period : ℕ) (bad : ℕ → Bool) → repairedIn w period bad ≤ positions w
-unfolding repairedIn
-repaired-le w period bad = count-le (positions w) (λ q. bad q && leb 1 (soundAt w period bad q))

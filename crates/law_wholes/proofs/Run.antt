@@ -1,11 +1,11 @@
 -- Both runs, opcode by opcode: samples are exact until the one repair and near after it, and both go on to the end with the same totals, or both stop at
 -- that repair in the same way. With room for any repair they do not stop.
 -- Assumes nothing.
-use Prim.Native.Nat.{ℕ, suc, _+_, _*_, _<_}
+use Prim.Native.Nat.{ℕ, suc, _+_, _<_}
 use mathlib.Core.Path.{_≡_, refl, sym, ap, ap₂, subst, _∙_}
 use mathlib.Core.Bool.{Bool, true, false, _&&_, cond, false≢true}
 use mathlib.Core.List.{List, [], _∷_}
-use native.Mathlib.Nat.{le-trans, mul-le-mul-left}
+use native.Mathlib.Nat.{le-trans}
 use borrow.Author.Tests.{le-leb}
 use lib.Dec.{leb, eqb}
 use lib.Ieee.{Float, nan}
@@ -19,12 +19,12 @@ use Rattle.dng.specs.List.{Item, bodyOf}
 use Rattle.dng.specs.Select.{onWindow}
 use Rattle.dng.specs.Value.{one, tableAt, mapTable, mapTable16, ruleOf, rule16Of}
 use Rattle.dng.specs.Repair.{marksOf, markedIn, repairedIn, leftIn}
-use Rattle.dng.specs.Run.{table, empty, repair, classOf, takes16On, takes16From, Kind, f32Kind, u16Kind, Progress, going, marksFull, valuesFull, Room, repairOn, performOn, perform, performAll}
+use Rattle.dng.specs.Run.{table, empty, repair, classOf, takes16On, takes16From, Kind, f32Kind, u16Kind, Progress, going, marksFull, Room, repairOn, performOn, perform, performAll}
 use Rattle.dng.specs.Answer.{frameOf}
 use Rattle.law_wholes.specs.WholeForm.{Below, Enough}
 use Rattle.law_wholes.proofs.Near.{Exact, Near, exact-near}
 use Rattle.law_wholes.proofs.Pairs.{Pairs, pairs-weaken, pairs-each}
-use Rattle.law_wholes.proofs.Marks.{Agree, bad16, bad32, marks-same, marked-same, repaired-same, left-same, marked-le, repaired-le}
+use Rattle.law_wholes.proofs.Marks.{Agree, bad16, bad32, marks-same, marked-same, repaired-same, left-same, marked-le}
 use Rattle.law_wholes.proofs.Repairs.{mend16, mend32, repair-near}
 use Rattle.law_wholes.proofs.Tables.{Kept, body-entry, region-pair, window-pair, table-pair}
 
@@ -42,42 +42,28 @@ rel-kept true = record { from = λ a v e. e; to = λ a v e. exact-near e }
 rel-kept false = record { from = λ a v e. exact-near e; to = λ a v n. n }
 
 -- what one scratch holds the other does
-pub record Tests (w : Window) (period : ℕ) (room room′ : Room) : Type 0 where
-  pub marks : (bad : ℕ → Bool) → leb (markedIn w bad) (room .marks) ≡ leb (markedIn w bad) (room′ .marks)
-  pub values : (bad : ℕ → Bool)
-      → leb (w .planes * repairedIn w period bad) (room .values) ≡ leb (w .planes * repairedIn w period bad) (room′ .values)
+abbrev pub Tests : (w : Window) (room room′ : Room) → Type 0
+Tests w room room′ = (bad : ℕ → Bool) → leb (markedIn w bad) (room .marks) ≡ leb (markedIn w bad) (room′ .marks)
 
-pub tests-same : (w : Window) (period : ℕ) (room : Room) → Tests w period room room
-tests-same w period room = record { marks = λ bad. refl; values = λ bad. refl }
+pub tests-same : (w : Window) (room : Room) → Tests w room room
+tests-same w room bad = refl
 
 -- room for any repair of the window
 marks-fit : (w : Window) (room : Room) → Enough w room → (bad : ℕ → Bool) → leb (markedIn w bad) (room .marks) ≡ true
 marks-fit w room enough bad = le-leb (markedIn w bad) (room .marks) (le-trans (marked-le w bad) (enough .marks))
 
-values-fit : (w : Window) (period : ℕ) (room : Room) → Enough w room → (bad : ℕ → Bool)
-    → leb (w .planes * repairedIn w period bad) (room .values) ≡ true
-values-fit w period room enough bad =
-    le-leb (w .planes * repairedIn w period bad) (room .values)
-    (le-trans (mul-le-mul-left (w .planes) (repaired-le w period bad)) (enough .values))
-
-pub tests-enough : (w : Window) (period : ℕ) (room room′ : Room) → Enough w room → Enough w room′ → Tests w period room room′
-tests-enough w period room room′ e e′ =
-    record {
-      marks = λ bad. marks-fit w room e bad ∙ sym (marks-fit w room′ e′ bad);
-      values = λ bad. values-fit w period room e bad ∙ sym (values-fit w period room′ e′ bad);
-    }
+pub tests-enough : (w : Window) (room room′ : Room) → Enough w room → Enough w room′ → Tests w room room′
+tests-enough w room room′ e e′ bad = marks-fit w room e bad ∙ sym (marks-fit w room′ e′ bad)
 
 -- where one opcode leaves both runs: what is left of the list is taken, and both go on with the same totals; or both stop
 data Step (w : Window) (room : Room) (rest : Bool → Bool) : Progress ℕ → Progress Float → Type 0 where
   goes : {s : List ℕ} {t : List Float} {r l : ℕ} → (free : Bool) → rest free ≡ true → Pairs (Rel free) s t → Step w room rest (going s r l) (going t r l)
   noMarks : {s : List ℕ} {t : List Float} {k : ℕ} → (Enough w room → ⊥) → Pairs Exact s t → Step w room rest (marksFull s k) (marksFull t k)
-  noValues : {s : List ℕ} {t : List Float} {k : ℕ} → (Enough w room → ⊥) → Pairs Exact s t → Step w room rest (valuesFull s k) (valuesFull t k)
 
 -- where both runs end
 pub data Ends (w : Window) (room : Room) : Progress ℕ → Progress Float → Type 0 where
   ended : {s : List ℕ} {t : List Float} {r l : ℕ} → Pairs Near s t → Ends w room (going s r l) (going t r l)
   endedMarks : {s : List ℕ} {t : List Float} {k : ℕ} → (Enough w room → ⊥) → Pairs Near s t → Ends w room (marksFull s k) (marksFull t k)
-  endedValues : {s : List ℕ} {t : List Float} {k : ℕ} → (Enough w room → ⊥) → Pairs Near s t → Ends w room (valuesFull s k) (valuesFull t k)
 
 -- what has stopped stays so
 module _ {A : Type 0} (kind : Kind A) (w : Window) (period : ℕ) (room : Room) (list : List ℕ) where
@@ -86,12 +72,7 @@ module _ {A : Type 0} (kind : Kind A) (w : Window) (period : ℕ) (room : Room) 
   still-marks k [] t o = refl
   still-marks k (i ∷ is) t o = still-marks (suc k) is t o
 
-  still-values : (k : ℕ) (is : List Item) (t : List A) (o : ℕ) → performAll kind w period room list k is (valuesFull t o) ≡ valuesFull t o
-  unfolding performAll
-  still-values k [] t o = refl
-  still-values k (i ∷ is) t o = still-values (suc k) is t o
-
-module _ (w : Window) (period : ℕ) (room room′ : Room) (planes : 0 < w .planes) (tests : Tests w period room room′) where
+module _ (w : Window) (period : ℕ) (room room′ : Room) (planes : 0 < w .planes) (tests : Tests w room room′) where
   table-step : (free : Bool) (rest : Bool → Bool) (reg : Region) (n : ℕ) (b : List ℕ) → ((i : ℕ) → tableAt b i < 65536)
       → (s : List ℕ) (t : List Float) (r l : ℕ) → rest free ≡ true → Pairs (Rel free) s t
       → Step w room rest (going (each (onWindow w (length s) (rule16Of (MapTable reg n) b)) s) r l)
@@ -119,8 +100,7 @@ module _ (w : Window) (period : ℕ) (room room′ : Room) (planes : 0 < w .plan
   unfolding repairOn
   repair-step rest op b k s t r l e p =
       subst (Step w room rest (repairOn u16Kind w period room bad′ k s r l)) (sym is32)
-      (go (leb (markedIn w bad′) (room .marks)) (leb (w .planes * repairedIn w period bad′) (room .values))
-      (λ z. λ enough. false≢true (sym z ∙ marks-fit w room enough bad′)) (λ z. λ enough. false≢true (sym z ∙ values-fit w period room enough bad′)))
+      (go (leb (markedIn w bad′) (room .marks)) (λ z. λ enough. false≢true (sym z ∙ marks-fit w room enough bad′)))
     where
       bad : ℕ → Bool
       bad = marksOf nan w bad32 op b t
@@ -131,30 +111,25 @@ module _ (w : Window) (period : ℕ) (room room′ : Room) (planes : 0 < w .plan
       same : Agree w bad bad′
       same = marks-same w s t p planes op b
 
-      -- the f32 run's repair, by its two tests and its totals
-      outcome : (x y : Bool) (m n : ℕ) → Progress Float
-      outcome x y m n = cond x (cond y (going (each (mend32 w period bad t) t) (r + m) (l + n)) (valuesFull t k)) (marksFull t k)
+      -- the f32 run's repair, by its test and its totals
+      outcome : (x : Bool) (m n : ℕ) → Progress Float
+      outcome x m n = cond x (going (each (mend32 w period bad t) t) (r + m) (l + n)) (marksFull t k)
 
-      -- the f32 run's tests and totals are the other's
+      -- the f32 run's test and totals are the other's
       is32 : repairOn (kind32 w) w period room′ bad k t r l
-          ≡ cond (leb (markedIn w bad′) (room .marks)) (cond (leb (w .planes * repairedIn w period bad′) (room .values))
-          (going (each (mend32 w period bad t) t) (r + repairedIn w period bad′) (l + leftIn w period bad′)) (valuesFull t k)) (marksFull t k)
+          ≡ outcome (leb (markedIn w bad′) (room .marks)) (repairedIn w period bad′) (leftIn w period bad′)
       is32 =
-          ap₂ (λ (x y : Bool). outcome x y (repairedIn w period bad) (leftIn w period bad))
-          (ap (λ (n : ℕ). leb n (room′ .marks)) (marked-same w period bad bad′ same) ∙ sym (tests .marks bad′))
-          (ap (λ (n : ℕ). leb (w .planes * n) (room′ .values)) (repaired-same w period bad bad′ same) ∙ sym (tests .values bad′))
-          ∙ ap₂ (outcome (leb (markedIn w bad′) (room .marks)) (leb (w .planes * repairedIn w period bad′) (room .values)))
-          (repaired-same w period bad bad′ same) (left-same w period bad bad′ same)
+          ap (λ (x : Bool). outcome x (repairedIn w period bad) (leftIn w period bad))
+          (ap (λ (n : ℕ). leb n (room′ .marks)) (marked-same w period bad bad′ same) ∙ sym (tests bad′))
+          ∙ ap₂ (outcome (leb (markedIn w bad′) (room .marks))) (repaired-same w period bad bad′ same) (left-same w period bad bad′ same)
 
-      go : (x y : Bool) → (x ≡ false → Enough w room → ⊥) → (y ≡ false → Enough w room → ⊥)
-          → Step w room rest (cond x (cond y
-          (going (each (mend16 w period bad′ s) s) (r + repairedIn w period bad′) (l + leftIn w period bad′)) (valuesFull s k)) (marksFull s k))
-          (cond x (cond y
-          (going (each (mend32 w period bad t) t) (r + repairedIn w period bad′) (l + leftIn w period bad′)) (valuesFull t k)) (marksFull t k))
-      go true true f g =
+      go : (x : Bool) → (x ≡ false → Enough w room → ⊥)
+          → Step w room rest
+          (cond x (going (each (mend16 w period bad′ s) s) (r + repairedIn w period bad′) (l + leftIn w period bad′)) (marksFull s k))
+          (outcome x (repairedIn w period bad′) (leftIn w period bad′))
+      go true f =
           goes false e (pairs-each (mend16 w period bad′ s) (mend32 w period bad t) s t p (λ i q a. repair-near w period s t p planes op b i q))
-      go true false f g = noValues (g refl) p
-      go false y f g = noMarks (f refl) p
+      go false f = noMarks (f refl) p
 
   -- what is never applied, and an empty table
   stay : (free : Bool) (rest : Bool → Bool) (s : List ℕ) (t : List Float) (r l : ℕ) → rest free ≡ true → Pairs (Rel free) s t
@@ -214,6 +189,3 @@ module _ (w : Window) (period : ℕ) (room room′ : Room) (planes : 0 < w .plan
       on g h (noMarks {s = s′} {t = t′} {k = o} short ps) more =
           rw (still-marks u16Kind w period room list (suc k) is s′ o, still-marks (kind32 w) w period room′ list (suc k) is t′ o)
           (endedMarks short (pairs-weaken (λ a v x. exact-near x) ps))
-      on g h (noValues {s = s′} {t = t′} {k = o} short ps) more =
-          rw (still-values u16Kind w period room list (suc k) is s′ o, still-values (kind32 w) w period room′ list (suc k) is t′ o)
-          (endedValues short (pairs-weaken (λ a v x. exact-near x) ps))

@@ -21,7 +21,7 @@ use Rattle.law_wholes.specs.Together.{renamed, Together·if, Same-scratc
 use Rattle.law_wholes.proofs.Near.{Near, exact-near}
 use Rattle.law_wholes.proofs.Pairs.{Pairs, pairs-weaken, pairs-widened, pairs-narrowed}
 use Rattle.law_wholes.proofs.Marks.{and-first, and-second}
-use Rattle.law_wholes.proofs.Run.{kind32, Ends, ended, endedMarks, endedValues, tests-same, tests-enough, runs}
+use Rattle.law_wholes.proofs.Run.{kind32, Ends, ended, endedMarks, tests-same, tests-enough, runs}
 use Rattle.law_wholes.proofs.Names.{names-without}
 
 some-planes : (w : Window) (period : ℕ) → inRange w period ≡ true → 0 < w .planes
@@ -65,13 +65,12 @@ both : {w : Window} {room : Room} {p : Progress ℕ} {q : Progress Float} → En
 both (ended {s = s} {t = t} {r = r} {l = l} ps) enough =
     record { samples16 = s; samples32 = t; repaired = r; left = l; is16 = refl; is32 = refl; pairs = ps }
 both (endedMarks short ps) enough = absurd (short enough)
-both (endedValues short ps) enough = absurd (short enough)
 
 pub whole-form : Whole-form
 whole-form w period room room′ list s names names′ h =
     let ends =
     both
-    (runs w period room room′ (some-planes w period (h .ranges)) (tests-enough w period room room′ (h .enough) (h .enough′)) list (h .bytes) true
+    (runs w period room room′ (some-planes w period (h .ranges)) (tests-enough w room room′ (h .enough) (h .enough′)) list (h .bytes) true
     (itemsOf list) 0 s (widened s) 0 0 (h .taken) (pairs-widened s (h .words)))
     (h .enough) in
     let out16 : runOut u16Kind takes16 skipped16 w period room list s names
@@ -113,7 +112,6 @@ module _ (w : Window) (period : ℕ) (room : Room) (list s names names′ : List
   alike-ends : {p : Progress ℕ} {q : Progress Float} → Ends w room p q → Alike (finished names16 names p) (finished names32 names′ q)
   alike-ends (ended {s = x} {t = y} ps) = (refl, pairs-narrowed x y ps)
   alike-ends (endedMarks {s = x} {t = y} short ps) = (refl, pairs-narrowed x y ps)
-  alike-ends (endedValues {s = x} {t = y} short ps) = (refl, pairs-narrowed x y ps)
 
   alike-ran : inRange w period ≡ true
       → Alike (ranOn u16Kind takes16 skipped16 w period room list s names) (ranOn (kind32 w) takesAll skipped w period room list (widened s) names′)
@@ -121,7 +119,7 @@ module _ (w : Window) (period : ℕ) (room : Room) (list s names names′ : List
   alike-ran ranges =
       rw (h .taken, le-leb (length names16) (length names) (h .roomy), le-leb (length names32) (length names′) (h .roomy′))
       (alike-ends
-      (runs w period room room (some-planes w period ranges) (tests-same w period room) list (h .bytes) true (itemsOf list) 0 s (widened s) 0 0 (h .taken)
+      (runs w period room room (some-planes w period ranges) (tests-same w room) list (h .bytes) true (itemsOf list) 0 s (widened s) 0 0 (h .taken)
       (pairs-widened s (h .words))))
 
   alike : Alike (u16Out w period room list s names) (runOut (kind32 w) takesAll skipped w period room list (widened s) names′)

@@ -47,7 +47,7 @@ abbrev window : Window
 window = record { width = 3; height = 1; planes = 1; stride = 3; x0 = 0; y0 = 0; «full_width» = 3; «full_height» = 1 }
 
 abbrev room : Room
-room = record { marks = 3; values = 3 }
+room = record { marks = 3 }
 
 abbrev samples : List ℕ
 samples = 10 ∷ 0 ∷ 19 ∷ []
@@ -62,8 +62,8 @@ met =
       opcodes = 4;
       whole = refl;
       taken = refl;
-      enough = record { marks = lit≤ tt; values = lit≤ tt };
-      enough′ = record { marks = lit≤ tt; values = lit≤ tt };
+      enough = record { marks = lit≤ tt };
+      enough′ = record { marks = lit≤ tt };
       roomy = lit≤ tt;
       roomy′ = lit≤ tt;
     }
@@ -72,7 +72,7 @@ pub worked : WholeForm window 1 room room list samples (0 ∷ []) (0 ∷ 0 ∷ [
 worked = whole-form window 1 room room list samples (0 ∷ []) (0 ∷ 0 ∷ []) met
 
 -- the same with no scratch at all, where both runs refuse the repair
-pub worked-together : Together window 1 (record { marks = 0; values = 0 }) list samples (0 ∷ []) (0 ∷ 0 ∷ [])
+pub worked-together : Together window 1 (record { marks = 0 }) list samples (0 ∷ []) (0 ∷ 0 ∷ [])
 worked-together =
-    same-scratch window 1 (record { marks = 0; values = 0 }) list samples (0 ∷ []) (0 ∷ 0 ∷ [])
+    same-scratch window 1 (record { marks = 0 }) list samples (0 ∷ []) (0 ∷ 0 ∷ [])
     (record { bytes = met .bytes; words = met .words; taken = met .taken; roomy = met .roomy; roomy′ = met .roomy′ })

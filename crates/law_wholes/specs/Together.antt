@@ -20,7 +20,6 @@ renamed m (Ans.Malformed k) = Ans.Malformed k
 renamed m Ans.NotTaken = Ans.NotTaken
 renamed m Ans.Names = Ans.Names
 renamed m (Ans.Marks k) = Ans.Marks k
-renamed m (Ans.Values k) = Ans.Values k
 
 -- both runs answer the same but for the number of names, refusals among the answers, and the samples agree on each
 pub record Together (w : Window) (period : ℕ) (room : Room) (list s names names′ : List ℕ) : Type 0 where

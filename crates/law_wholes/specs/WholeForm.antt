@@ -1,6 +1,6 @@
 -- Demand 3, the whole-number form: it equals widen, run at scale 1, round once and hold. The two runs go by different rules
 -- (specs/Run of dng: f32Kind and u16Kind); this is the bridge.
-use Prim.Native.Nat.{ℕ, _*_, _≤_, _<_}
+use Prim.Native.Nat.{ℕ, _≤_, _<_}
 use mathlib.Core.Bool.{Bool, true, cond}
 use mathlib.Core.List.{List, [], _∷_, map}
 use mathlib.Core.Path.{_≡_}
@@ -35,10 +35,9 @@ unfoldable pub withoutTables : List ℕ → List ℕ
 withoutTables [] = []
 withoutTables (n ∷ ns) = cond (eqb n 7) (withoutTables ns) (n ∷ withoutTables ns)
 
--- room enough for any repair of the window, in buffer lengths
+-- room enough for any repair of the window, in the scratch's length
 pub record Enough (w : Window) (room : Room) : Type 0 where
   pub marks : positions w ≤ room .marks
-  pub values : w .planes * positions w ≤ room .values
 
 abbrev pub atOne : ℕ → Settings
 atOne period = record { period = period; scale = one }

@@ -18,35 +18,22 @@ row-in-bytes o old work r r′ bytes bytes′ room room′ a b =
     (a .answered ∙ sym (b .answered), (a .left ∙ sym (b .left), a .clear ∙ sym (b .clear)))
 
 module _ {A : Type 0} where
-  pub typed : (o : Out A) (room : Room) (r r′ : Numbers) (s s′ : List A) (names names′ marks marks′ : List ℕ) (values values′ : List Float)
-      → Told o room r s names marks values → Told o room r′ s′ names′ marks′ values′
-      → (r ≡ r′) × ((s ≡ s′) × ((names ≡ names′) × ((marks ≡ marks′) × (values ≡ values′))))
-  typed o room r r′ s s′ names names′ marks marks′ values values′ a b = (
+  pub typed : (o : Out A) (room : Room) (r r′ : Numbers) (s s′ : List A) (names names′ marks marks′ : List ℕ)
+      → Told o room r s names marks → Told o room r′ s′ names′ marks′ → (r ≡ r′) × ((s ≡ s′) × ((names ≡ names′) × (marks ≡ marks′)))
+  typed o room r r′ s s′ names names′ marks marks′ a b = (
     a .answered ∙ sym (b .answered),
-    (
-      a .ran .left ∙ sym (b .ran .left),
-      (
-        a .ran .named ∙ sym (b .ran .named),
-        (a .ran .marksClear ∙ sym (b .ran .marksClear), a .ran .valuesClear ∙ sym (b .ran .valuesClear)),
-      ),
-    ),
+    (a .ran .left ∙ sym (b .ran .left), (a .ran .named ∙ sym (b .ran .named), a .ran .marksClear ∙ sym (b .ran .marksClear))),
   )
 
   pub in-bytes : (size : ℕ) (bits : A → ℕ) (none zero : A) (o : Out A) (room : Room) (old oldNames : List ℕ) (work : ℕ) (r r′ : Numbers)
-      (bytes bytes′ names names′ marks marks′ : List ℕ) (values values′ : List Float) (rest rest′ : List A)
-      → Bytes size bits none zero o room old oldNames work r bytes names marks values rest
-      → Bytes size bits none zero o room old oldNames work r′ bytes′ names′ marks′ values′ rest′
-      → (r ≡ r′) × ((bytes ≡ bytes′) × ((names ≡ names′) × ((marks ≡ marks′) × ((values ≡ values′) × (rest ≡ rest′)))))
-  in-bytes size bits none zero o room old oldNames work r r′ bytes bytes′ names names′ marks marks′ values values′ rest rest′ a b = (
+      (bytes bytes′ names names′ marks marks′ : List ℕ) (rest rest′ : List A)
+      → Bytes size bits none zero o room old oldNames work r bytes names marks rest
+      → Bytes size bits none zero o room old oldNames work r′ bytes′ names′ marks′ rest′
+      → (r ≡ r′) × ((bytes ≡ bytes′) × ((names ≡ names′) × ((marks ≡ marks′) × (rest ≡ rest′))))
+  in-bytes size bits none zero o room old oldNames work r r′ bytes bytes′ names names′ marks marks′ rest rest′ a b = (
     a .answered ∙ sym (b .answered),
     (
       a .left ∙ sym (b .left),
-      (
-        a .named ∙ sym (b .named),
-        (
-          a .clear .marksClear ∙ sym (b .clear .marksClear),
-          (a .clear .valuesClear ∙ sym (b .clear .valuesClear), a .workClear ∙ sym (b .workClear)),
-        ),
-      ),
+      (a .named ∙ sym (b .named), (a .marksClear ∙ sym (b .marksClear), a .workClear ∙ sym (b .workClear))),
     ),
   )

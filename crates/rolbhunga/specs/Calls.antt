@@ -67,7 +67,7 @@ pub record RowBytes (o : RowOut) (old : List ℕ) (work : ℕ) (r : RowNumbers) 
 abbrev pub short : Numbers
 short = record { number = 100; entry = 0; opcode = 0; names = 0; repaired = 0; left = 0 }
 
--- the answers after which the samples are a run's: 0, 5 and 6
+-- the answers after which the samples are a run's: 0 and 5
 abbrev pub reached : Answer → Bool
 reached (Ans.Done n r l) = true
 reached Ans.Range = false
@@ -75,18 +75,12 @@ reached (Ans.Malformed k) = false
 reached Ans.NotTaken = false
 reached Ans.Names = false
 reached (Ans.Marks k) = true
-reached (Ans.Values k) = true
-
--- both scratch buffers hold zeros alone
-pub record Clear (m v : ℕ) (marks : List ℕ) (values : List Float) : Type 0 where
-  pub marksClear : marks ≡ replicate m 0
-  pub valuesClear : values ≡ replicate v nought
 
 module _ {A : Type 0} where
   -- typed samples: the run's own promise, its answer in numbers
-  pub record Told (o : Out A) (room : Room) (r : Numbers) (samples : List A) (names marks : List ℕ) (values : List Float) : Type 0 where
+  pub record Told (o : Out A) (room : Room) (r : Numbers) (samples : List A) (names marks : List ℕ) : Type 0 where
     pub answered : r ≡ numbersOf (o .answer)
-    pub ran : Ran o room (o .answer) samples names marks values
+    pub ran : Ran o room (o .answer) samples names marks
 
   module _ (size : ℕ) (bits : A → ℕ) (none : A) where
     -- samples that stand in the bytes `old`: those of the result where a run came to them, and otherwise as they were
@@ -94,16 +88,16 @@ module _ {A : Type 0} where
     bytesOf o old = cond (reached (o .answer)) (encoded size bits none (o .samples) old) old
 
     -- inside: the answer is not yet a number
-    pub record Left (o : Out A) (room : Room) (old : List ℕ) (r : Answer) (bytes names marks : List ℕ) (values : List Float) : Type 0 where
+    pub record Left (o : Out A) (room : Room) (old : List ℕ) (r : Answer) (bytes names marks : List ℕ) : Type 0 where
       pub answered : r ≡ o .answer
       pub left : bytes ≡ bytesOf o old
       pub named : names ≡ o .names
-      pub clear : Clear (room .marks) (room .values) marks values
+      pub marksClear : marks ≡ replicate (room .marks) 0
 
     -- Samples in bytes. The test of the work room comes before all others; all typed room is clear afterwards, to `zero`.
-    pub record Bytes (zero : A) (o : Out A) (room : Room) (old oldNames : List ℕ) (work : ℕ) (r : Numbers) (bytes names marks : List ℕ) (values : List Float) (rest : List A) : Type 0 where
+    pub record Bytes (zero : A) (o : Out A) (room : Room) (old oldNames : List ℕ) (work : ℕ) (r : Numbers) (bytes names marks : List ℕ) (rest : List A) : Type 0 where
       pub answered : r ≡ cond (roomy size (length old) work) (numbersOf (o .answer)) short
       pub left : bytes ≡ cond (roomy size (length old) work) (bytesOf o old) old
       pub named : names ≡ cond (roomy size (length old) work) (o .names) oldNames
-      pub clear : Clear (room .marks) (room .values) marks values
+      pub marksClear : marks ≡ replicate (room .marks) 0
       pub workClear : rest ≡ replicate work zero

@@ -10,7 +10,7 @@ ghost use mathlib.Core.Path.{_≡_};
 ghost use mathlib.Core.Bool.{cond};
 ghost use Prim.Native.Nat.{_*_, _≤_};
 ghost use lib.Ieee.{nan, binary32, toBits};
-ghost use lib.ListN.{length};
+ghost use lib.ListN.{length, replicate};
 ghost use Rattle.dng.specs.List.{readingOf};
 ghost use Rattle.dng.specs.Value.{nought};
 ghost use Rattle.dng.specs.Answer.{readingNumbersOf, rowOut, f32Out, u16Out};
@@ -30,7 +30,6 @@ ghost use Rattle.rolbhunga.specs.Calls.{
   RowBytes,
   reached,
   short,
-  Clear,
   Told,
   Left,
   Bytes,
@@ -178,16 +177,15 @@ pub extern "C" fn rolbhunga_run_f32(
     w: Window,
     set: Settings,
     marks: &mut [u32],
-    values: &mut [f32],
     names: &mut [u8],
 ) -> Numbers
     ensures { λ r.
-        ⌜ Told (f32Out w set (record { marks = length (now (marks .entry)); values = length (now (values .entry)) })
+        ⌜ Told (f32Out w set (record { marks = length (now (marks .entry)) })
         (now (list .entry)) (now (samples .entry)) (now (names .entry)))
-        (record { marks = length (now (marks .entry)); values = length (now (values .entry)) })
-        r (now (samples .exit)) (now (names .exit)) (now (marks .exit)) (now (values .exit)) ⌝ }
+        (record { marks = length (now (marks .entry)) })
+        r (now (samples .exit)) (now (names .exit)) (now (marks .exit)) ⌝ }
 {
-    run_answers::numbers(run_window::run_f32(list, samples, w, set, marks, values, names))
+    run_answers::numbers(run_window::run_f32(list, samples, w, set, marks, names))
 }
 
 #[no_mangle]
@@ -197,16 +195,15 @@ pub extern "C" fn rolbhunga_run_u16(
     w: Window,
     period: usize,
     marks: &mut [u32],
-    values: &mut [f32],
     names: &mut [u8],
 ) -> Numbers
     ensures { λ r.
-        ⌜ Told (u16Out w period (record { marks = length (now (marks .entry)); values = length (now (values .entry)) })
+        ⌜ Told (u16Out w period (record { marks = length (now (marks .entry)) })
         (now (list .entry)) (now (samples .entry)) (now (names .entry)))
-        (record { marks = length (now (marks .entry)); values = length (now (values .entry)) })
-        r (now (samples .exit)) (now (names .exit)) (now (marks .exit)) (now (values .exit)) ⌝ }
+        (record { marks = length (now (marks .entry)) })
+        r (now (samples .exit)) (now (names .exit)) (now (marks .exit)) ⌝ }
 {
-    run_answers::numbers(run_window::run_u16(list, samples, w, period, marks, values, names))
+    run_answers::numbers(run_window::run_u16(list, samples, w, period, marks, names))
 }
 
 // ---- whole windows, samples in bytes
@@ -226,18 +223,14 @@ fn is_reached(a: Answer) -> bool
         Answer::NotTaken => false,
         Answer::Names => false,
         Answer::Marks { opcode: _ } => true,
-        Answer::Values { opcode: _ } => true,
     }
 }
 
 // Too little work room: the scratch is cleared, as at every return.
-fn refuse(marks: &mut [u32], values: &mut [f32]) -> Numbers
-    ensures { λ r.
-        ⌜ (r ≡ short)
-        × Clear (length (now (marks .entry))) (length (now (values .entry))) (now (marks .exit)) (now (values .exit)) ⌝ }
+fn refuse(marks: &mut [u32]) -> Numbers
+    ensures { λ r. ⌜ (r ≡ short) × (now (marks .exit) ≡ replicate (length (now (marks .entry))) 0) ⌝ }
 {
     num_sorted::clear(marks);
-    run_bytes::clear_f32(values);
     Numbers {
         number: 100,
         entry: 0,
@@ -256,19 +249,18 @@ fn f32_in(
     set: Settings,
     room: &mut [f32],
     marks: &mut [u32],
-    values: &mut [f32],
     names: &mut [u8],
 ) -> Answer
     requires { ⌜ length (now room) * 4 ≤ length (now bytes) ⌝ }
     ensures { λ r.
         ⌜ Left 4 (toBits binary32) nan
-        (f32Out w set (record { marks = length (now (marks .entry)); values = length (now (values .entry)) })
+        (f32Out w set (record { marks = length (now (marks .entry)) })
         (now (list .entry)) (decoded (floatAt (now (bytes .entry))) (now (room .entry))) (now (names .entry)))
-        (record { marks = length (now (marks .entry)); values = length (now (values .entry)) })
-        (now (bytes .entry)) r (now (bytes .exit)) (now (names .exit)) (now (marks .exit)) (now (values .exit)) ⌝ }
+        (record { marks = length (now (marks .entry)) })
+        (now (bytes .entry)) r (now (bytes .exit)) (now (names .exit)) (now (marks .exit)) ⌝ }
 {
     run_bytes::decode_f32(bytes, &mut *room);
-    let r = run_window::run_f32(list, &mut *room, w, set, marks, values, names);
+    let r = run_window::run_f32(list, &mut *room, w, set, marks, names);
     put_f32(room, bytes, is_reached(r));
     r
 }
@@ -281,23 +273,22 @@ pub extern "C" fn rolbhunga_bytes_f32(
     set: Settings,
     work: &mut [f32],
     marks: &mut [u32],
-    values: &mut [f32],
     names: &mut [u8],
 ) -> Numbers
     ensures { λ r.
         ⌜ Bytes 4 (toBits binary32) nan nought
-        (f32Out w set (record { marks = length (now (marks .entry)); values = length (now (values .entry)) })
+        (f32Out w set (record { marks = length (now (marks .entry)) })
         (now (list .entry)) (floatsIn (now (bytes .entry))) (now (names .entry)))
-        (record { marks = length (now (marks .entry)); values = length (now (values .entry)) })
+        (record { marks = length (now (marks .entry)) })
         (now (bytes .entry)) (now (names .entry)) (length (now (work .entry)))
-        r (now (bytes .exit)) (now (names .exit)) (now (marks .exit)) (now (values .exit)) (now (work .exit)) ⌝ }
+        r (now (bytes .exit)) (now (names .exit)) (now (marks .exit)) (now (work .exit)) ⌝ }
 {
     let n = bytes.len() / 4;
     if work.len() < n {
         run_bytes::clear_f32(work);
-        refuse(marks, values)
+        refuse(marks)
     } else {
-        let r = f32_in(list, bytes, w, set, &mut work[..n], marks, values, names);
+        let r = f32_in(list, bytes, w, set, &mut work[..n], marks, names);
         run_bytes::clear_f32(work);
         run_answers::numbers(r)
     }
@@ -322,19 +313,18 @@ fn u16_in(
     period: usize,
     room: &mut [u16],
     marks: &mut [u32],
-    values: &mut [f32],
     names: &mut [u8],
 ) -> Answer
     requires { ⌜ length (now room) * 2 ≤ length (now bytes) ⌝ }
     ensures { λ r.
         ⌜ Left 2 (λ n. n) 0
-        (u16Out w period (record { marks = length (now (marks .entry)); values = length (now (values .entry)) })
+        (u16Out w period (record { marks = length (now (marks .entry)) })
         (now (list .entry)) (decoded (wholeAt (now (bytes .entry))) (now (room .entry))) (now (names .entry)))
-        (record { marks = length (now (marks .entry)); values = length (now (values .entry)) })
-        (now (bytes .entry)) r (now (bytes .exit)) (now (names .exit)) (now (marks .exit)) (now (values .exit)) ⌝ }
+        (record { marks = length (now (marks .entry)) })
+        (now (bytes .entry)) r (now (bytes .exit)) (now (names .exit)) (now (marks .exit)) ⌝ }
 {
     run_bytes::decode_u16(bytes, &mut *room);
-    let r = run_window::run_u16(list, &mut *room, w, period, marks, values, names);
+    let r = run_window::run_u16(list, &mut *room, w, period, marks, names);
     put_u16(room, bytes, is_reached(r));
     r
 }
@@ -347,32 +337,22 @@ pub extern "C" fn rolbhunga_bytes_u16(
     period: usize,
     work: &mut [u16],
     marks: &mut [u32],
-    values: &mut [f32],
     names: &mut [u8],
 ) -> Numbers
     ensures { λ r.
         ⌜ Bytes 2 (λ n. n) 0 0
-        (u16Out w period (record { marks = length (now (marks .entry)); values = length (now (values .entry)) })
+        (u16Out w period (record { marks = length (now (marks .entry)) })
         (now (list .entry)) (wholesIn (now (bytes .entry))) (now (names .entry)))
-        (record { marks = length (now (marks .entry)); values = length (now (values .entry)) })
+        (record { marks = length (now (marks .entry)) })
         (now (bytes .entry)) (now (names .entry)) (length (now (work .entry)))
-        r (now (bytes .exit)) (now (names .exit)) (now (marks .exit)) (now (values .exit)) (now (work .exit)) ⌝ }
+        r (now (bytes .exit)) (now (names .exit)) (now (marks .exit)) (now (work .exit)) ⌝ }
 {
     let count = bytes.len() / 2;
     if work.len() < count {
         run_bytes::clear_u16(work);
-        refuse(marks, values)
+        refuse(marks)
     } else {
-        let r = u16_in(
-            list,
-            bytes,
-            w,
-            period,
-            &mut work[..count],
-            marks,
-            values,
-            names,
-        );
+        let r = u16_in(list, bytes, w, period, &mut work[..count], marks, names);
         run_bytes::clear_u16(work);
         run_answers::numbers(r)
     }

@@ -81,7 +81,6 @@ pub fn numbers(a: Answer) -> Numbers
         Answer::NotTaken => refused(3, 0, 0),
         Answer::Names => refused(4, 0, 0),
         Answer::Marks { opcode } => refused(5, 0, opcode),
-        Answer::Values { opcode } => refused(6, 0, opcode),
     }
 }
 
@@ -121,7 +120,6 @@ pub fn whole_frame(a: Answer) -> bool
         Answer::NotTaken => false,
         Answer::Names => false,
         Answer::Marks { opcode: _ } => false,
-        Answer::Values { opcode: _ } => false,
     }
 }
 

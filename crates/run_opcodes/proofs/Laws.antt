@@ -6,7 +6,6 @@ use Prim.Native.Nat.{ℕ, suc, _+_, _-_, _*_, _≤_, _<_}
 use native.Mathlib.Nat.{mul-le-mul, add-zero}
 use native.Mathlib.Numerals.{add-one}
 use native.Mathlib.Omega.{arith}
-use lib.Ieee.{Float}
 use lib.ListN.{length}
 use Rattle.pointwise.specs.Points.{each}
 use Rattle.dng.specs.declared.Cursor.{Cursor}
@@ -19,7 +18,7 @@ use Rattle.dng.specs.List.{Item, itemsOf, bodyOf, readFrom, stepAt}
 use Rattle.dng.specs.Select.{Rule, onWindow}
 use Rattle.dng.specs.Repair.{positions, marksOf}
 use Rattle.dng.specs.Run as Run
-use Rattle.dng.specs.Run.{Kind, Room, Progress, going, marksFull, valuesFull, classOf, performOn, performAll}
+use Rattle.dng.specs.Run.{Kind, Room, Progress, going, marksFull, classOf, performOn, performAll}
 use Rattle.dng.specs.Answer.{inRange}
 use Rattle.list_read.specs.Count.{countOf}
 use Rattle.list_read.proofs.Fold.{start, begin, item, stop, end, count-bound}
@@ -44,13 +43,12 @@ pub lent :
 lent w rule s e h =
     record { none = refl; new = h ∙ ap (λ (l : List ℕ). each (onWindow w (length s) (rule l)) s) e }
 
--- the scratch keeps its lengths
+-- the scratch keeps its length
 pub same-room :
-    {A : Type 0} {kind : Kind A} {w : Window} {period m m′ v v′ : ℕ} {op : Opcode} {b : List ℕ} {s s′ : List A} {r : Fixed} → m ≡ m′ → v ≡ v′
-    → Steps kind w period (record { marks = m; values = v }) op b s s′ r
-    → Steps kind w period (record { marks = m′; values = v′ }) op b s s′ r
-same-room {kind = kind} {w} {period} {op = op} {b} {s} {s′} {r} e f =
-    subst (λ (room : Room). Steps kind w period room op b s s′ r) (ap₂ (λ (i j : ℕ). record { marks = i; values = j }) e f)
+    {A : Type 0} {kind : Kind A} {w : Window} {period m m′ : ℕ} {op : Opcode} {b : List ℕ} {s s′ : List A} {r : Fixed} → m ≡ m′
+    → Steps kind w period (record { marks = m }) op b s s′ r → Steps kind w period (record { marks = m′ }) op b s s′ r
+same-room {kind = kind} {w} {period} {op = op} {b} {s} {s′} {r} e =
+    subst (λ (m : ℕ). Steps kind w period (record { marks = m }) op b s s′ r) e
 
 module _ {A : Type 0} (kind : Kind A) (w : Window) (period : ℕ) (room : Room) (op : Opcode) (b : List ℕ) (s : List A) where
   -- nothing is done, and the class says so
@@ -94,7 +92,6 @@ module _ {A : Type 0} (kind : Kind A) (w : Window) (period : ℕ) (room : Room) 
       small : (r : Fixed) → Fixes.Fixes kind w period room (marksOf (kind .none) w (kind .isBad) op b s) s s′ r → doneOf r ≤ positions w
       small (F.Done x y) f = fixes-few kind w period room (marksOf (kind .none) w (kind .isBad) op b s) s s′ x y f .1
       small F.Marks f = omega arith
-      small F.Values f = omega arith
 
 -- ---- the list, one opcode at a time
 
@@ -107,10 +104,9 @@ adds w n k repaired left {a} {b} small short h few t z =
     omega arith
 
 -- the slices keep their lengths
-pub record Kept {A : Type 0} (s₀ s : List A) (m₀ m : List ℕ) (v₀ v : List Float) : Type 0 where
+pub record Kept {A : Type 0} (s₀ s : List A) (m₀ m : List ℕ) : Type 0 where
   pub samples : length s ≡ length s₀
   pub marks : length m ≡ length m₀
-  pub values : length v ≡ length v₀
 
 module _ {A : Type 0} (kind : Kind A) (w : Window) (period : ℕ) (room : Room) (list : List ℕ) where
   -- a run that has stopped stays so
@@ -118,11 +114,6 @@ module _ {A : Type 0} (kind : Kind A) (w : Window) (period : ℕ) (room : Room) 
   unfolding performAll
   stays-marks [] k o s = refl
   stays-marks (i ∷ is) k o s = stays-marks is (suc k) o s
-
-  stays-values : (is : List Item) (k o : ℕ) (s : List A) → performAll kind w period room list k is (valuesFull s o) ≡ valuesFull s o
-  unfolding performAll
-  stays-values [] k o s = refl
-  stays-values (i ∷ is) k o s = stays-values is (suc k) o s
 
   none : {is : List Item} → is ≡ [] → (k : ℕ) (g : Progress A) → performAll kind w period room list k is g ≡ g
   unfolding performAll
@@ -184,13 +175,6 @@ module _ {A : Type 0} (kind : Kind A) (w : Window) (period : ℕ) (room : Room) 
         pub marks-full : f ≡ F.Marks → progressOf (P.Marks k) s′ ≡ performAll kind w period room list 0 (itemsOf list) (going s₀ 0 0)
         marks-full z =
             sym (stays-marks (readFrom list (n - (k + 1)) next) (k + 1) k s′)
-            ∙ more e op (item list n k c h p q) k s repaired left
-            (ap (λ (f : Fixed). Fixes.progressOf f s′ k repaired left) (sym z) ∙ t .state k repaired left)
-            ∙ d .rest
-
-        pub values-full : f ≡ F.Values → progressOf (P.Values k) s′ ≡ performAll kind w period room list 0 (itemsOf list) (going s₀ 0 0)
-        values-full z =
-            sym (stays-values (readFrom list (n - (k + 1)) next) (k + 1) k s′)
             ∙ more e op (item list n k c h p q) k s repaired left
             (ap (λ (f : Fixed). Fixes.progressOf f s′ k repaired left) (sym z) ∙ t .state k repaired left)
             ∙ d .rest

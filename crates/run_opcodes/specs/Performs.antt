@@ -8,7 +8,7 @@ use Rattle.dng.specs.declared.Window.{Window}
 use Rattle.dng.specs.declared.Opcode.{Opcode}
 use Rattle.dng.specs.Select.{Rule, onWindow}
 use Rattle.dng.specs.Repair.{positions}
-use Rattle.dng.specs.Run.{Kind, Room, Progress, going, marksFull, valuesFull, classOf, performOn}
+use Rattle.dng.specs.Run.{Kind, Room, Progress, going, marksFull, classOf, performOn}
 use Rattle.fix_repair.specs.declared.Fixed.{Fixed}
 use Rattle.fix_repair.specs.declared.Fixed.the-variants as F
 use Rattle.fix_repair.specs.Fixes as Fixes
@@ -19,13 +19,11 @@ use Rattle.run_opcodes.specs.declared.Performed.the-variants as P
 abbrev pub progressOf : {A : Type 0} → Performed → List A → Progress A
 progressOf (P.All r l) s = going s r l
 progressOf (P.Marks k) s = marksFull s k
-progressOf (P.Values k) s = valuesFull s k
 
 -- how many positions an opcode repaired and left
 abbrev pub doneOf : Fixed → ℕ
 doneOf (F.Done a b) = a + b
 doneOf F.Marks = 0
-doneOf F.Values = 0
 
 -- An opcode with the body b on the samples s answers r and leaves s′: whatever its number and the totals before it. The positions it repaired and
 -- left are few, so that no total wraps.

@@ -1,5 +1,5 @@
 // The opcodes of a list on a window's samples, one after another, f32 and u16: all of them, or those before the repair that finds too little scratch.
-// Document 01, 'What comes back': 5 before 6, opcode by opcode, the samples then as after the opcodes before it.
+// Document 01, 'What comes back': 5, opcode by opcode, the samples then as after the opcodes before it.
 use dng::Cursor;
 use dng::Entry;
 use dng::Opcode;
@@ -19,11 +19,11 @@ ghost use Rattle.dng.specs.Bounds.{bounded};
 ghost use Rattle.win_rows.specs.Windows.{WindowFits};
 ghost use Rattle.run_opcodes.specs.Performs.{progressOf, Steps, Stepped};
 
-// All opcodes performed, with the positions repaired and left; or stopped at an opcode by too little room for its marks (5) or its new values (6).
+// All opcodes performed, with the positions repaired and left; or stopped at an opcode by too little room for its
+// marks (5).
 pub enum Performed {
     All { repaired: u64, left: u64 },
     Marks { opcode: usize },
-    Values { opcode: usize },
 }
 
 // ---- f32
@@ -50,12 +50,11 @@ fn one_f32(
     e: Entry,
     op: Opcode,
     marks: &mut [u32],
-    values: &mut [f32],
 ) -> Fixed
     requires { ⌜ (inRange w (set .period) ≡ true) × (bounded op ≡ true) ⌝ }
     ensures { λ r.
         ⌜ Steps (f32Kind (frameOf w (set .scale))) w (set .period)
-        (record { marks = length (now (marks .entry)); values = length (now (values .entry)) })
+        (record { marks = length (now (marks .entry)) })
         op (bodyOf (now (list .entry)) e) (now (samples .entry)) (now (samples .exit)) r ⌝ }
 {
     match list_classes::class_of(op) {
@@ -69,7 +68,6 @@ fn one_f32(
             op,
             list_entries::body(list, e),
             marks,
-            values,
         ),
         Class::Empty => Fixed::Done {
             repaired: 0,
@@ -89,13 +87,12 @@ pub fn perform_f32(
     w: Window,
     set: Settings,
     marks: &mut [u32],
-    values: &mut [f32],
 ) -> Performed
     requires { ⌜ inRange w (set .period) ≡ true ⌝ }
     ensures { λ r.
         ⌜ progressOf r (now (samples .exit))
         ≡ performAll (f32Kind (frameOf w (set .scale))) w (set .period)
-        (record { marks = length (now (marks .entry)); values = length (now (values .entry)) })
+        (record { marks = length (now (marks .entry)) })
         (now (list .entry)) 0 (itemsOf (now (list .entry))) (going (now (samples .entry)) 0 0) ⌝ }
 {
     let n = list_read::count(list);
@@ -106,16 +103,7 @@ pub fn perform_f32(
     while k < n { // at most 4,096 times
         match list_read::step(list, c) {
             Step::Item { entry, op, next } => {
-                match one_f32(
-                    list,
-                    &mut *samples,
-                    w,
-                    set,
-                    entry,
-                    op,
-                    &mut *marks,
-                    &mut *values,
-                ) {
+                match one_f32(list, &mut *samples, w, set, entry, op, &mut *marks) {
                     Fixed::Done {
                         repaired: r,
                         left: l,
@@ -127,9 +115,6 @@ pub fn perform_f32(
                     }
                     Fixed::Marks => {
                         return Performed::Marks { opcode: k }; // 5
-                    }
-                    Fixed::Values => {
-                        return Performed::Values { opcode: k }; // 6
                     }
                 }
             }
@@ -166,12 +151,11 @@ fn one_u16(
     e: Entry,
     op: Opcode,
     marks: &mut [u32],
-    values: &mut [f32],
 ) -> Fixed
     requires { ⌜ inRange w period ≡ true ⌝ }
     ensures { λ r.
         ⌜ Steps u16Kind w period
-        (record { marks = length (now (marks .entry)); values = length (now (values .entry)) })
+        (record { marks = length (now (marks .entry)) })
         op (bodyOf (now (list .entry)) e) (now (samples .entry)) (now (samples .exit)) r ⌝ }
 {
     match list_classes::class_of(op) {
@@ -184,7 +168,6 @@ fn one_u16(
             op,
             list_entries::body(list, e),
             marks,
-            values,
         ),
         Class::Empty => Fixed::Done {
             repaired: 0,
@@ -204,13 +187,12 @@ pub fn perform_u16(
     w: Window,
     period: usize,
     marks: &mut [u32],
-    values: &mut [f32],
 ) -> Performed
     requires { ⌜ inRange w period ≡ true ⌝ }
     ensures { λ r.
         ⌜ progressOf r (now (samples .exit))
         ≡ performAll u16Kind w period
-        (record { marks = length (now (marks .entry)); values = length (now (values .entry)) })
+        (record { marks = length (now (marks .entry)) })
         (now (list .entry)) 0 (itemsOf (now (list .entry))) (going (now (samples .entry)) 0 0) ⌝ }
 {
     let n = list_read::count(list);
@@ -221,16 +203,7 @@ pub fn perform_u16(
     while k < n {
         match list_read::step(list, c) {
             Step::Item { entry, op, next } => {
-                match one_u16(
-                    list,
-                    &mut *samples,
-                    w,
-                    period,
-                    entry,
-                    op,
-                    &mut *marks,
-                    &mut *values,
-                ) {
+                match one_u16(list, &mut *samples, w, period, entry, op, &mut *marks) {
                     Fixed::Done {
                         repaired: r,
                         left: l,
@@ -242,9 +215,6 @@ pub fn perform_u16(
                     }
                     Fixed::Marks => {
                         return Performed::Marks { opcode: k };
-                    }
-                    Fixed::Values => {
-                        return Performed::Values { opcode: k };
                     }
                 }
             }

@@ -21,7 +21,7 @@ use Rattle.dng.specs.declared.Answer.the-variants as Ans
 use Rattle.dng.specs.declared.Reading.{Reading}
 use Rattle.dng.specs.declared.Reading.the-variants as R
 use Rattle.dng.specs.List.{Item, readingOf, itemsOf}
-use Rattle.dng.specs.Run.{Class, Kind, u16Kind, Progress, going, marksFull, valuesFull, Room, performAll, namesOf, skipped16, takes16}
+use Rattle.dng.specs.Run.{Class, Kind, u16Kind, Progress, going, marksFull, Room, performAll, namesOf, skipped16, takes16}
 use Rattle.dng.specs.Answer.{Out, Ran, inRange, unchanged, finished, ranOn, readOut, runOut, f32Out, u16Out}
 use Rattle.law_wholes.specs.WholeForm.{Below, widened, narrowed, atOne}
 use Rattle.law_wholes.proofs.Pairs.{getD-map-in}
@@ -124,7 +124,6 @@ not-taken-early (Ans.Malformed k) h = refl
 not-taken-early Ans.NotTaken h = refl
 not-taken-early Ans.Names h = refl
 not-taken-early (Ans.Marks k) h = h
-not-taken-early (Ans.Values k) h = h
 
 never : {C : Type 0} → false ≡ true → C
 never z = let n : _≡_ {A = ℕ} 0 1 = ap (λ (b : Bool). cond b 1 0) z in absurd (omega arith)
@@ -147,7 +146,6 @@ module _ {A : Type 0} (s : List A) (names : List ℕ) where
   finished-keeps : (l : List ℕ) (g : Progress A) → Keeps (finished l names g)
   finished-keeps l (going t r k) h = never h
   finished-keeps l (marksFull t k) h = never h
-  finished-keeps l (valuesFull t k) h = never h
 
   module _ (kind : Kind A) (takes : List Item → Bool) (skip : Class → Bool) (w : Window) (period : ℕ) (room : Room) (list : List ℕ) where
     ran-keeps : Keeps (ranOn kind takes skip w period room list s names)
@@ -168,33 +166,32 @@ module _ {A : Type 0} (s : List A) (names : List ℕ) where
 
 -- ---- the f32 run, rounded back
 
-pub rounded : (w : Window) (set : Settings) (room : Room) (list names s : List ℕ) {s′ names′ marks : List ℕ} {l l′ values : List Float} {r : Answer} {n : ℕ}
-    → l ≡ widened s → Ran (f32Out w set room list l names) room r l′ names′ marks values → n ≡ heldIn l′ → s′ ≡ narrowed l′
-    → Rounded (f32Out w set room list (widened s) names) room r n s′ names′ marks values
-rounded w set room list names s {s′} {names′} {marks} {l} {l′} {values} {r} e ran many back =
-    let on = subst (λ (x : List Float). Ran (f32Out w set room list x names) room r l′ names′ marks values) e ran in
+pub rounded : (w : Window) (set : Settings) (room : Room) (list names s : List ℕ) {s′ names′ marks : List ℕ} {l l′ : List Float} {r : Answer} {n : ℕ}
+    → l ≡ widened s → Ran (f32Out w set room list l names) room r l′ names′ marks → n ≡ heldIn l′ → s′ ≡ narrowed l′
+    → Rounded (f32Out w set room list (widened s) names) room r n s′ names′ marks
+rounded w set room list names s {s′} {names′} {marks} {l} {l′} {r} e ran many back =
+    let on = subst (λ (x : List Float). Ran (f32Out w set room list x names) room r l′ names′ marks) e ran in
     record {
       answered = on .answered;
       counted = many ∙ ap heldIn (on .left);
       left = back ∙ ap narrowed (on .left);
       named = on .named;
       marksClear = on .marksClear;
-      valuesClear = on .valuesClear;
     }
 
 -- ---- both runs in turn
 
-module _ (w : Window) (period wide : ℕ) (room : Room) (list s names : List ℕ) {a : Answer} {s′ names′ marks : List ℕ} {values : List Float} {t : Bool}
-    (ran : Ran (u16Out w period room list s names) room a s′ names′ marks values) (is : t ≡ notTaken a) where
+module _ (w : Window) (period wide : ℕ) (room : Room) (list s names : List ℕ) {a : Answer} {s′ names′ marks : List ℕ} {t : Bool}
+    (ran : Ran (u16Out w period room list s names) room a s′ names′ marks) (is : t ≡ notTaken a) where
   told : notTaken (u16Out w period room list s names .answer) ≡ t
   told = ap notTaken (sym (ran .answered)) ∙ sym is
 
   -- the record is one of the case that the tests pick
-  pick : {r : Mended} {s″ names″ marks″ : List ℕ} {values″ : List Float} (o : MendOut) → mendOut w period room wide list s names ≡ o
-      → Mends o room r s″ names″ marks″ values″ → Mends (mendOut w period room wide list s names) room r s″ names″ marks″ values″
-  pick {r} {s″} {names″} {marks″} {values″} o e m = subst (λ (x : MendOut). Mends x room r s″ names″ marks″ values″) (sym e) m
+  pick : {r : Mended} {s″ names″ marks″ : List ℕ} (o : MendOut) → mendOut w period room wide list s names ≡ o
+      → Mends o room r s″ names″ marks″ → Mends (mendOut w period room wide list s names) room r s″ names″ marks″
+  pick {r} {s″} {names″} {marks″} o e m = subst (λ (x : MendOut). Mends x room r s″ names″ marks″) (sym e) m
 
-  pub by-whole : t ≡ false → Mends (mendOut w period room wide list s names) room (Whole a) s′ names′ marks values
+  pub by-whole : t ≡ false → Mends (mendOut w period room wide list s names) room (Whole a) s′ names′ marks
   unfolding mendOut
   by-whole f =
       pick (wholeOut (u16Out w period room list s names)) (simp (told ∙ f))
@@ -203,7 +200,6 @@ module _ (w : Window) (period wide : ℕ) (room : Room) (list s names : List ℕ
         left = ran .left;
         named = ran .named;
         marksClear = ran .marksClear;
-        valuesClear = ran .valuesClear;
       })
 
   kept : t ≡ true → Same s names (u16Out w period room list s names)
@@ -215,30 +211,28 @@ module _ (w : Window) (period wide : ℕ) (room : Room) (list s names : List ℕ
   same-names : t ≡ true → names′ ≡ names
   same-names f = ran .named ∙ kept f .names-same
 
-  pub by-neither : t ≡ true → wide < length s′ → Mends (mendOut w period room wide list s names) room NoRoom s′ names′ marks values
+  pub by-neither : t ≡ true → wide < length s′ → Mends (mendOut w period room wide list s names) room NoRoom s′ names′ marks
   unfolding mendOut
   by-neither f h =
       let e : s′ ≡ s = same-samples f in
       pick (record { answer = NoRoom; samples = s; names = names })
       (simp (told ∙ f, lt-leb (length s) wide (subst (λ (x : List ℕ). wide < length x) e h)))
-      (record { answered = refl; left = e; named = same-names f; marksClear = ran .marksClear; valuesClear = ran .valuesClear })
+      (record { answered = refl; left = e; named = same-names f; marksClear = ran .marksClear })
 
   -- the scratch is as long as it was
-  same-room : _≡_ {A = Room} (record { marks = length marks; values = length values }) room
-  same-room =
-      ap₂ (λ (m v : ℕ). record { marks = m; values = v }) (ap length (ran .marksClear) ∙ length-replicate (room .marks) _)
-      (ap length (ran .valuesClear) ∙ length-replicate (room .values) _)
+  same-room : _≡_ {A = Room} (record { marks = length marks }) room
+  same-room = ap (λ (m : ℕ). record { marks = m }) (ap length (ran .marksClear) ∙ length-replicate (room .marks) _)
 
-  pub by-wide : {r : Answer} {n : ℕ} {s″ names″ marks″ : List ℕ} {values″ : List Float} → t ≡ true → length s′ ≤ wide
-      → Rounded (f32Out w (atOne period) (record { marks = length marks; values = length values }) list (widened s′) names′)
-      (record { marks = length marks; values = length values }) r n s″ names″ marks″ values″
-      → Mends (mendOut w period room wide list s names) room (Widened r n) s″ names″ marks″ values″
+  pub by-wide : {r : Answer} {n : ℕ} {s″ names″ marks″ : List ℕ} → t ≡ true → length s′ ≤ wide
+      → Rounded (f32Out w (atOne period) (record { marks = length marks }) list (widened s′) names′)
+      (record { marks = length marks }) r n s″ names″ marks″
+      → Mends (mendOut w period room wide list s names) room (Widened r n) s″ names″ marks″
   unfolding mendOut
-  by-wide {r} {n} {s″} {names″} {marks″} {values″} f h q =
+  by-wide {r} {n} {s″} {names″} {marks″} f h q =
       let e : s′ ≡ s = same-samples f in
-      let q₁ = subst (λ (x : Room). Rounded (f32Out w (atOne period) x list (widened s′) names′) x r n s″ names″ marks″ values″) same-room q in
-      let q₂ = subst (λ (x : List ℕ). Rounded (f32Out w (atOne period) room list (widened x) names′) room r n s″ names″ marks″ values″) e q₁ in
-      let on = subst (λ (x : List ℕ). Rounded (f32Out w (atOne period) room list (widened s) x) room r n s″ names″ marks″ values″) (same-names f) q₂ in
+      let q₁ = subst (λ (x : Room). Rounded (f32Out w (atOne period) x list (widened s′) names′) x r n s″ names″ marks″) same-room q in
+      let q₂ = subst (λ (x : List ℕ). Rounded (f32Out w (atOne period) room list (widened x) names′) room r n s″ names″ marks″) e q₁ in
+      let on = subst (λ (x : List ℕ). Rounded (f32Out w (atOne period) room list (widened s) x) room r n s″ names″ marks″) (same-names f) q₂ in
       pick (roundedOut (f32Out w (atOne period) room list (widened s) names))
       (simp (told ∙ f, le-leb (length s) wide (subst (λ (x : List ℕ). length x ≤ wide) e h)))
       (record {
@@ -246,5 +240,4 @@ module _ (w : Window) (period wide : ℕ) (room : Room) (list s names : List ℕ
         left = on .left;
         named = on .named;
         marksClear = on .marksClear;
-        valuesClear = on .valuesClear;
       })

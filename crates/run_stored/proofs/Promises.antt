@@ -52,18 +52,17 @@ module _ (w : Window) (period : ℕ) (room : Room) (wide : ℕ) (list s names : 
       whole-keeps
 
 -- two results that keep the promise are the same
-pub record Equal (r r′ : Mended) (s s′ : List ℕ) (l l′ : List Float) (names names′ marks marks′ : List ℕ) (values values′ : List Float) : Type 0 where
+pub record Equal (r r′ : Mended) (s s′ : List ℕ) (l l′ : List Float) (names names′ marks marks′ : List ℕ) : Type 0 where
   pub answers : r ≡ r′
   pub samples-equal : s ≡ s′
   pub wide-equal : l ≡ l′
   pub names-equal : names ≡ names′
   pub marks-equal : marks ≡ marks′
-  pub values-equal : values ≡ values′
 
 pub determined :
-    {o : MendOut} {room : Room} {n : ℕ} {r r′ : Mended} {s s′ : List ℕ} {l l′ : List Float} {names names′ marks marks′ : List ℕ} {values values′ : List Float}
-    → MendsClear o room n r s l names marks values → MendsClear o room n r′ s′ l′ names′ marks′ values′
-    → Equal r r′ s s′ l l′ names names′ marks marks′ values values′
+    {o : MendOut} {room : Room} {n : ℕ} {r r′ : Mended} {s s′ : List ℕ} {l l′ : List Float} {names names′ marks marks′ : List ℕ}
+    → MendsClear o room n r s l names marks → MendsClear o room n r′ s′ l′ names′ marks′
+    → Equal r r′ s s′ l l′ names names′ marks marks′
 determined p q =
     record {
       answers = p .mended .answered ∙ sym (q .mended .answered);
@@ -71,5 +70,4 @@ determined p q =
       wide-equal = p .wideClear ∙ sym (q .wideClear);
       names-equal = p .mended .named ∙ sym (q .mended .named);
       marks-equal = p .mended .marksClear ∙ sym (q .mended .marksClear);
-      values-equal = p .mended .valuesClear ∙ sym (q .mended .valuesClear);
     }

@@ -28,7 +28,6 @@ notTaken (Ans.Malformed k) = false
 notTaken Ans.NotTaken = true
 notTaken Ans.Names = false
 notTaken (Ans.Marks k) = false
-notTaken (Ans.Values k) = false
 
 -- the refusals that come before the first opcode
 abbrev pub early : Answer → Bool
@@ -38,7 +37,6 @@ early (Ans.Malformed k) = true
 early Ans.NotTaken = true
 early Ans.Names = true
 early (Ans.Marks k) = false
-early (Ans.Values k) = false
 
 abbrev pub earlyMended : Mended → Bool
 earlyMended (Whole a) = early a
@@ -73,7 +71,7 @@ heldIn (v ∷ s) = cond (eqb (roundHeld 65536 v) 65536) 1 0 + heldIn s
 abbrev pub roundedOut : Out Float → MendOut
 roundedOut o = record { answer = Widened (o .answer) (heldIn (o .samples)); samples = narrowed (o .samples); names = o .names }
 
--- room: the lengths of the scratch; wide: how many samples there is room for as f32
+-- room: the length of the scratch; wide: how many samples there is room for as f32
 unfoldable pub mendOut : Window → (period : ℕ) → Room → (wide : ℕ) → (list samples names : List ℕ) → MendOut
 mendOut w period room wide list s names =
     cond (notTaken (u16Out w period room list s names .answer))
@@ -82,24 +80,22 @@ mendOut w period room wide list s names =
     (wholeOut (u16Out w period room list s names))
 
 -- the f32 run with what it left rounded back, and how many samples that held
-pub record Rounded (o : Out Float) (room : Room) (r : Answer) (held : ℕ) (samples names marks : List ℕ) (values : List Float) : Type 0 where
+pub record Rounded (o : Out Float) (room : Room) (r : Answer) (held : ℕ) (samples names marks : List ℕ) : Type 0 where
   pub answered : r ≡ o .answer
   pub counted : held ≡ heldIn (o .samples)
   pub left : samples ≡ narrowed (o .samples)
   pub named : names ≡ o .names
   pub marksClear : marks ≡ replicate (room .marks) 0
-  pub valuesClear : values ≡ replicate (room .values) nought
 
-pub record Mends (o : MendOut) (room : Room) (r : Mended) (samples names marks : List ℕ) (values : List Float) : Type 0 where
+pub record Mends (o : MendOut) (room : Room) (r : Mended) (samples names marks : List ℕ) : Type 0 where
   pub answered : r ≡ o .answer
   pub left : samples ≡ o .samples
   pub named : names ≡ o .names
   pub marksClear : marks ≡ replicate (room .marks) 0
-  pub valuesClear : values ≡ replicate (room .values) nought
 
--- What mending promises of its result r and of what it leaves; the three lent buffers hold zeros alone.
-pub record MendsClear (o : MendOut) (room : Room) (n : ℕ) (r : Mended) (samples : List ℕ) (wide : List Float) (names marks : List ℕ) (values : List Float) : Type 0 where
-  pub mended : Mends o room r samples names marks values
+-- What mending promises of its result r and of what it leaves; the room for f32 and the scratch hold zeros alone.
+pub record MendsClear (o : MendOut) (room : Room) (n : ℕ) (r : Mended) (samples : List ℕ) (wide : List Float) (names marks : List ℕ) : Type 0 where
+  pub mended : Mends o room r samples names marks
   pub wideClear : wide ≡ replicate n nought
 
 -- ---- how many samples of a result are above the largest value of the file that it is written to

@@ -38,7 +38,7 @@ abbrev frame : ℕ → Window
 frame w = record { width = w; height = 1; planes = 1; stride = w; x0 = 0; y0 = 0; «full_width» = w; «full_height» = 1 }
 
 abbrev room : Room
-room = record { marks = 8; values = 8 }
+room = record { marks = 8 }
 
 abbrev out : Mended → List ℕ → MendOut
 out a s = record { answer = a; samples = s; names = [] }
@@ -62,7 +62,7 @@ pub record Worked : Type 0 where
   pub malformed : mendOut (frame 3) 1 room 0 [] (1 ∷ 2 ∷ 3 ∷ []) [] ≡ out (Whole (Ans.Malformed 0)) (1 ∷ 2 ∷ 3 ∷ [])
   -- no room for marks at the second opcode: as after the first, rounded
   pub full :
-      mendOut (frame 3) 1 (record { marks = 0; values = 0 }) 3 (words (2 ∷ []) ++ (halved ++ constant 0)) (1 ∷ 0 ∷ 5 ∷ []) []
+      mendOut (frame 3) 1 (record { marks = 0 }) 3 (words (2 ∷ []) ++ (halved ++ constant 0)) (1 ∷ 0 ∷ 5 ∷ []) []
       ≡ out (Widened (Ans.Marks 1) 0) (1 ∷ 0 ∷ 3 ∷ [])
   -- at 65535 the one that was held to it; at 200 two, of which one was held to 65535 first; 65600.0, 300.0 and 7.0 by their bits
   pub above-last : heldAbove 65535 (ofBits binary32 0x4780_2000 ∷ []) ≡ 1

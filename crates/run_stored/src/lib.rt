@@ -82,19 +82,18 @@ fn run_wide(
     w: Window,
     period: usize,
     marks: &mut [u32],
-    values: &mut [f32],
     names: &mut [u8],
 ) -> Rounding
     requires { ⌜ length (now wide) ≡ length (now samples) ⌝ }
     ensures { λ r.
-        ⌜ Rounded (f32Out w (atOne period) (record { marks = length (now (marks .entry)); values = length (now (values .entry)) })
+        ⌜ Rounded (f32Out w (atOne period) (record { marks = length (now (marks .entry)) })
         (now (list .entry)) (widened (now (samples .entry))) (now (names .entry)))
-        (record { marks = length (now (marks .entry)); values = length (now (values .entry)) })
-        (r .answer) (r .held) (now (samples .exit)) (now (names .exit)) (now (marks .exit)) (now (values .exit)) ⌝ }
+        (record { marks = length (now (marks .entry)) })
+        (r .answer) (r .held) (now (samples .exit)) (now (names .exit)) (now (marks .exit)) ⌝ }
 {
     widen(samples, &mut *wide);
     let set = Settings { period, scale: 1.0 };
-    let answer = run_window::run_f32(list, &mut *wide, w, set, marks, values, names);
+    let answer = run_window::run_f32(list, &mut *wide, w, set, marks, names);
     let over = held(wide);
     narrow(wide, samples);
     Rounding { answer, held: over }
@@ -114,7 +113,6 @@ fn is_not_taken(a: Answer) -> bool
         Answer::NotTaken => true,
         Answer::Names => false,
         Answer::Marks { opcode: _ } => false,
-        Answer::Values { opcode: _ } => false,
     }
 }
 
@@ -126,29 +124,20 @@ fn attempt(
     w: Window,
     period: usize,
     marks: &mut [u32],
-    values: &mut [f32],
     names: &mut [u8],
 ) -> Mended
     ensures { λ r.
-        ⌜ Mends (mendOut w period (record { marks = length (now (marks .entry)); values = length (now (values .entry)) }) (length (now (wide .entry)))
+        ⌜ Mends (mendOut w period (record { marks = length (now (marks .entry)) }) (length (now (wide .entry)))
         (now (list .entry)) (now (samples .entry)) (now (names .entry)))
-        (record { marks = length (now (marks .entry)); values = length (now (values .entry)) })
-        r (now (samples .exit)) (now (names .exit)) (now (marks .exit)) (now (values .exit)) ⌝ }
+        (record { marks = length (now (marks .entry)) })
+        r (now (samples .exit)) (now (names .exit)) (now (marks .exit)) ⌝ }
 {
-    let a = run_window::run_u16(
-        list,
-        &mut *samples,
-        w,
-        period,
-        &mut *marks,
-        &mut *values,
-        &mut *names,
-    );
+    let a = run_window::run_u16(list, &mut *samples, w, period, &mut *marks, &mut *names);
     if is_not_taken(a) {
         let n = samples.len();
         if n <= wide.len() {
             let part = &mut wide[0..n];
-            let r = run_wide(list, samples, part, w, period, marks, values, names);
+            let r = run_wide(list, samples, part, w, period, marks, names);
             let answer = r.answer;
             let over = r.held;
             Mended::Widened { answer, held: over }
@@ -160,7 +149,7 @@ fn attempt(
     }
 }
 
-// Mends a frame. `wide` is room for the samples as f32; it and both scratch buffers hold only zeros afterwards.
+// Mends a frame. `wide` is room for the samples as f32; it and the scratch hold only zeros afterwards.
 pub fn mend(
     list: &[u8],
     samples: &mut [u16],
@@ -168,16 +157,15 @@ pub fn mend(
     w: Window,
     period: usize,
     marks: &mut [u32],
-    values: &mut [f32],
     names: &mut [u8],
 ) -> Mended
     ensures { λ r.
-        ⌜ MendsClear (mendOut w period (record { marks = length (now (marks .entry)); values = length (now (values .entry)) }) (length (now (wide .entry)))
+        ⌜ MendsClear (mendOut w period (record { marks = length (now (marks .entry)) }) (length (now (wide .entry)))
         (now (list .entry)) (now (samples .entry)) (now (names .entry)))
-        (record { marks = length (now (marks .entry)); values = length (now (values .entry)) }) (length (now (wide .entry)))
-        r (now (samples .exit)) (now (wide .exit)) (now (names .exit)) (now (marks .exit)) (now (values .exit)) ⌝ }
+        (record { marks = length (now (marks .entry)) }) (length (now (wide .entry)))
+        r (now (samples .exit)) (now (wide .exit)) (now (names .exit)) (now (marks .exit)) ⌝ }
 {
-    let r = attempt(list, samples, &mut *wide, w, period, marks, values, names);
+    let r = attempt(list, samples, &mut *wide, w, period, marks, names);
     run_bytes::clear_f32(wide);
     r
 }

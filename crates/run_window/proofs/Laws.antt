@@ -3,8 +3,7 @@ use mathlib.Core.Path.{_≡_, sym, ap, ap₂, _∙_}
 use mathlib.Core.Bool.{Bool, true, cond}
 use mathlib.Core.List.{List}
 use Prim.Native.Nat.{ℕ, _≤_}
-use lib.Ieee.{Float}
-use lib.ListN.{length}
+use lib.ListN.{length, replicate}
 use Rattle.dng.specs.declared.Window.{Window}
 use Rattle.dng.specs.declared.Answer.{Answer}
 use Rattle.dng.specs.List.{Item, itemsOf}
@@ -19,7 +18,7 @@ use Rattle.run_refuse.proofs.Laws.{Settled, refuses, performs, settled}
 use Rattle.run_opcodes.specs.declared.Performed.{Performed}
 use Rattle.run_opcodes.specs.declared.Performed.the-variants as P
 use Rattle.run_opcodes.specs.Performs.{progressOf}
-use Rattle.run_window.specs.Runs.{isDone, answerOf, Is, Clear}
+use Rattle.run_window.specs.Runs.{isDone, answerOf, Is}
 
 -- the answer, the samples and the names of an output that is known
 is : {A : Type 0} {o : Out A} (p : Out A) → o ≡ p → Is o (p .answer) (p .samples) (p .names)
@@ -78,18 +77,10 @@ module _ {A : Type 0} (kind : Kind A) (takes : List Item → Bool) (skip : Class
               named = h ∙ with-room (namesOf skip (itemsOf list)) names fits ∙ i .named;
             }
         go (P.Marks k) o h a = let i = is _ o in record { answered = a ∙ i .answered; left = i .left; named = h ∙ i .named }
-        go (P.Values k) o h a = let i = is _ o in record { answered = a ∙ i .answered; left = i .left; named = h ∙ i .named }
 
--- the scratch cleared after it, which kept its lengths
+-- the scratch cleared after it, which kept its length
 pub ran :
-    {A : Type 0} {o : Out A} {r : Answer} {s : List A} {names : List ℕ} (m v : ℕ) {m′ v′ : ℕ} {marks : List ℕ} {values : List Float}
-    → m′ ≡ m → v′ ≡ v → Is o r s names → Clear m′ v′ marks values
-    → Ran o (record { marks = m; values = v }) r s names marks values
-ran m v e f i c =
-    record {
-      answered = i .answered;
-      left = i .left;
-      named = i .named;
-      marksClear = rw (sym e) (c .marksClear);
-      valuesClear = rw (sym f) (c .valuesClear);
-    }
+    {A : Type 0} {o : Out A} {r : Answer} {s : List A} {names : List ℕ} (m : ℕ) {m′ : ℕ} {marks : List ℕ}
+    → m′ ≡ m → Is o r s names → marks ≡ replicate m′ 0 → Ran o (record { marks = m }) r s names marks
+ran m e i c =
+    record { answered = i .answered; left = i .left; named = i .named; marksClear = rw (sym e) c }

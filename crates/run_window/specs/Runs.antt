@@ -3,11 +3,8 @@ use Prim.Native.Nat.{ℕ}
 use mathlib.Core.Bool.{Bool, true, false}
 use mathlib.Core.List.{List}
 use mathlib.Core.Path.{_≡_}
-use lib.Ieee.{Float}
-use lib.ListN.{replicate}
 use Rattle.dng.specs.declared.Answer.{Answer}
 use Rattle.dng.specs.declared.Answer.the-variants as Ans
-use Rattle.dng.specs.Value.{nought}
 use Rattle.dng.specs.Answer.{Out}
 use Rattle.run_opcodes.specs.declared.Performed.{Performed}
 use Rattle.run_opcodes.specs.declared.Performed.the-variants as P
@@ -15,21 +12,14 @@ use Rattle.run_opcodes.specs.declared.Performed.the-variants as P
 abbrev pub isDone : Performed → Bool
 isDone (P.All r l) = true
 isDone (P.Marks k) = false
-isDone (P.Values k) = false
 
 -- of a run with n names
 abbrev pub answerOf : Performed → (n : ℕ) → Answer
 answerOf (P.All r l) n = Ans.Done n r l
 answerOf (P.Marks k) n = Ans.Marks k
-answerOf (P.Values k) n = Ans.Values k
 
 -- the answer, the samples and the names are those of o; what the scratch holds is not said yet
 pub record Is {A : Type 0} (o : Out A) (r : Answer) (s : List A) (b : List ℕ) : Type 0 where
   pub answered : r ≡ o .answer
   pub left : s ≡ o .samples
   pub named : b ≡ o .names
-
--- the u32 scratch of m entries and the f32 scratch of v hold zeros alone
-pub record Clear (m v : ℕ) (marks : List ℕ) (values : List Float) : Type 0 where
-  pub marksClear : marks ≡ replicate m 0
-  pub valuesClear : values ≡ replicate v nought

@@ -11,7 +11,7 @@ ghost use Rattle.dng.specs.List.{itemsOf};
 ghost use Rattle.dng.specs.Run.{namesOf};
 ghost use Rattle.dng.specs.Answer.{f32Out, u16Out, Ran};
 ghost use Rattle.list_names.specs.Names.{skippedIn, writtenIn};
-ghost use Rattle.run_window.specs.Runs.{isDone, answerOf, Is, Clear};
+ghost use Rattle.run_window.specs.Runs.{isDone, answerOf, Is};
 
 // ---- the end of a run
 
@@ -22,7 +22,6 @@ fn is_done(p: Performed) -> bool
     match p {
         Performed::All { .. } => true,
         Performed::Marks { .. } => false,
-        Performed::Values { .. } => false,
     }
 }
 
@@ -37,7 +36,6 @@ fn answer_of(p: Performed, n: usize) -> Answer
             left,
         },
         Performed::Marks { opcode } => Answer::Marks { opcode },
-        Performed::Values { opcode } => Answer::Values { opcode },
     }
 }
 
@@ -56,59 +54,49 @@ fn name(list: &[u8], names: &mut [u8], done: bool, whole: bool)
     }
 }
 
-// Both scratch buffers, whatever a run answers.
-fn clear(marks: &mut [u32], values: &mut [f32])
-    ensures { λ _. ⌜ Clear (length (now (marks .entry))) (length (now (values .entry))) (now (marks .exit)) (now (values .exit)) ⌝ }
-{
-    num_sorted::clear(marks);
-    run_bytes::clear_f32(values);
-}
-
 // ---- f32
 
-// 1 to 4, then opcode by opcode 5 before 6, then the names. The scratch is left as it is then.
+// 1 to 4, then opcode by opcode 5, then the names. The scratch is left as it is then.
 fn attempt_f32(
     list: &[u8],
     samples: &mut [f32],
     w: Window,
     set: Settings,
     marks: &mut [u32],
-    values: &mut [f32],
     names: &mut [u8],
 ) -> Answer
     ensures { λ r.
-        ⌜ Is (f32Out w set (record { marks = length (now (marks .entry)); values = length (now (values .entry)) })
+        ⌜ Is (f32Out w set (record { marks = length (now (marks .entry)) })
         (now (list .entry)) (now (samples .entry)) (now (names .entry)))
         r (now (samples .exit)) (now (names .exit)) ⌝ }
 {
     match run_refuse::settle_f32(list, w, set.period, names.len()) {
         Plan::Refuse { answer } => answer,
         Plan::Go { names: n } => {
-            let p = run_opcodes::perform_f32(list, samples, w, set, marks, values);
+            let p = run_opcodes::perform_f32(list, samples, w, set, marks);
             name(list, names, is_done(p), false);
             answer_of(p, n)
         }
     }
 }
 
-// Runs a list on f32 samples. Both scratch buffers hold only zeros afterwards.
+// Runs a list on f32 samples. The scratch holds only zeros afterwards, whatever is answered.
 pub fn run_f32(
     list: &[u8],
     samples: &mut [f32],
     w: Window,
     set: Settings,
     marks: &mut [u32],
-    values: &mut [f32],
     names: &mut [u8],
 ) -> Answer
     ensures { λ r.
-        ⌜ Ran (f32Out w set (record { marks = length (now (marks .entry)); values = length (now (values .entry)) })
+        ⌜ Ran (f32Out w set (record { marks = length (now (marks .entry)) })
         (now (list .entry)) (now (samples .entry)) (now (names .entry)))
-        (record { marks = length (now (marks .entry)); values = length (now (values .entry)) })
-        r (now (samples .exit)) (now (names .exit)) (now (marks .exit)) (now (values .exit)) ⌝ }
+        (record { marks = length (now (marks .entry)) })
+        r (now (samples .exit)) (now (names .exit)) (now (marks .exit)) ⌝ }
 {
-    let r = attempt_f32(list, samples, w, set, &mut *marks, &mut *values, names);
-    clear(marks, values);
+    let r = attempt_f32(list, samples, w, set, &mut *marks, names);
+    num_sorted::clear(marks); // at every return
     r
 }
 
@@ -120,18 +108,17 @@ fn attempt_u16(
     w: Window,
     period: usize,
     marks: &mut [u32],
-    values: &mut [f32],
     names: &mut [u8],
 ) -> Answer
     ensures { λ r.
-        ⌜ Is (u16Out w period (record { marks = length (now (marks .entry)); values = length (now (values .entry)) })
+        ⌜ Is (u16Out w period (record { marks = length (now (marks .entry)) })
         (now (list .entry)) (now (samples .entry)) (now (names .entry)))
         r (now (samples .exit)) (now (names .exit)) ⌝ }
 {
     match run_refuse::settle_u16(list, w, period, names.len()) {
         Plan::Refuse { answer } => answer,
         Plan::Go { names: n } => {
-            let p = run_opcodes::perform_u16(list, samples, w, period, marks, values);
+            let p = run_opcodes::perform_u16(list, samples, w, period, marks);
             name(list, names, is_done(p), true);
             answer_of(p, n)
         }
@@ -145,16 +132,15 @@ pub fn run_u16(
     w: Window,
     period: usize,
     marks: &mut [u32],
-    values: &mut [f32],
     names: &mut [u8],
 ) -> Answer
     ensures { λ r.
-        ⌜ Ran (u16Out w period (record { marks = length (now (marks .entry)); values = length (now (values .entry)) })
+        ⌜ Ran (u16Out w period (record { marks = length (now (marks .entry)) })
         (now (list .entry)) (now (samples .entry)) (now (names .entry)))
-        (record { marks = length (now (marks .entry)); values = length (now (values .entry)) })
-        r (now (samples .exit)) (now (names .exit)) (now (marks .exit)) (now (values .exit)) ⌝ }
+        (record { marks = length (now (marks .entry)) })
+        r (now (samples .exit)) (now (names .exit)) (now (marks .exit)) ⌝ }
 {
-    let r = attempt_u16(list, samples, w, period, &mut *marks, &mut *values, names);
-    clear(marks, values);
+    let r = attempt_u16(list, samples, w, period, &mut *marks, names);
+    num_sorted::clear(marks);
     r
 }

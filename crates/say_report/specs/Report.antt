@@ -65,4 +65,3 @@ textOf (Ans.Malformed k) form b held = line (text "2: the list is malformed; who
 textOf Ans.NotTaken form b held = ended (text "3: the form does not take the list")
 textOf Ans.Names form b held = ended (text "4: more skipped opcodes than names fit")
 textOf (Ans.Marks k) form b held = line (text "5: more bad pixels than the scratch holds, at opcode ") k
-textOf (Ans.Values k) form b held = line (text "6: more new values than the scratch holds, at opcode ") k

@@ -174,14 +174,6 @@ fn put_answer(out: &mut [u8], a: Answer, form: Form, names: &[u8], held: u64) ->
                 opcode as u64,
             )
         }
-        Answer::Values { opcode } => {
-            put_line(
-                out,
-                0,
-                b"6: more new values than the scratch holds, at opcode ",
-                opcode as u64,
-            )
-        }
     }
 }
 

@@ -85,21 +85,12 @@ fn row_of_three() -> Window {
 
 fn run(list: &[u8], room: &mut [f32; 3]) -> Numbers {
     let mut marks = [0u32; 3];
-    let mut values = [0.0f32; 3];
     let mut names = [0u8; 2];
     let set = Settings {
         period: 1,
         scale: 1.0,
     };
-    rolbhunga::rolbhunga_run_f32(
-        list,
-        room,
-        row_of_three(),
-        set,
-        &mut marks,
-        &mut values,
-        &mut names,
-    )
+    rolbhunga::rolbhunga_run_f32(list, room, row_of_three(), set, &mut marks, &mut names)
 }
 
 fn main() {

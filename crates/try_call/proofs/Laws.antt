@@ -66,27 +66,25 @@ module _ (s : List ℕ) where
   kept-sound : (c : Call) → Inside s (c .list) → Inside s (c .samples) → soundIn s (keptOf c)
   unfolding smallOf
   kept-sound c l p =
-      go (leb (c .form) 3) (leb (c .marks) 64) (leb (c .values) 64) (leb (c .names) 64)
-      (leb (c .samples .end - c .samples .start) 256) (λ h. leb-true _ _ h) (λ h. leb-true _ _ h) (λ h. leb-true _ _ h)
-      (λ h. leb-true _ _ h)
+      go (leb (c .form) 3) (leb (c .marks) 64) (leb (c .names) 64) (leb (c .samples .end - c .samples .start) 256)
+      (λ h. leb-true _ _ h) (λ h. leb-true _ _ h) (λ h. leb-true _ _ h)
     where
       go :
-          (f m v n d : Bool) → (m ≡ true → c .marks ≤ 64) → (v ≡ true → c .values ≤ 64) → (n ≡ true → c .names ≤ 64)
-          → (d ≡ true → c .samples .end - c .samples .start ≤ 256) → soundIn s (pickFound (f && m && v && n && d) (One c) Broken)
-      go true true true true true hm hv hn hd =
-          record { list = l; samples = p; few = hd refl; marks = hm refl; values = hv refl; names = hn refl }
-      go true true true true false hm hv hn hd = tt
-      go true true true false d hm hv hn hd = tt
-      go true true false n d hm hv hn hd = tt
-      go true false v n d hm hv hn hd = tt
-      go false m v n d hm hv hn hd = tt
+          (f m n d : Bool) → (m ≡ true → c .marks ≤ 64) → (n ≡ true → c .names ≤ 64)
+          → (d ≡ true → c .samples .end - c .samples .start ≤ 256) → soundIn s (pickFound (f && m && n && d) (One c) Broken)
+      go true true true true hm hn hd =
+          record { list = l; samples = p; few = hd refl; marks = hm refl; names = hn refl }
+      go true true true false hm hn hd = tt
+      go true true false d hm hn hd = tt
+      go true false n d hm hn hd = tt
+      go false m n d hm hn hd = tt
 
   samples-sound : (at : ℕ) {l : Span} (q : Part) → Inside s l → partIn s q → soundIn s (withSamples s at l q)
   samples-sound at (Bytes p) i h = kept-sound _ i h
   samples-sound at Cut i h = tt
 
   list-sound : (at : ℕ) (q : Part) → partIn s q → soundIn s (withList s at q)
-  list-sound at (Bytes l) i = samples-sound at (countedIn s (l .end + 56)) i (part-inside (l .end + 56))
+  list-sound at (Bytes l) i = samples-sound at (countedIn s (l .end + 52)) i (part-inside (l .end + 52))
   list-sound at Cut i = tt
 
   -- the definition says enough: a call that is found may be run
@@ -106,11 +104,11 @@ module _ (s : List ℕ) where
     read-cut c e = read-is at (ap (withList s at) (sym e ∙ c .is))
 
     pub list-whole :
-        {l p : Span} {c : Call} {r : Found} → Counted s (l .end + 56) q → q ≡ Bytes p → c ≡ fieldsOf s at l p → r ≡ keptOf c
+        {l p : Span} {c : Call} {r : Found} → Counted s (l .end + 52) q → q ≡ Bytes p → c ≡ fieldsOf s at l p → r ≡ keptOf c
         → r ≡ withList s at (Bytes l)
     list-whole {l} i e f h = h ∙ ap keptOf f ∙ ap (withSamples s at l) (sym e ∙ i .is)
 
-    pub list-cut : (l : Span) → Counted s (l .end + 56) q → q ≡ Cut → Broken ≡ withList s at (Bytes l)
+    pub list-cut : (l : Span) → Counted s (l .end + 52) q → q ≡ Cut → Broken ≡ withList s at (Bytes l)
     list-cut l i e = ap (withSamples s at l) (sym e ∙ i .is)
 
 -- ---- bytes

@@ -63,15 +63,14 @@ fieldsOf s at list samples =
       scale = ofBits binary32 (big 4 s (list .end + 36));
       y = big 4 s (list .end + 40);
       marks = big 4 s (list .end + 44);
-      values = big 4 s (list .end + 48);
-      names = big 4 s (list .end + 52);
+      names = big 4 s (list .end + 48);
       samples = samples;
     }
 
--- one of the four forms, at most 64 entries of each lent buffer, and at most 256 bytes of samples
+-- one of the four forms, at most 64 entries of the scratch and of the skip buffer, and at most 256 bytes of samples
 unfoldable pub smallOf : Call → Bool
 smallOf c =
-    leb (c .form) 3 && leb (c .marks) 64 && leb (c .values) 64 && leb (c .names) 64 && leb (c .samples .end - c .samples .start) 256
+    leb (c .form) 3 && leb (c .marks) 64 && leb (c .names) 64 && leb (c .samples .end - c .samples .start) 256
 
 abbrev pub pickFound : Bool → Found → Found → Found
 pickFound true a b = a
@@ -85,7 +84,7 @@ withSamples s at list (Bytes p) = keptOf (fieldsOf s at list p)
 withSamples s at list Cut = Broken
 
 abbrev pub withList : List ℕ → ℕ → Part → Found
-withList s at (Bytes list) = withSamples s at list (countedIn s (list .end + 56))
+withList s at (Bytes list) = withSamples s at list (countedIn s (list .end + 52))
 withList s at Cut = Broken
 
 -- the call at a position
@@ -98,7 +97,6 @@ pub record Sound (s : List ℕ) (c : Call) : Type 0 where
   pub samples : Inside s (c .samples)
   pub few : c .samples .end - c .samples .start ≤ 256
   pub marks : c .marks ≤ 64
-  pub values : c .values ≤ 64
   pub names : c .names ≤ 64
 
 abbrev pub soundIn : List ℕ → Found → Type 0

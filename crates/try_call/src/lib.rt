@@ -33,7 +33,6 @@ pub struct Call {
     pub scale: f32,
     pub y: usize,
     pub marks: usize,
-    pub values: usize,
     pub names: usize,
     pub samples: Span,
 }
@@ -123,8 +122,7 @@ fn fields(s: &[u8], at: usize, list: Span, samples: Span) -> Call
         scale: num_words::f32_at(s, b + 36),
         y: size(s, b + 40),
         marks: size(s, b + 44),
-        values: size(s, b + 48),
-        names: size(s, b + 52),
+        names: size(s, b + 48),
         samples: samples,
     }
 }
@@ -137,7 +135,6 @@ fn is_small(c: Call) -> bool
     let p = c.samples;
     (c.form <= Call::ROW)
         & (c.marks <= Call::MAX_LENT)
-        & (c.values <= Call::MAX_LENT)
         & (c.names <= Call::MAX_LENT)
         & (p.end - p.start <= Call::MAX_SAMPLE_BYTES)
 }
@@ -157,7 +154,7 @@ fn with_list(s: &[u8], at: usize, list: Span) -> Found
     requires { ⌜ Inside (now s) list ⌝ }
     ensures { λ r. ⌜ r ≡ withList (now (s .entry)) at (Part.Bytes list) ⌝ }
 {
-    match counted(s, list.end + 56) {
+    match counted(s, list.end + 52) {
         Part::Bytes { span } => kept(fields(s, at, list, span)),
         Part::Broken => Found::Broken,
     }

@@ -52,50 +52,28 @@ fn print_numbers(form: u32, n: Numbers) {
 // ---- a call
 
 fn run_f32(list: &[u8], bytes: &mut [u8], c: Call, names: &mut [u8]) -> Numbers
-    requires { ⌜ (c .marks ≤ 64) × (c .values ≤ 64) ⌝ }
+    requires { ⌜ c .marks ≤ 64 ⌝ }
 {
     let mut work = [0.0f32; 64];
     let mut marks = [0u32; 64];
-    let mut values = [0.0f32; 64];
     let m = c.marks;
-    let v = c.values;
     let w = c.window;
     let set = Settings {
         period: c.period,
         scale: c.scale,
     };
-    rolbhunga::rolbhunga_bytes_f32(
-        list,
-        bytes,
-        w,
-        set,
-        &mut work,
-        &mut marks[0..m],
-        &mut values[0..v],
-        names,
-    )
+    rolbhunga::rolbhunga_bytes_f32(list, bytes, w, set, &mut work, &mut marks[0..m], names)
 }
 
 fn run_u16(list: &[u8], bytes: &mut [u8], c: Call, names: &mut [u8]) -> Numbers
-    requires { ⌜ (c .marks ≤ 64) × (c .values ≤ 64) ⌝ }
+    requires { ⌜ c .marks ≤ 64 ⌝ }
 {
     let mut work = [0u16; 128];
     let mut marks = [0u32; 64];
-    let mut values = [0.0f32; 64];
     let m = c.marks;
-    let v = c.values;
     let w = c.window;
     let period = c.period;
-    rolbhunga::rolbhunga_bytes_u16(
-        list,
-        bytes,
-        w,
-        period,
-        &mut work,
-        &mut marks[0..m],
-        &mut values[0..v],
-        names,
-    )
+    rolbhunga::rolbhunga_bytes_u16(list, bytes, w, period, &mut work, &mut marks[0..m], names)
 }
 
 fn row_window(w: Window) -> RowWindow {
@@ -124,7 +102,7 @@ fn run_row(list: &[u8], bytes: &mut [u8], c: Call) -> Numbers {
 }
 
 fn run(list: &[u8], bytes: &mut [u8], c: Call, names: &mut [u8]) -> Numbers
-    requires { ⌜ (c .marks ≤ 64) × (c .values ≤ 64) ⌝ }
+    requires { ⌜ c .marks ≤ 64 ⌝ }
 {
     let form = c.form;
     match form {
@@ -137,7 +115,7 @@ fn run(list: &[u8], bytes: &mut [u8], c: Call, names: &mut [u8]) -> Numbers
 
 // The line of a call: what it answers, and what it leaves in the names and in the samples.
 fn answer(list: &[u8], bytes: &mut [u8], c: Call, names: &mut [u8])
-    requires { ⌜ (c .marks ≤ 64) × (c .values ≤ 64) ⌝ }
+    requires { ⌜ c .marks ≤ 64 ⌝ }
     requires { ⌜ (length (now bytes) ≤ 256) × (length (now names) ≤ 64) ⌝ }
 {
     let r = run(list, &mut *bytes, c, &mut *names);

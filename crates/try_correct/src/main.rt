@@ -101,21 +101,11 @@ fn run(
     samples: &mut [u16],
     wide: &mut [f32],
     marks: &mut [u32],
-    values: &mut [f32],
     names: &mut [u8],
 ) {
     say(title);
     let w = window_of(3, 1);
-    let m = run_stored::mend(
-        list,
-        &mut *samples,
-        wide,
-        w,
-        period,
-        marks,
-        values,
-        &mut *names,
-    );
+    let m = run_stored::mend(list, &mut *samples, wide, w, period, marks, &mut *names);
     print_mended(m, names, 65535, 0);
     print_samples(samples);
 }
@@ -124,7 +114,6 @@ fn three(title: &[u8], list: &[u8], a: u16, b: u16, c: u16, period: usize) {
     let mut samples = [a, b, c];
     let mut wide = [0.0f32; 3];
     let mut marks = [0u32; 8];
-    let mut values = [0.0f32; 8];
     let mut names = [0u8; 8];
     run(
         title,
@@ -133,17 +122,15 @@ fn three(title: &[u8], list: &[u8], a: u16, b: u16, c: u16, period: usize) {
         &mut samples,
         &mut wide,
         &mut marks,
-        &mut values,
         &mut names,
     );
 }
 
-// 1, 0, 5 with no room for f32, for marks, for new values or for names.
+// 1, 0, 5 with no room for f32, for marks or for names; and with room for one mark.
 fn no_wide(title: &[u8], list: &[u8]) {
     let mut samples = [1u16, 0, 5];
     let mut wide = [0.0f32; 2];
     let mut marks = [0u32; 8];
-    let mut values = [0.0f32; 8];
     let mut names = [0u8; 8];
     run(
         title,
@@ -152,7 +139,6 @@ fn no_wide(title: &[u8], list: &[u8]) {
         &mut samples,
         &mut wide,
         &mut marks,
-        &mut values,
         &mut names,
     );
 }
@@ -161,7 +147,6 @@ fn no_marks(title: &[u8], list: &[u8]) {
     let mut samples = [1u16, 0, 5];
     let mut wide = [0.0f32; 3];
     let mut marks = [0u32; 0];
-    let mut values = [0.0f32; 8];
     let mut names = [0u8; 8];
     run(
         title,
@@ -170,16 +155,14 @@ fn no_marks(title: &[u8], list: &[u8]) {
         &mut samples,
         &mut wide,
         &mut marks,
-        &mut values,
         &mut names,
     );
 }
 
-fn no_values(title: &[u8], list: &[u8]) {
+fn one_mark(title: &[u8], list: &[u8]) {
     let mut samples = [1u16, 0, 5];
     let mut wide = [0.0f32; 3];
-    let mut marks = [0u32; 8];
-    let mut values = [0.0f32; 0];
+    let mut marks = [0u32; 1];
     let mut names = [0u8; 8];
     run(
         title,
@@ -188,7 +171,6 @@ fn no_values(title: &[u8], list: &[u8]) {
         &mut samples,
         &mut wide,
         &mut marks,
-        &mut values,
         &mut names,
     );
 }
@@ -197,7 +179,6 @@ fn no_names(title: &[u8], list: &[u8]) {
     let mut samples = [1u16, 0, 5];
     let mut wide = [0.0f32; 3];
     let mut marks = [0u32; 8];
-    let mut values = [0.0f32; 8];
     let mut names = [0u8; 3];
     run(
         title,
@@ -206,7 +187,6 @@ fn no_names(title: &[u8], list: &[u8]) {
         &mut samples,
         &mut wide,
         &mut marks,
-        &mut values,
         &mut names,
     );
 }
@@ -225,19 +205,9 @@ fn mend_raster(
     print_samples(samples);
     let mut wide = [0.0f32; 4];
     let mut marks = [0u32; 4];
-    let mut values = [0.0f32; 4];
     let mut names = [0u8; 8];
     let w = window_of(width, height);
-    let m = run_stored::mend(
-        list,
-        &mut *samples,
-        &mut wide,
-        w,
-        1,
-        &mut marks,
-        &mut values,
-        &mut names,
-    );
+    let m = run_stored::mend(list, &mut *samples, &mut wide, w, 1, &mut marks, &mut names);
     let over = say_pgm::encode(samples, maxval, &mut *raster);
     print_mended(m, &names, maxval, over);
     print_samples(samples);
@@ -298,22 +268,13 @@ fn picture(title: &[u8], list: &[u8], bytes: &[u8]) {
 fn run_raw(list: &[u8], raster: &mut [u8], samples: &mut [f32]) {
     say_pgm::decode_f32(raster, &mut *samples);
     let mut marks = [0u32; 4];
-    let mut values = [0.0f32; 4];
     let mut names = [0u8; 8];
     let w = window_of(3, 1);
     let set = Settings {
         period: 1,
         scale: 1.0,
     };
-    let a = run_window::run_f32(
-        list,
-        &mut *samples,
-        w,
-        set,
-        &mut marks,
-        &mut values,
-        &mut names,
-    );
+    let a = run_window::run_f32(list, &mut *samples, w, set, &mut marks, &mut names);
     print_answer(a, Form::Float, &names, 0);
     say_pgm::encode_f32(samples, &mut *raster);
     print_bytes(raster);
@@ -377,8 +338,8 @@ fn main() {
         b"- row times 0.5, then a repair of 0, no marks: 1 0 5",
         half_one,
     );
-    no_values(
-        b"- row times 0.5, then a repair of 0, no new values: 1 0 5",
+    one_mark(
+        b"- row times 0.5, then a repair of 0, one mark: 1 0 5",
         half_one,
     );
     no_names(b"- four opcodes skipped, three names fit: 1 0 5", skips);

@@ -28,7 +28,8 @@ returns-4 c = λ e.
     (left .before .less .result) (upper .before .before .less2 .result) (upper .before .less3 .result) (s .pre .0) (s .pre .1)
     (reached .before .mark .ensures .0) (reached .reach .ensures .0) (left .before .less .ensures) (upper .before .before .less2 .ensures)
     (upper .before .less3 .ensures) (reached .reach .ensures .1 .0) (left .under .ensures (not-false (left .under .result) (right .before .if1 .left)))
-    (right .over .ensures (not-false (right .over .result) (upper .before .before .before .if2 .left))) (upper .free .ensures (not-false (upper .free .result) (up .if3 .left))) (c .free2 .ensures e)
+    (right .over .ensures (not-false (right .over .result) (upper .before .before .before .if2 .left)))
+    (upper .free .ensures (not-false (upper .free .result) (up .if3 .left))) (c .free2 .ensures e)
 
 pub alone-spec : {M : Type 1} → statement M
 alone-spec =

@@ -9,7 +9,9 @@ use Rattle.fix_near.proofs.all_near.Statement.{statement}
 use Rattle.fix_near.proofs.all_near.Tie as tie
 
 eight-requires : tie.Need-eight-requires
-eight-requires c κs = let s = c .before .before .before in (s .pre .0 .fits, c .before .lone-inside .ensures (c .if1 .taken) .1)
+eight-requires c κs =
+    let s = c .before .before .before in
+    (s .pre .0 .fits, (s .pre .0 .far, c .before .lone-inside .ensures (c .if1 .taken) .1))
 
 returns : tie.Need-returns
 returns c =

@@ -48,7 +48,9 @@ array-copy-out-s c = search needs
 beside-requires : tie.Need-beside-requires Inv-loop μ-loop
 beside-requires c κs =
     let t = c .before .before in
-    (start t .pre, (step-one (array t) (t .before .loop .i) (made t) (t .loop-test .taken), t .loop-test .taken))
+    let p = start t .pre in
+    let one = step-one (array t) (t .before .loop .i) (made t) (t .loop-test .taken) in
+    (p, ((one, (p .far, (omega (arith, p .column, p .fits .width), omega (arith, p .row, p .fits .height)))), t .loop-test .taken))
 
 enum-known-next : tie.Need-enum-known-next Inv-loop μ-loop
 enum-known-next c = search needs

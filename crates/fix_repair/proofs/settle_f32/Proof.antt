@@ -1,138 +1,43 @@
--- `fix_repair::settle_f32` meets its contract: the new values, as far as they have room, and the samples. Assumes nothing.
-use Prim.Native.Nat.{ℕ, _*_, _≤_}
-use mathlib.Core.List.{List}
-use mathlib.Core.Path.{subst}
+-- `fix_repair::settle_f32` meets its contract: all marks in one pass; with none, nothing. Assumes nothing.
+use Prim.Native.Nat.{ℕ, _-_}
+use mathlib.Core.Path.{ap, _∙_}
 use native.Mathlib.Omega.{arith}
 use borrow.Author.Needs.{needs}
-use lib.Ieee.{Float, nan}
-use lib.ListN.{length}
-use Rattle.pointwise.specs.Points.{each}
-use Rattle.dng.specs.Repair.{repairAt}
-use Rattle.fix_near.specs.Looks.{marked}
-use Rattle.fix_fills.specs.declared.Fill.{Fill}
-use Rattle.fix_fills.specs.Fills.{mendable, mended, meanAt, Done, Fills}
-use Rattle.fix_fills.proofs.Rooms.{mended-few}
-use Rattle.fix_repair.proofs.Gathering.{settled-done, settled-short, settled-none}
+use lib.Ieee.{nan}
+use Rattle.fix_fills.proofs.Passing.{mended-few}
+use Rattle.fix_repair.specs.declared.Fixed.the-variants as F
+use Rattle.fix_repair.proofs.Gathering.{settled-none, samples-none}
 use Rattle.fix_repair.proofs.settle_f32.Statement.{statement}
 use Rattle.fix_repair.proofs.settle_f32.Tie as tie
 
--- the function's start, and the call that a match goes by
+-- the function's start, from the pass
 abbrev start : tie.After-fill-f32 → tie.Start
-start c = c .before .before .before .before .before .before .before .before
+start c = c .before .before .before .before .before .before
 
-abbrev filling : tie.After-got → tie.After-fill-f32
-filling c = c .before .before .before .before
-
--- the values, as the call left them
-abbrev left : tie.After-fill-f32 → List Float
-left c = c .fill-f32 .last .1 .1 .1 .1 .1 .1 .0
-
-done-requires : tie.Need-done-requires
-done-requires c κs = search needs
-
--- no marks
 returns : tie.Need-returns
 returns c =
     let b = c .before in
-    let a = b .before .before .before .before .args in
-    settled-none nan (λ u. u) (λ u. u) (a .w) (a .step) (a .marks .now) (length (a .values .now)) (a .samples .now) (a .n) (c .done .result)
-    (b .if1 .taken) (c .done .ensures)
-
-reciprocal-requires : tie.Need-reciprocal-requires
-reciprocal-requires c κs = search needs
-
-fill-f32-requires : tie.Need-fill-f32-requires
-fill-f32-requires c κs = search needs
-
-enum-known-got : tie.Need-enum-known-got
-enum-known-got c = search needs
-
--- all of them have room
-filled : (c : tie.After-got)
-    → Done (start (filling c) .args .w .planes) (start (filling c) .args .n)
-    (mendable (start (filling c) .args .w) (start (filling c) .args .step) (marked (start (filling c) .args .marks .now) (start (filling c) .args .n)))
-    (meanAt nan (λ u. u) (start (filling c) .args .w) (start (filling c) .args .step) (marked (start (filling c) .args .marks .now) (start (filling c) .args .n))
-    (start (filling c) .args .samples .now))
-    (start (filling c) .args .marks .now) (length (start (filling c) .args .values .now)) (left (filling c)) (c .got .given .0 .0)
-filled c =
-    let a = start (filling c) .args in
-    let bad = marked (a .marks .now) (a .n) in
-    subst
-    (λ (r : Fill).
-    Fills (a .w .planes) (a .n) (mendable (a .w) (a .step) bad) (meanAt nan (λ u. u) (a .w) (a .step) bad (a .samples .now)) (a .marks .now)
-    (length (a .values .now)) (left (filling c)) r)
-    (c .got .given .1) (filling c .fill-f32 .ensures)
-
-write-f32-requires : tie.Need-write-f32-requires
-write-f32-requires c κs =
-    let got = c .before .before .before in
-    let call = filling got in
-    let s = start call in
-    let a = s .args in
-    let d = filled got in
-    let room = subst (λ (m : ℕ). a .w .planes * m ≤ length (a .values .now)) (d .repaired) (d .fits) in
-    (s .pre .0, (s .pre .1, (omega (arith, room, call .fill-f32 .kept .1 .1 .1 .1 .1 .1 .0), (d .filled, (d .repaired, call .before .before .before .reciprocal .ensures)))))
+    let a = b .before .before .before .args in (
+      settled-none (a .w) (a .step) (a .marks .now) (a .n) (b .if1 .taken) (c .done .result) (c .done .ensures),
+      samples-none (a .w) (a .step) (a .marks .now) (a .n) (b .if1 .taken) nan (λ u. u) (λ u. u) (a .samples .now),
+    )
 
 done-requires-2 : tie.Need-done-requires-2
 done-requires-2 c κs =
-    let got = c .before .before .before .before .before .before in
-    let s = start (filling got) in
+    let pass = c .before .before in
+    let s = start pass in
     let a = s .args in
-    omega (arith, mended-few (a .marks .now) (a .n) (a .w) (a .step) (s .pre .0), filled got .repaired)
-
-enum-told : tie.Need-enum-told
-enum-told c = search needs
-
-same-length : tie.Need-same-length
-same-length c = search needs
-
-same-length-2 : tie.Need-same-length-2
-same-length-2 c = search needs
+    omega (arith, mended-few (a .marks .now) (a .n) (a .w) (a .step) (s .pre .0), pass .fill-f32 .ensures .0)
 
 returns-2 : tie.Need-returns-2
 returns-2 c =
-    let written = c .before .before .before .write-f32 in
-    let got = c .before .before .before .before .before .before .before in
-    let a = start (filling got) .args in
-    let d = filled got in
-    settled-done (a .w .planes) (mended (a .marks .now) (a .n) (a .w) (a .step)) (length (a .values .now)) (a .samples .now) (written .last .0)
-    (each (repairAt nan (λ u. u) (λ u. u) (a .w) (a .step) (marked (a .marks .now) (a .n)) (a .samples .now)) (a .samples .now))
-    (a .n) (got .got .given .0 .0) (c .done2 .result) (d .fits) (d .repaired) (c .done2 .ensures) (written .ensures)
-
-same-length-3 : tie.Need-same-length-3
-same-length-3 c = search needs
-
-same-length-4 : tie.Need-same-length-4
-same-length-4 c = search needs
-
-returns-3 : tie.Need-returns-3
-returns-3 c =
-    let call = c .before .before .before .before in
-    let a = start call .args in
-    let bad = marked (a .marks .now) (a .n) in
-    settled-short (a .w .planes) (mended (a .marks .now) (a .n) (a .w) (a .step)) (length (a .values .now)) (a .samples .now)
-    (each (repairAt nan (λ u. u) (λ u. u) (a .w) (a .step) bad (a .samples .now)) (a .samples .now)) (a .n)
-    (subst
-    (λ (r : Fill).
-    Fills (a .w .planes) (a .n) (mendable (a .w) (a .step) bad) (meanAt nan (λ u. u) (a .w) (a .step) bad (a .samples .now)) (a .marks .now)
-    (length (a .values .now)) (left call) r)
-    (c .enum-told .given .1) (call .fill-f32 .ensures))
+    let pass = c .before .before .before in
+    let a = start pass .args in
+    (c .done2 .ensures ∙ ap (λ (m : ℕ). F.Done m (a .n - m)) (pass .fill-f32 .ensures .0), pass .fill-f32 .ensures .1)
 
 pub settle-f32-spec : {M : Type 1} → statement M
 settle-f32-spec =
     tie.close
     (tie.spec
-    done-requires
-    returns
-    reciprocal-requires
-    fill-f32-requires
-    enum-known-got
-    write-f32-requires
-    done-requires-2
-    enum-told
-    same-length
-    same-length-2
-    returns-2
-    same-length-3
-    same-length-4
-    returns-3)
+    (λ c κs. search needs) returns (λ c κs. search needs) (λ c κs. search needs) done-requires-2 (λ c. search needs)
+    returns-2)

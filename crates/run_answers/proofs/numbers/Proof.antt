@@ -21,14 +21,10 @@ returns-5 c = cc
 returns-6 : tie.Need-returns-6
 returns-6 c = cc
 
-returns-7 : tie.Need-returns-7
-returns-7 c = cc
-
 pub numbers-spec : {M : Type 1} → statement M
 numbers-spec =
     tie.close
     (tie.spec
     (λ c. search needs) (λ c. search needs) (λ c κs. search needs) (λ c. search needs) (λ c κs. search needs)
     (λ c. search needs) (λ c κs. search needs) (λ c. search needs) (λ c κs. search needs) (λ c. search needs)
-    (λ c κs. search needs) (λ c. search needs) (λ c κs. search needs) returns returns-2 returns-3 returns-4 returns-5
-    returns-6 returns-7)
+    (λ c κs. search needs) returns returns-2 returns-3 returns-4 returns-5 returns-6)

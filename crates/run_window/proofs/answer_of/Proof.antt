@@ -12,10 +12,7 @@ returns c = sym (ap (λ (p : Performed). answerOf p (c .before .before .before .
 returns-2 : tie.Need-returns-2
 returns-2 c = sym (ap (λ (p : Performed). answerOf p (c .before .before .before .args .n)) (c .before .p2 .given .1))
 
-returns-3 : tie.Need-returns-3
-returns-3 c = sym (ap (λ (p : Performed). answerOf p (c .before .before .before .args .n)) (c .before .p3 .given .1))
-
 pub answer-of-spec : {M : Type 1} → statement M
 answer-of-spec =
     tie.close (tie.spec
-    (λ c. search needs) (λ c. search needs) (λ c. search needs) returns returns-2 returns-3)
+    (λ c. search needs) (λ c. search needs) returns returns-2)

@@ -59,15 +59,6 @@ slice-aggregate-put-line-2 c = search needs
 put-line-requires-2 : tie.Need-put-line-requires-2
 put-line-requires-2 c κs = search needs
 
-enum-known-a-4 : tie.Need-enum-known-a-4
-enum-known-a-4 c = search needs
-
-slice-aggregate-put-line-3 : tie.Need-slice-aggregate-put-line-3
-slice-aggregate-put-line-3 c = search needs
-
-put-line-requires-3 : tie.Need-put-line-requires-3
-put-line-requires-3 c κs = search needs
-
 same-length : tie.Need-same-length
 same-length c = search needs
 
@@ -122,15 +113,6 @@ returns-6 c =
     let a = g .before .before .before .before .args in
     within-as _ 512 (lit≤ tt) (ap (λ (x : Answer). textOf x (a .form) (a .names .now) (a .held)) (sym (g .a3 .given .1))) (c .before .before .put-line2 .ensures)
 
-same-length-7 : tie.Need-same-length-7
-same-length-7 c = search needs
-
-returns-7 : tie.Need-returns-7
-returns-7 c =
-    let g = c .before .before .before .before .before .before in
-    let a = g .before .before .before .before .args in
-    within-as _ 512 (lit≤ tt) (ap (λ (x : Answer). textOf x (a .form) (a .names .now) (a .held)) (sym (g .a4 .given .1))) (c .before .before .put-line3 .ensures)
-
 pub put-answer-spec : {M : Type 1} → statement M
 put-answer-spec =
     tie.close
@@ -152,9 +134,6 @@ put-answer-spec =
     enum-known-a-3
     slice-aggregate-put-line-2
     put-line-requires-2
-    enum-known-a-4
-    slice-aggregate-put-line-3
-    put-line-requires-3
     same-length
     returns
     same-length-2
@@ -166,6 +145,4 @@ put-answer-spec =
     same-length-5
     returns-5
     same-length-6
-    returns-6
-    same-length-7
-    returns-7)
+    returns-6)
