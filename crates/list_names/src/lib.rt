@@ -43,7 +43,7 @@ fn count(list: &[u8], whole: bool) -> usize
                 c = next;
                 k += 1;
             }
-            Step::Malformed => {
+            Step::Malformed { why: _ } => {
                 return m;
             }
         }
@@ -92,7 +92,7 @@ fn put_all(list: &[u8], names: &mut [u8], whole: bool)
                 c = next;
                 k += 1;
             }
-            Step::Malformed => {
+            Step::Malformed { why: _ } => {
                 return;
             }
         }

@@ -52,7 +52,7 @@ pub fn u16_exact(list: &[u8]) -> bool
                 c = next;
                 k += 1;
             }
-            Step::Malformed => {
+            Step::Malformed { why: _ } => {
                 return true;
             }
         }
@@ -88,7 +88,7 @@ pub fn row_takes(list: &[u8]) -> bool
                 c = next;
                 k += 1;
             }
-            Step::Malformed => {
+            Step::Malformed { why: _ } => {
                 return true;
             }
         }

@@ -2,6 +2,7 @@
 // The forms over bytes are lent typed room beside them, since samples are typed inside: too little of it is an answer of its own.
 use dng::Answer;
 use dng::Numbers;
+use dng::Refusal;
 use dng::RowAnswer;
 use dng::RowWindow;
 use dng::Settings;
@@ -35,12 +36,13 @@ ghost use Rattle.rolbhunga.specs.Calls.{
   Bytes,
 };
 
-// What a row call answers: document 01's number, the entries read whole before a malformed one, and how many opcodes of the list the f32
-// run names.
+// What a row call answers: the papers' number, the entries read whole before a malformed one, the byte at which that one
+// was refused, and how many opcodes of the list the f32 run names.
 #[repr(C)]
 pub struct RowNumbers {
     pub number: u32,
     pub entry: usize,
+    pub offset: usize,
     pub skipped: usize,
 }
 
@@ -55,6 +57,18 @@ pub extern "C" fn rolbhunga_read(list: &[u8]) -> Numbers
 
 // ---- a row
 
+fn malformed_row(entry: usize, why: Refusal) -> RowNumbers
+    ensures { λ r. ⌜ r ≡ rowNumbersFor (RowAnswer.Malformed entry why) ⌝ }
+{
+    let reason = why.reason;
+    RowNumbers {
+        number: run_answers::reason_number(reason),
+        entry: entry,
+        offset: why.at,
+        skipped: 0,
+    }
+}
+
 fn row_numbers(a: RowAnswer) -> RowNumbers
     ensures { λ r. ⌜ r ≡ rowNumbersFor a ⌝ }
 {
@@ -62,21 +76,20 @@ fn row_numbers(a: RowAnswer) -> RowNumbers
         RowAnswer::Done { skipped } => RowNumbers {
             number: 0,
             entry: 0,
+            offset: 0,
             skipped: skipped,
         },
         RowAnswer::Range => RowNumbers {
             number: 1,
             entry: 0,
+            offset: 0,
             skipped: 0,
         },
-        RowAnswer::Malformed { entry } => RowNumbers {
-            number: 2,
-            entry: entry,
-            skipped: 0,
-        },
+        RowAnswer::Malformed { entry, why } => malformed_row(entry, why),
         RowAnswer::NotTaken => RowNumbers {
             number: 3,
             entry: 0,
+            offset: 0,
             skipped: 0,
         },
     }
@@ -115,7 +128,7 @@ fn is_row_done(a: RowAnswer) -> bool
     match a {
         RowAnswer::Done { skipped: _ } => true,
         RowAnswer::Range => false,
-        RowAnswer::Malformed { entry: _ } => false,
+        RowAnswer::Malformed { entry: _, why: _ } => false,
         RowAnswer::NotTaken => false,
     }
 }
@@ -159,6 +172,7 @@ pub extern "C" fn rolbhunga_bytes_row(
         RowNumbers {
             number: 100,
             entry: 0,
+            offset: 0,
             skipped: 0,
         }
     } else {
@@ -219,7 +233,7 @@ fn is_reached(a: Answer) -> bool
             left: _,
         } => true,
         Answer::Range => false,
-        Answer::Malformed { entry: _ } => false,
+        Answer::Malformed { entry: _, why: _ } => false,
         Answer::NotTaken => false,
         Answer::Names => false,
         Answer::Marks { opcode: _ } => true,
@@ -234,6 +248,7 @@ fn refuse(marks: &mut [u32]) -> Numbers
     Numbers {
         number: 100,
         entry: 0,
+        offset: 0,
         opcode: 0,
         names: 0,
         repaired: 0,

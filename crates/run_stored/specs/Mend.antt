@@ -24,7 +24,7 @@ use Rattle.run_stored.specs.declared.Mended.the-variants.{Whole, Widened
 abbrev pub notTaken : Answer → Bool
 notTaken (Ans.Done n r l) = false
 notTaken Ans.Range = false
-notTaken (Ans.Malformed k) = false
+notTaken (Ans.Malformed k why) = false
 notTaken Ans.NotTaken = true
 notTaken Ans.Names = false
 notTaken (Ans.Marks k) = false
@@ -33,7 +33,7 @@ notTaken (Ans.Marks k) = false
 abbrev pub early : Answer → Bool
 early (Ans.Done n r l) = false
 early Ans.Range = true
-early (Ans.Malformed k) = true
+early (Ans.Malformed k why) = true
 early Ans.NotTaken = true
 early Ans.Names = true
 early (Ans.Marks k) = false

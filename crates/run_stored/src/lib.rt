@@ -109,7 +109,7 @@ fn is_not_taken(a: Answer) -> bool
             left: _,
         } => false,
         Answer::Range => false,
-        Answer::Malformed { entry: _ } => false,
+        Answer::Malformed { entry: _, why: _ } => false,
         Answer::NotTaken => true,
         Answer::Names => false,
         Answer::Marks { opcode: _ } => false,

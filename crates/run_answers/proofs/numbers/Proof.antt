@@ -1,4 +1,6 @@
 -- `run_answers::numbers` meets its contract: the definition's case, by computing.
+use mathlib.Core.Path.{sym, ap, _∙_}
+use Rattle.dng.specs.Answer.{numbersOf}
 use borrow.Author.Needs.{needs}
 use Rattle.run_answers.proofs.numbers.Statement.{statement}
 use Rattle.run_answers.proofs.numbers.Tie as tie
@@ -10,7 +12,7 @@ returns-2 : tie.Need-returns-2
 returns-2 c = cc
 
 returns-3 : tie.Need-returns-3
-returns-3 c = cc
+returns-3 c = c .malformed-numbers .ensures ∙ sym (ap numbersOf (c .before .before .a2 .given .1))
 
 returns-4 : tie.Need-returns-4
 returns-4 c = cc

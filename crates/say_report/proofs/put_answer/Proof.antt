@@ -26,11 +26,8 @@ put-text-requires c κs = search needs
 enum-known-a-2 : tie.Need-enum-known-a-2
 enum-known-a-2 c = search needs
 
-slice-aggregate-put-line : tie.Need-slice-aggregate-put-line
-slice-aggregate-put-line c = search needs
-
-put-line-requires : tie.Need-put-line-requires
-put-line-requires c κs = search needs
+put-malformed-requires : tie.Need-put-malformed-requires
+put-malformed-requires c κs = search needs
 
 enum-told-2 : tie.Need-enum-told-2
 enum-told-2 c = search needs
@@ -53,11 +50,11 @@ put-text-requires-3 c κs = search needs
 enum-known-a-3 : tie.Need-enum-known-a-3
 enum-known-a-3 c = search needs
 
-slice-aggregate-put-line-2 : tie.Need-slice-aggregate-put-line-2
-slice-aggregate-put-line-2 c = search needs
+slice-aggregate-put-line : tie.Need-slice-aggregate-put-line
+slice-aggregate-put-line c = search needs
 
-put-line-requires-2 : tie.Need-put-line-requires-2
-put-line-requires-2 c κs = search needs
+put-line-requires : tie.Need-put-line-requires
+put-line-requires c κs = search needs
 
 same-length : tie.Need-same-length
 same-length c = search needs
@@ -82,9 +79,9 @@ same-length-3 c = search needs
 
 returns-3 : tie.Need-returns-3
 returns-3 c =
-    let g = c .before .before .before .before .before .before in
+    let g = c .before .before .before .before .before in
     let a = g .before .before .before .before .args in
-    within-as _ 512 (lit≤ tt) (ap (λ (x : Answer). textOf x (a .form) (a .names .now) (a .held)) (sym (g .a2 .given .1))) (c .before .before .put-line .ensures)
+    within-as _ 512 (lit≤ tt) (ap (λ (x : Answer). textOf x (a .form) (a .names .now) (a .held)) (sym (g .a2 .given .1))) (c .before .before .put-malformed .ensures)
 
 same-length-4 : tie.Need-same-length-4
 same-length-4 c = search needs
@@ -111,7 +108,7 @@ returns-6 : tie.Need-returns-6
 returns-6 c =
     let g = c .before .before .before .before .before .before in
     let a = g .before .before .before .before .args in
-    within-as _ 512 (lit≤ tt) (ap (λ (x : Answer). textOf x (a .form) (a .names .now) (a .held)) (sym (g .a3 .given .1))) (c .before .before .put-line2 .ensures)
+    within-as _ 512 (lit≤ tt) (ap (λ (x : Answer). textOf x (a .form) (a .names .now) (a .held)) (sym (g .a3 .given .1))) (c .before .before .put-line .ensures)
 
 pub put-answer-spec : {M : Type 1} → statement M
 put-answer-spec =
@@ -123,8 +120,7 @@ put-answer-spec =
     slice-aggregate-put-text
     put-text-requires
     enum-known-a-2
-    slice-aggregate-put-line
-    put-line-requires
+    put-malformed-requires
     enum-told-2
     slice-aggregate-put-text-2
     put-text-requires-2
@@ -132,8 +128,8 @@ put-answer-spec =
     slice-aggregate-put-text-3
     put-text-requires-3
     enum-known-a-3
-    slice-aggregate-put-line-2
-    put-line-requires-2
+    slice-aggregate-put-line
+    put-line-requires
     same-length
     returns
     same-length-2
