@@ -113,6 +113,7 @@ reasonOf n =
     (cond (eqb n 21) Why.TooMany (cond (eqb n 22) Why.TooLong (cond (eqb n 23) Why.Inside (cond (eqb n 24) Why.Count Why.Degree))))
 
 reason-of : (q : Reason) → reasonOf (reasonNumber q) ≡ q
+unfolding reasonOf
 reason-of Why.Ends = refl
 reason-of Why.TooMany = refl
 reason-of Why.TooLong = refl

@@ -47,7 +47,7 @@ earlyMended NoRoom = true
 abbrev pub numbersOf : Mended → Numbers
 numbersOf (Whole a) = paper a
 numbersOf (Widened a n) = paper a
-numbersOf NoRoom = record { number = 80; entry = 0; opcode = 0; names = 0; repaired = 0; left = 0 }
+numbersOf NoRoom = record { number = 80; entry = 0; offset = 0; opcode = 0; names = 0; repaired = 0; left = 0 }
 
 -- the verdict: a frame is whole when a run answers 0 and skips nothing
 abbrev pub wholeMended : Mended → Bool

@@ -180,6 +180,7 @@ pub fn numbers(m: Mended) -> Numbers
         Mended::NoRoom => Numbers {
             number: Mended::NO_ROOM,
             entry: 0,
+            offset: 0,
             opcode: 0,
             names: 0,
             repaired: 0,

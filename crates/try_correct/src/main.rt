@@ -333,6 +333,22 @@ fn main() {
         65537,
     );
     three(b"- no bytes: 10 0 19", b"", 10, 0, 19, 1);
+    three(
+        b"- a list cut behind an id: 10 0 19",
+        b"\0\0\0\x01\0\0\0\x04",
+        10,
+        0,
+        19,
+        1,
+    );
+    three(
+        b"- a repair whose count of points is damaged: 10 0 19",
+        b"\0\0\0\x01\0\0\0\x05\x01\x03\0\0\0\0\0\0\0\0\0\x0c\0\0\0\0\x80\0\0\0\0\0\0\0",
+        10,
+        0,
+        19,
+        1,
+    );
     no_wide(b"- row times 0.5, room for two: 1 0 5", half);
     no_marks(
         b"- row times 0.5, then a repair of 0, no marks: 1 0 5",
