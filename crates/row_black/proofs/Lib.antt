@@ -1,0 +1,5 @@
+pub mod Values
+pub mod Spots
+pub mod Refusals
+pub mod Filling
+pub mod Evens
