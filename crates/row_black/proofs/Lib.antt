@@ -3,3 +3,5 @@ pub mod Spots
 pub mod Refusals
 pub mod Filling
 pub mod Evens
+pub mod Classes
+pub mod Walks
