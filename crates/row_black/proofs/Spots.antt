@@ -2,7 +2,7 @@
 -- Assumes nothing.
 use Prim.Native.Nat.{ℕ, _+_, _*_, _/_, _%_, _≤_, _<_}
 use mathlib.Core.Path.{_≡_, refl, sym, ap, ap₂, _∙_}
-use native.Mathlib.Nat.{add-mul, one-mul, mul-le-mul-right, mod-lt, div-add-mod'}
+use native.Mathlib.Nat.{add-mul, one-mul, mul-le-mul-right, mod-lt, zero-mod, zero-div, div-add-mod'}
 use native.Mathlib.Omega.{arith}
 use lib.Arith.{digits-lt, digits-div, digits-mod}
 use Rattle.row_black.specs.declared.Pattern.{Pattern}
@@ -22,6 +22,10 @@ turns : (n m : ℕ) → 1 ≤ m → m ≤ n % m + 1 → ((n + 1) % m ≡ 0) × (
 turns n m some h =
     let e : n + 1 ≡ (n / m + 1) * m + 0 = omega (arith, div-add-mod' n m, mod-lt n some, add-mul (n / m) 1 m, one-mul m) in
     (ap (λ (k : ℕ). k % m) e ∙ digits-mod (n / m + 1) {r = 0} some, ap (λ (k : ℕ). k / m) e ∙ digits-div (n / m + 1) {r = 0} some)
+
+pub first-spot : (planes width x0 : ℕ) → record { plane = 0; column = x0; entry = x0 % width } ≡ spotAt planes width x0 0
+first-spot planes width x0 =
+    let e : x0 + 0 / planes ≡ x0 = omega (arith, zero-div planes) in rw (zero-mod planes, e) refl
 
 module _ (planes width x0 i : ℕ) (s : Spot) (here : s ≡ spotAt planes width x0 i) where
   plane-is : s .plane ≡ i % planes
