@@ -5,3 +5,4 @@ pub mod Filling
 pub mod Evens
 pub mod Classes
 pub mod Walks
+pub mod Bayer

@@ -49,7 +49,7 @@ module _ (p : Pattern) (planes n : ℕ) (some : 1 ≤ planes) (wide : 1 ≤ p .w
 
 -- ---- what the tests give
 
-split : (a b : Bool) → (a && b) ≡ true → (a ≡ true) × (b ≡ true)
+pub split : (a b : Bool) → (a && b) ≡ true → (a ≡ true) × (b ≡ true)
 split true true e = (refl, refl)
 split true false e = (refl, e)
 split false b e = (e, e-of b e)

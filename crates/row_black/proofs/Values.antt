@@ -44,3 +44,10 @@ pub delta-missing : (ds : List Float) (i : ℕ) (b : Float) → (length ds ≡ 0
 unfolding withDelta
 delta-missing [] i b some h = absurd (some refl)
 delta-missing (d ∷ ds) i b some h = ap (add binary32 b) (sym (List·getD-eq-default (d ∷ ds) nought h))
+
+-- past the end of a list one delta is as another
+pub delta-past : (ds : List Float) (i k : ℕ) (b : Float) → length ds ≤ i → length ds ≤ k → withDelta ds i b ≡ withDelta ds k b
+unfolding withDelta
+delta-past [] i k b h q = refl
+delta-past (d ∷ ds) i k b h q =
+    ap (add binary32 b) (List·getD-eq-default (d ∷ ds) nought h ∙ sym (List·getD-eq-default (d ∷ ds) nought q))

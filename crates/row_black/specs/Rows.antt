@@ -14,6 +14,10 @@ use Rattle.row_black.specs.Black.{Levels, entryIn, withDelta, levelledBy
 abbrev pub levelIn : Pattern → (blacks scales rows : List Float) → (y c k : ℕ) → Level
 levelIn p blacks scales rows y c k = record { black = withDelta rows y (entryIn p blacks y c k); scale = entryIn p scales y c k }
 
+-- a level with the delta of image column x
+abbrev pub settledAt : List Float → ℕ → Level → Level
+settledAt columns x a = record { black = withDelta columns x (a .black); scale = a .scale }
+
 -- sample i of a row that starts at image column x0: its plane, its image column, and the pattern's column
 abbrev pub spotAt : (planes width x0 i : ℕ) → Spot
 spotAt planes width x0 i = record { plane = i % planes; column = x0 + i / planes; entry = (x0 + i / planes) % width }

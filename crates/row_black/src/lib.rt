@@ -25,7 +25,7 @@ ghost use Rattle.row_black.specs.Black.{
   blackOut,
   Levelled,
 };
-ghost use Rattle.row_black.specs.Rows.{levelIn, spotAt, noDelta, ownDelta, only, pairRule, stepRule, rowRule, InTables, RowLent, Strides};
+ghost use Rattle.row_black.specs.Rows.{levelIn, settledAt, spotAt, noDelta, ownDelta, only, pairRule, stepRule, rowRule, InTables, RowLent, Strides};
 
 // The frame: `width` by `height` pixels of `planes` samples, rows without gaps, its corner at (x0, y0) of the image.
 #[repr(C)]
@@ -116,7 +116,7 @@ fn level_at(
 
 // A level with the delta of image column x.
 fn settled(a: Level, columns: &[f32], x: usize) -> Level
-    ensures { λ r. ⌜ r ≡ record { black = withDelta (now (columns .entry)) x (a .black); scale = a .scale } ⌝ }
+    ensures { λ r. ⌜ r ≡ settledAt (now (columns .entry)) x a ⌝ }
 {
     Level {
         black: with_delta(columns, x, a.black),
