@@ -6,3 +6,5 @@ pub mod Evens
 pub mod Classes
 pub mod Walks
 pub mod Bayer
+pub mod Frames
+pub mod Calls
