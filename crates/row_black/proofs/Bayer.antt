@@ -51,12 +51,12 @@ module _ {A : Type 0} (none : A) (toFloat : A → Float) (s : List A) (p : Patte
       (λ h.
       let e : j % 2 ≡ 0 = omega arith in
       let c : (x0 + j) % p .width ≡ x0 % p .width =
-          two-columns (p .width) x0 j wide two ∙ ap (λ (k : ℕ). k % p .width) (let q : x0 + j % 2 ≡ x0 = omega (arith, e) in q) in
+      two-columns (p .width) x0 j wide two ∙ ap (λ (k : ℕ). k % p .width) (let q : x0 + j % 2 ≡ x0 = omega (arith, e) in q) in
       ap (λ (b : Bool). cond b (at x0) (at (x0 + 1))) (eq-eqb (j % 2) 0 e) ∙ sym (ap (λ (k : ℕ). levelIn p blacks scales rows y k 0) c))
       (λ h.
       let e : j % 2 ≡ 1 = omega (arith, mod-lt j {m = 2} (omega arith)) in
       let c : (x0 + j) % p .width ≡ (x0 + 1) % p .width =
-          two-columns (p .width) x0 j wide two ∙ ap (λ (k : ℕ). (x0 + k) % p .width) e in
+      two-columns (p .width) x0 j wide two ∙ ap (λ (k : ℕ). (x0 + k) % p .width) e in
       ap (λ (b : Bool). cond b (at x0) (at (x0 + 1))) (ne-eqb (j % 2) 0 (λ q. omega (arith, q, e)))
       ∙ sym (ap (λ (k : ℕ). levelIn p blacks scales rows y k 0) c))
 

@@ -8,3 +8,4 @@ pub mod Walks
 pub mod Bayer
 pub mod Frames
 pub mod Calls
+pub mod Theorems

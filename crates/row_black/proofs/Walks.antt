@@ -39,7 +39,7 @@ module _ {from step pitch x : ℕ} {f : ℕ → Float} {old : List Float} (k : S
     pub walk-near : j < length old → c ≤ 274895732736
     walk-near h =
         let few : w .turn ≤ 524288 =
-            omega (arith, w .strode .place, mul-le-mul-left (w .turn) (let s : 1 ≤ step = omega (arith, k .first) in s), mul-one (w .turn), k .short) in
+        omega (arith, w .strode .place, mul-le-mul-left (w .turn) (let s : 1 ≤ step = omega (arith, k .first) in s), mul-one (w .turn), k .short) in
         omega (arith, w .column, mul-le-mul few (k .narrow), k .column)
 
     pub walk-next : {v : Float} → j < length old → v ≡ f j → Walk from step pitch x f old (set now j v) (j + step) (c + pitch)

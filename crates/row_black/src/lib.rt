@@ -297,7 +297,12 @@ fn row_f32(
         let even = level_at(p, 0, y, x0 % p.width, blacks, scales, rows);
         let odd = level_at(p, 0, y, (x0 + 1) % p.width, blacks, scales, rows);
         if columns.len() <= x0 {
-            pairs_f32(input, out, settled(even, columns, x0), settled(odd, columns, x0 + 1));
+            pairs_f32(
+                input,
+                out,
+                settled(even, columns, x0),
+                settled(odd, columns, x0 + 1),
+            );
             return;
         }
         let end = x0 + out.len();
@@ -386,8 +391,16 @@ fn delta_pairs_u16(input: &[u16], out: &mut [f32], deltas: &[f32], even: Level, 
     let end = n - n % 2;
     let mut j = 0;
     while j < end {
-        let v = take_black(num_convert::f32_of_u16(input[j]), even.black + deltas[j], even.scale);
-        let w = take_black(num_convert::f32_of_u16(input[j + 1]), odd.black + deltas[j + 1], odd.scale);
+        let v = take_black(
+            num_convert::f32_of_u16(input[j]),
+            even.black + deltas[j],
+            even.scale,
+        );
+        let w = take_black(
+            num_convert::f32_of_u16(input[j + 1]),
+            odd.black + deltas[j + 1],
+            odd.scale,
+        );
         out[j] = v;
         out[j + 1] = w;
         j += 2;
@@ -395,7 +408,11 @@ fn delta_pairs_u16(input: &[u16], out: &mut [f32], deltas: &[f32], even: Level, 
     if end == n {
         return;
     }
-    out[end] = take_black(num_convert::f32_of_u16(input[end]), even.black + deltas[end], even.scale);
+    out[end] = take_black(
+        num_convert::f32_of_u16(input[end]),
+        even.black + deltas[end],
+        even.scale,
+    );
 }
 
 // The samples from `from` on that lie `step` apart, one level for all; their image columns lie `pitch` apart from x on.
@@ -421,7 +438,11 @@ fn strides_u16(
     let mut j = from;
     let mut c = x;
     while j < n {
-        out[j] = take_black(num_convert::f32_of_u16(input[j]), with_delta(columns, c, a.black), a.scale);
+        out[j] = take_black(
+            num_convert::f32_of_u16(input[j]),
+            with_delta(columns, c, a.black),
+            a.scale,
+        );
         j += step;
         c += pitch;
     }
@@ -498,7 +519,12 @@ fn row_u16(
         let even = level_at(p, 0, y, x0 % p.width, blacks, scales, rows);
         let odd = level_at(p, 0, y, (x0 + 1) % p.width, blacks, scales, rows);
         if columns.len() <= x0 {
-            pairs_u16(input, out, settled(even, columns, x0), settled(odd, columns, x0 + 1));
+            pairs_u16(
+                input,
+                out,
+                settled(even, columns, x0),
+                settled(odd, columns, x0 + 1),
+            );
             return;
         }
         let end = x0 + out.len();
@@ -600,14 +626,7 @@ fn has_samples(f: Field, input: usize, output: usize) -> bool
 }
 
 // 1, 60, 61, in that order.
-fn answer(
-    f: Field,
-    p: Pattern,
-    blacks: usize,
-    scales: usize,
-    input: usize,
-    output: usize,
-) -> Black
+fn answer(f: Field, p: Pattern, blacks: usize, scales: usize, input: usize, output: usize) -> Black
     ensures { λ r. ⌜ r ≡ answerOf f p blacks scales input output ⌝ }
 {
     if in_range(f) {
@@ -669,14 +688,7 @@ pub fn black_f32(
         r (now (out .exit))
         ⌝ }
 {
-    let a = answer(
-        f,
-        p,
-        blacks.len(),
-        scales.len(),
-        input.len(),
-        out.len(),
-    );
+    let a = answer(f, p, blacks.len(), scales.len(), input.len(), out.len());
     if is_done(a) {
         rows_f32(input, out, f, p, blacks, scales, rows, columns);
     }
@@ -702,14 +714,7 @@ pub fn black_u16(
         r (now (out .exit))
         ⌝ }
 {
-    let a = answer(
-        f,
-        p,
-        blacks.len(),
-        scales.len(),
-        input.len(),
-        out.len(),
-    );
+    let a = answer(f, p, blacks.len(), scales.len(), input.len(), out.len());
     if is_done(a) {
         rows_u16(input, out, f, p, blacks, scales, rows, columns);
     }
