@@ -97,7 +97,10 @@ module _ {A : Type 0} (none : A) (toFloat : A → Float) (s : List A) (p : Patte
       each-agree (λ j v. pairRule none toFloat s (ownDelta (take (x0 + length out - x0) (drop x0 columns))) even odd j)
       (λ j v. rowRule none toFloat s (levels p blacks scales rows columns) planes x0 y j) out
       (λ j v h.
-      ap (λ (a : Level). levelledBy (add binary32 (a .black) (getD (take (x0 + length out - x0) (drop x0 columns)) j nan)) (a .scale) (toFloat (getD s j none))) (pair j)
+      ap
+      (λ (a : Level).
+      levelledBy (add binary32 (a .black) (getD (take (x0 + length out - x0) (drop x0 columns)) j nan)) (a .scale) (toFloat (getD s j none)))
+      (pair j)
       ∙ ap (λ (b : Float). levelledBy b (at (x0 + j) .scale) (toFloat (getD s j none))) (delta j h)
       ∙ sym (rule-is j))
     where

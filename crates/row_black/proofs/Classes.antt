@@ -12,7 +12,7 @@ use Rattle.row_black.specs.declared.Level.{Level}
 use Rattle.row_black.specs.declared.Pattern.{Pattern}
 use Rattle.row_black.specs.declared.Spot.{Spot}
 use Rattle.row_black.specs.Black.{levels, entryIn, withDelta, blackAt, levelledBy, levelled}
-use Rattle.row_black.specs.Rows.{levelIn, spotAt, stepRule, rowRule, InTables, RowLent, Strides}
+use Rattle.row_black.specs.Rows.{levelIn, spotAt, stepRule, rowRule, InTables, RowLent, Stepped}
 
 -- where sample j stands, seen from sample i of the first period
 pub record Alike (planes width pitch x0 step i j : ℕ) : Type 0 where
@@ -86,7 +86,14 @@ module _ {p : Pattern} {planes x0 n b s : ℕ} (k : RowLent p planes x0 n b s) w
   pub period-fits : p .width * planes ≤ b
   period-fits =
       let tall : 1 * p .width * planes ≤ p .height * p .width * planes = mul-le-mul-right planes (mul-le-mul-right (p .width) (k .tall)) in
-      omega (arith, k .black, tall, ap (λ (m : ℕ). m * planes) (one-mul (p .width)), mul-assoc planes (p .height) (p .width), mul-comm planes (p .height * p .width))
+      omega (
+        arith,
+        k .black,
+        tall,
+        ap (λ (m : ℕ). m * planes) (one-mul (p .width)),
+        mul-assoc planes (p .height) (p .width),
+        mul-comm planes (p .height * p .width),
+      )
 
   -- a row that has a sample is walked over
   pub step-some : {step j : ℕ} → step ≡ min (p .width * planes) n → j < n → 1 ≤ step
@@ -109,7 +116,7 @@ module _ {p : Pattern} {planes x0 n b s : ℕ} (k : RowLent p planes x0 n b s) w
     spot-next h = (plane, entry, omega (arith, column h))
 
     pub spot-strides : {step pitch : ℕ} → step ≡ min (p .width * planes) n → pitch ≡ min (p .width) n → i < step
-        → Strides i step pitch (t .column) n
+        → Stepped i step pitch (t .column) n
     spot-strides e f h =
         record {
           first = h;

@@ -46,9 +46,10 @@ module _ (even odd : Level) (j : ℕ) (e : j % 2 ≡ 0) where
 -- ---- a loop over pairs
 
 -- the places before j are done, and j is even
-pub record Paired {A : Type 0} (none : A) (toFloat : A → Float) (s : List A) (plus : ℕ → Float → Float) (even odd : Level) (old now : List Float) (j : ℕ) : Type 0 where
-  pub till : Till (pairRule none toFloat s plus even odd) old now j
-  pub pair : j % 2 ≡ 0
+module _ {A : Type 0} (none : A) (toFloat : A → Float) (s : List A) (plus : ℕ → Float → Float) (even odd : Level) where
+  pub record Paired (old now : List Float) (j : ℕ) : Type 0 where
+    pub till : Till (pairRule none toFloat s plus even odd) old now j
+    pub pair : j % 2 ≡ 0
 
 -- what a place of the level a becomes, w being its sample
 abbrev pub Becomes : {A : Type 0} → A → (A → Float) → List A → (ℕ → Float → Float) → Level → ℕ → Float → Type 0

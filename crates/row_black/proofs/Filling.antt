@@ -95,12 +95,14 @@ module _ {from step : ℕ} {f : ℕ → Float} {old : List Float} (first : from 
         let split : i ≡ i / step * step + from = sym (div-add-mod' i step) ∙ ap (_+_ (i / step * step)) e in
         below-or (i / step) turn
         (λ h.
-        let low : i < j = omega (arith, s .place, mul-le-mul-right {m = i / step + 1} {n = turn} step (omega arith), add-mul (i / step) 1 step, one-mul step) in
+        let low : i < j =
+        omega (arith, s .place, mul-le-mul-right {m = i / step + 1} {n = turn} step (omega arith), add-mul (i / step) 1 step, one-mul step) in
         lt-ltb i (j + step) (omega arith) ∙ sym (lt-ltb i j low))
         (λ h.
         below-or turn (i / step)
         (λ q.
-        let high : j + step ≤ i = omega (arith, s .place, mul-le-mul-right {m = turn + 1} {n = i / step} step (omega arith), add-mul turn 1 step, one-mul step) in
+        let high : j + step ≤ i =
+        omega (arith, s .place, mul-le-mul-right {m = turn + 1} {n = i / step} step (omega arith), add-mul turn 1 step, one-mul step) in
         le-ltb i (j + step) high ∙ sym (le-ltb i j (omega arith)))
         (λ q.
         absurd (other (split ∙ ap (λ (k : ℕ). k * step + from) (let r : i / step ≡ turn = omega arith in r) ∙ omega (arith, s .place)))))
@@ -133,7 +135,9 @@ module _ {from step : ℕ} {f : ℕ → Float} {old : List Float} (first : from 
         at : (i : ℕ) → i < length old → getD (set now j v) i nan ≡ only (strideBelow from step (j + step)) f i (getD old i nan)
         at i q =
             by-cases (eqb i j)
-            (λ r. subst (λ (k : ℕ). getD (set now j v) k nan ≡ only (strideBelow from step (j + step)) f k (getD old k nan)) (sym (eqb-true i j r)) stored)
+            (λ r.
+            subst (λ (k : ℕ). getD (set now j v) k nan ≡ only (strideBelow from step (j + step)) f k (getD old k nan))
+            (sym (eqb-true i j r)) stored)
             (λ r.
             getD-set-other now j i v nan (eqb-false i j r)
             ∙ ap (λ (l : List Float). getD l i nan) (s .done)

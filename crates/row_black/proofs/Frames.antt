@@ -73,7 +73,9 @@ module _ {A : Type 0} {none : A} {toFloat : A → Float} {f : Field} {l : Levels
         j = i - at
 
         some : 1 ≤ f .planes
-        some = below-or 0 (f .planes) (λ q. q) (λ q. absurd (omega (arith, ap (_*_ (f .width)) (let z : f .planes ≡ 0 = omega arith in z), mul-comm (f .width) 0)))
+        some =
+            below-or 0 (f .planes) (λ q. q)
+            (λ q. absurd (omega (arith, ap (_*_ (f .width)) (let z : f .planes ≡ 0 = omega arith in z), mul-comm (f .width) 0)))
 
         split : i ≡ y * f .width * f .planes + j
         split = omega (arith, r .here, mul-assoc y (f .width) (f .planes))

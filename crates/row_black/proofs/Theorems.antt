@@ -132,7 +132,8 @@ module _ {A : Type 0} (none : A) (toFloat : A → Float) (f : Field) (l : Levels
   itself-at : (s s′ : List A) (j : ℕ) → total f ≤ length s → total f ≤ length s′ → getD s j none ≡ getD s′ j none
       → getD (blackOut none toFloat f l s out .output) j nan ≡ getD (blackOut none toFloat f l s′ out .output) j nan
   unfolding blackOut new
-  itself-at s s′ j h h′ e = go (isDone (blackOut none toFloat f l s out .answer)) (isDone (blackOut none toFloat f l s′ out .answer)) (ap isDone (same-answer s s′ h h′))
+  itself-at s s′ j h h′ e =
+      go (isDone (blackOut none toFloat f l s out .answer)) (isDone (blackOut none toFloat f l s′ out .answer)) (ap isDone (same-answer s s′ h h′))
     where
       go : (a a′ : Bool) → a ≡ a′
           → getD (cond a (new none toFloat f l s out) out) j nan ≡ getD (cond a′ (new none toFloat f l s′ out) out) j nan
@@ -171,18 +172,15 @@ module _ {A : Type 0} (none : A) (toFloat : A → Float) (f : Field) (l : Levels
       ∙ rule-at s y x k (getD out (placeOf f y x k) nan) hy hx hk
 
 pub pointwise : Pointwise
-pointwise A none toFloat f l out = record { itself = itself-at none toFloat f l out; position = position-at none toFloat f l out }
+pointwise A none toFloat f l s out = record { itself = itself-at none toFloat f l out s; position = position-at none toFloat f l out s }
 
 -- ---- 5
 
 -- both are the rule of the same position, of the same sample
 pub tiles : Tiles
-tiles A none toFloat f l s out x y w h t tile g =
-    record {
-      same = λ r c k hr hc hk.
-          position-at none toFloat (tileOf f x y w h) l tile t r c k (g .part) hr hc hk
-          ∙ ap (λ (v : A). levelled l (f .y0 + y + r) (f .x0 + x + c) k (toFloat v)) (g .input r c k hr hc hk)
-          ∙ ap₂ (λ (m n : ℕ). levelled l m n k (toFloat (getD s (placeOf f (y + r) (x + c) k) none)))
-          (let e : f .y0 + y + r ≡ f .y0 + (y + r) = omega arith in e) (let e : f .x0 + x + c ≡ f .x0 + (x + c) = omega arith in e)
-          ∙ sym (position-at none toFloat f l out s (y + r) (x + c) k (g .frame) (omega (arith, g .rows)) (omega (arith, g .columns)) hk);
-    }
+tiles A none toFloat f l s out x y w h t tile g r c k hr hc hk =
+    position-at none toFloat (tileOf f x y w h) l tile t r c k (g .part) hr hc hk
+    ∙ ap (λ (v : A). levelled l (f .y0 + y + r) (f .x0 + x + c) k (toFloat v)) (g .input r c k hr hc hk)
+    ∙ ap₂ (λ (m n : ℕ). levelled l m n k (toFloat (getD s (placeOf f (y + r) (x + c) k) none)))
+    (let e : f .y0 + y + r ≡ f .y0 + (y + r) = omega arith in e) (let e : f .x0 + x + c ≡ f .x0 + (x + c) = omega arith in e)
+    ∙ sym (position-at none toFloat f l out s (y + r) (x + c) k (g .frame) (omega (arith, g .rows)) (omega (arith, g .columns)) hk)

@@ -10,7 +10,7 @@ use lib.ListN.{length, getD, set}
 use Rattle.pointwise.specs.Points.{each}
 use Rattle.row_black.specs.declared.Level.{Level}
 use Rattle.row_black.specs.Black.{withDelta, levelledBy}
-use Rattle.row_black.specs.Rows.{only, stepRule, Strides}
+use Rattle.row_black.specs.Rows.{only, stepRule, Stepped}
 use Rattle.row_black.proofs.Filling.{Strode, strode-start, strode-next, strode-end}
 
 -- j is the next place, and c its image column
@@ -19,7 +19,7 @@ pub record Walk (from step pitch x : ℕ) (f : ℕ → Float) (old now : List Fl
   pub strode : Strode from step f old now j turn
   pub column : c ≡ x + turn * pitch
 
-module _ {from step pitch x : ℕ} {f : ℕ → Float} {old : List Float} (k : Strides from step pitch x (length old)) where
+module _ {from step pitch x : ℕ} {f : ℕ → Float} {old : List Float} (k : Stepped from step pitch x (length old)) where
   pub walk-start : Walk from step pitch x f old old from x
   walk-start = record { turn = 0; strode = strode-start (k .first); column = omega arith }
 

@@ -1,5 +1,5 @@
--- Black level before list 2 (document 02, M-109): what a sample becomes, when a call is refused, and what each answer leaves.
--- Pattern and deltas go by image positions. Every operation is rounded once, in the order written.
+-- Black level before list 2 (document 02, M-109): what a sample becomes, when a call is refused, what each answer
+-- leaves. Pattern and deltas go by image positions. Every operation is rounded once, in the order written.
 use Prim.Native.Nat.{ℕ, _+_, _*_, _/_, _%_}
 use mathlib.Core.Bool.{Bool, true, false, _&&_, cond}
 use mathlib.Core.List.{List, [], _∷_}
@@ -16,7 +16,7 @@ use Rattle.row_black.specs.declared.Black.the-variants.{Done, Range, Tab
 
 -- ---- a sample
 
--- what is lent besides the samples: the pattern's size, the tables of black and of scale, the deltas of rows and of columns
+-- what is lent besides the samples: the pattern's size, tables of black and of scale, deltas of rows and of columns
 pub record Levels : Type 0 where
   pub pattern : Pattern
   pub blacks : List Float
@@ -27,7 +27,8 @@ pub record Levels : Type 0 where
 abbrev pub levels : Pattern → (blacks scales rows columns : List Float) → Levels
 levels p b s r c = record { pattern = p; blacks = b; scales = s; rows = r; columns = c }
 
--- the entry of a table for plane k, in the pattern's column c and the line of image row y: plane after plane, each row after row
+-- the entry of a table for plane k, in the pattern's column c and the line of image row y: plane after plane, each row
+-- after row
 abbrev pub entryIn : Pattern → List Float → (y c k : ℕ) → Float
 entryIn p t y c k = getD t ((k * p .height + y % p .height) * p .width + c) nan
 
@@ -61,12 +62,13 @@ levelled l y x k v = levelledBy (blackAt l y x k) (entryAt (l .pattern) (l .scal
 abbrev pub total : Field → ℕ
 total f = f .width * f .height * f .planes
 
--- sample j of the output, from the input s: plane j % planes of column x0 + j / planes % width in row y0 + j / planes / width. Past the frame it stays.
+-- sample j of the output, from the input s: plane j % planes of the pixel j / planes, which is in column % width of row
+-- / width of the frame. Past the frame it stays.
 unfoldable pub levelledAt : {A : Type 0} → (none : A) → (A → Float) → Field → Levels → List A → ℕ → Float → Float
 levelledAt none toFloat f l s j old =
-    cond (ltb j (total f))
-    (levelled l (f .y0 + j / f .planes / f .width) (f .x0 + j / f .planes % f .width) (j % f .planes) (toFloat (getD s j none)))
-    old
+    let y = f .y0 + j / f .planes / f .width in
+    let x = f .x0 + j / f .planes % f .width in
+    cond (ltb j (total f)) (levelled l y x (j % f .planes) (toFloat (getD s j none))) old
 
 -- ---- refusals: 1, 60, 61 in that order, the output unchanged
 

@@ -1,4 +1,5 @@
--- A row by the samples that share an entry of the pattern: what the functions inside promise of a row, and what they may rely on.
+-- A row by the samples that share an entry of the pattern: what the functions inside promise of a row, and what they
+-- may rely on.
 use Prim.Native.Nat.{ℕ, _+_, _*_, _/_, _%_, _≤_, _<_}
 use mathlib.Core.Bool.{Bool, cond}
 use mathlib.Core.List.{List}
@@ -12,7 +13,8 @@ use Rattle.row_black.specs.Black.{Levels, entryIn, withDelta, levelledBy
 
 -- the black of a row before its column's delta, and the scale, for plane k in the pattern's column c
 abbrev pub levelIn : Pattern → (blacks scales rows : List Float) → (y c k : ℕ) → Level
-levelIn p blacks scales rows y c k = record { black = withDelta rows y (entryIn p blacks y c k); scale = entryIn p scales y c k }
+levelIn p blacks scales rows y c k =
+    record { black = withDelta rows y (entryIn p blacks y c k); scale = entryIn p scales y c k }
 
 -- a level with the delta of image column x
 abbrev pub settledAt : List Float → ℕ → Level → Level
@@ -40,7 +42,8 @@ only at f j v = cond (at j) (f j) v
 module _ {A : Type 0} (none : A) (toFloat : A → Float) (s : List A) where
   -- each sample by one of two levels; `plus` is what a place adds to its black
   unfoldable pub pairRule : (ℕ → Float → Float) → Level → Level → ℕ → Float
-  pairRule plus even odd j = levelledBy (plus j (pairOf even odd j .black)) (pairOf even odd j .scale) (toFloat (getD s j none))
+  pairRule plus even odd j =
+      levelledBy (plus j (pairOf even odd j .black)) (pairOf even odd j .scale) (toFloat (getD s j none))
 
   -- one level for places `step` apart, whose columns are `pitch` apart from x on
   unfoldable pub stepRule : Level → List Float → (x pitch step : ℕ) → ℕ → Float
@@ -72,7 +75,7 @@ pub record RowLent (p : Pattern) (planes x0 n b s : ℕ) : Type 0 where
   pub scale : planes * p .height * p .width ≤ s
 
 -- what a walk over every step-th place of a row of n samples may rely on
-pub record Strides (from step pitch x n : ℕ) : Type 0 where
+pub record Stepped (from step pitch x n : ℕ) : Type 0 where
   pub first : from < step
   pub near : step ≤ 524288
   pub narrow : pitch ≤ 524288

@@ -16,7 +16,7 @@ use Rattle.row_black.specs.Black.{Levels, levels, withDelta, blackAt, le
 abbrev w : ℕ → Float
 w n = wholeIn binary32 n
 
--- −0, 1e8, −1e8, −1 and −2
+-- −0, 1e8, −1e8 and −2
 abbrev minus-zero : Float
 minus-zero = ofBits binary32 0x8000_0000
 
@@ -55,7 +55,8 @@ pub record Values : Type 0 where
   -- +∞ stays; a negative scale can make a positive value: (1 − 3)·(−2)
   pub infinite : levelledBy nought (w 1) (inf false) ≡ inf false
   pub negative-scale : levelledBy (w 3) minus-two (w 1) ≡ w 4
-  -- (1e8 + −1e8) + 1: the row's delta before the column's, each sum rounded. 3 − 1 is 2; in another order black is 0 and 3 is left
+  -- (1e8 + −1e8) + 1: the row's delta before the column's, each sum rounded. 3 − 1 is 2; in another order black is 0
+  -- and 3 is left
   pub deltas-in-order : levelled (flat large (minus-large ∷ []) (w 1 ∷ [])) 0 0 0 (w 3) ≡ w 2
   -- no list, and nothing is added: −0 stays; a missing entry is 0.0: −0 + 0.0 is +0
   pub no-lists : blackAt (flat minus-zero [] []) 0 0 0 ≡ minus-zero
@@ -106,22 +107,33 @@ places = record { plane-after-plane = refl; row-after-row = refl; last = refl; a
 
 -- ---- frames
 
--- a frame of 2 by 1 pixels at (2, 1), two planes: columns 2 and 0 of the pattern's second line; an output longer than the
--- frame keeps what stands behind it
-pub framed : blackOut nan (λ x. x) (field 2 1 2 2 1) numbered (w 50 ∷ w 160 ∷ w 70 ∷ w 180 ∷ []) (nan ∷ nan ∷ nan ∷ nan ∷ w 9 ∷ [])
-    ≡ record { answer = Done; output = w 38 ∷ w 48 ∷ w 60 ∷ w 70 ∷ w 9 ∷ [] }
-unfolding blackOut answerOf fieldInRange tabled sampled each levelledAt levelled levelledBy blackAt withDelta add sub mul lt ofBits ofInt round
+-- 2 by 1 pixels at (2, 1), two planes: columns 2 and 0 of the pattern's second line. What stands behind the frame stays
+pub framed :
+    each (levelledAt nan (λ x. x) (field 2 1 2 2 1) numbered (w 50 ∷ w 160 ∷ w 70 ∷ w 180 ∷ []))
+    (nan ∷ nan ∷ nan ∷ nan ∷ w 9 ∷ [])
+    ≡ w 38 ∷ w 48 ∷ w 60 ∷ w 70 ∷ w 9 ∷ []
+unfolding each levelledAt levelled levelledBy blackAt withDelta sub mul lt ofInt round
 framed = refl
 
--- the same from u16 samples, with a column delta, which goes by the image's column
-pub widened : blackOut 0 (wholeIn binary32) (field 2 1 1 1 0) (flat (w 1) [] (w 10 ∷ w 20 ∷ w 30 ∷ [])) (100 ∷ 200 ∷ []) (nan ∷ nan ∷ [])
-    ≡ record { answer = Done; output = w 79 ∷ w 169 ∷ [] }
-unfolding blackOut answerOf fieldInRange tabled sampled each levelledAt levelled levelledBy blackAt withDelta add sub mul lt ofBits ofInt round
+-- u16 samples from image column 1 on: the delta of a column goes by the image's column
+pub widened :
+    each (levelledAt 0 (wholeIn binary32) (field 2 1 1 1 0) (flat (w 1) [] (w 10 ∷ w 20 ∷ w 30 ∷ [])) (100 ∷ 200 ∷ []))
+    (nan ∷ nan ∷ [])
+    ≡ w 79 ∷ w 169 ∷ []
+unfolding each levelledAt levelled levelledBy blackAt withDelta add sub mul lt ofInt round
 widened = refl
 
--- a refusal leaves the output as it is
-pub refused : blackOut 0 (wholeIn binary32) (field 2 1 1 1 0) (flat (w 1) [] []) (100 ∷ []) (nan ∷ nan ∷ []) ≡ record { answer = Samples; output = nan ∷ nan ∷ [] }
-unfolding blackOut answerOf fieldInRange tabled sampled ofInt round
+-- a call that is done has the new output, and one that is refused the old one
+abbrev called : (input : List Float) → BlackOut
+called input =
+    blackOut nan (λ x. x) (field 1 1 1 0 0) (levels (size 1 1) (nought ∷ []) (nought ∷ []) [] []) input (inf true ∷ [])
+
+pub done : called (nan ∷ []) ≡ record { answer = Done; output = nought ∷ [] }
+unfolding blackOut answerOf fieldInRange tabled sampled each levelledAt levelled levelledBy blackAt withDelta sub mul lt
+done = refl
+
+pub refused : called [] ≡ record { answer = Samples; output = inf true ∷ [] }
+unfolding blackOut answerOf fieldInRange tabled sampled
 refused = refl
 
 -- ---- answers

@@ -1,6 +1,7 @@
-// Black level before list 2 (document 02, M-109): from each sample the black of its image position is taken, and the rest is scaled.
-// A row with one plane and a pattern of one or two columns, as a Bayer image has it, goes by pairs of samples, which compiles to vector code.
-// Any other goes by the samples that share an entry of the pattern, which lie as far apart as the pattern is wide.
+// Black level before list 2 (document 02, M-109): from each sample the black of its image position is taken, and the
+// rest is scaled. A row of one plane under a pattern of one or two columns, as a Bayer image has it, goes by pairs of
+// samples, which compiles to vector code. Any other goes by the samples that share an entry of the pattern: they lie as
+// many samples apart as a row of the pattern has with all its planes.
 use dng::Window;
 ghost use mathlib.Core.Path.{_≡_};
 ghost use mathlib.Core.Bool.{true, _&&_};
@@ -15,6 +16,7 @@ ghost use Rattle.row_black.specs.Black.{
   withDelta,
   levelledBy,
   levelledAt,
+  total,
   fieldInRange,
   holds,
   tabled,
@@ -25,7 +27,7 @@ ghost use Rattle.row_black.specs.Black.{
   blackOut,
   Levelled,
 };
-ghost use Rattle.row_black.specs.Rows.{levelIn, settledAt, spotAt, noDelta, ownDelta, only, pairRule, stepRule, rowRule, InTables, RowLent, Strides};
+ghost use Rattle.row_black.specs.Rows.{levelIn, settledAt, spotAt, noDelta, ownDelta, only, pairRule, stepRule, rowRule, InTables, RowLent, Stepped};
 
 // The frame: `width` by `height` pixels of `planes` samples, rows without gaps, its corner at (x0, y0) of the image.
 #[repr(C)]
@@ -157,7 +159,12 @@ fn is_paired(p: Pattern, planes: usize) -> bool
 // A loop with no branch and two levels that stay: vector code.
 fn pairs_f32(input: &[f32], out: &mut [f32], even: Level, odd: Level)
     requires { ⌜ length (now out) ≤ length (now input) ⌝ }
-    ensures { λ _. ⌜ now (out .exit) ≡ each (λ j v. pairRule nan (λ x. x) (now (input .entry)) noDelta even odd j) (now (out .entry)) ⌝ }
+    ensures { λ _. ⌜
+        now (out .exit)
+        ≡ each
+        (λ j v. pairRule nan (λ x. x) (now (input .entry)) noDelta even odd j)
+        (now (out .entry))
+        ⌝ }
 {
     let n = out.len();
     let end = n - n % 2;
@@ -178,8 +185,12 @@ fn pairs_f32(input: &[f32], out: &mut [f32], even: Level, odd: Level)
 // The same with a delta for each sample.
 fn delta_pairs_f32(input: &[f32], out: &mut [f32], deltas: &[f32], even: Level, odd: Level)
     requires { ⌜ (length (now out) ≤ length (now input)) × (length (now out) ≤ length (now deltas)) ⌝ }
-    ensures { λ _.
-        ⌜ now (out .exit) ≡ each (λ j v. pairRule nan (λ x. x) (now (input .entry)) (ownDelta (now (deltas .entry))) even odd j) (now (out .entry)) ⌝ }
+    ensures { λ _. ⌜
+        now (out .exit)
+        ≡ each
+        (λ j v. pairRule nan (λ x. x) (now (input .entry)) (ownDelta (now (deltas .entry))) even odd j)
+        (now (out .entry))
+        ⌝ }
 {
     let n = out.len();
     let end = n - n % 2;
@@ -197,7 +208,8 @@ fn delta_pairs_f32(input: &[f32], out: &mut [f32], deltas: &[f32], even: Level, 
     out[end] = take_black(input[end], even.black + deltas[end], even.scale);
 }
 
-// The samples from `from` on that lie `step` apart, one level for all; their image columns lie `pitch` apart from x on.
+// The samples from `from` on that lie `step` apart, one level for all; their columns lie `pitch` apart, from image
+// column x on.
 fn strides_f32(
     input: &[f32],
     out: &mut [f32],
@@ -208,11 +220,12 @@ fn strides_f32(
     x: usize,
     pitch: usize,
 )
-    requires { ⌜ Strides from step pitch x (length (now out)) × (length (now out) ≤ length (now input)) ⌝ }
+    requires { ⌜ Stepped from step pitch x (length (now out)) × (length (now out) ≤ length (now input)) ⌝ }
     ensures { λ _. ⌜
         now (out .exit)
         ≡ each
-        (only (λ j. eqb (j % step) from) (stepRule nan (λ x. x) (now (input .entry)) a (now (columns .entry)) x pitch step))
+        (only (λ j. eqb (j % step) from)
+        (stepRule nan (λ x. x) (now (input .entry)) a (now (columns .entry)) x pitch step))
         (now (out .entry))
         ⌝ }
 {
@@ -226,7 +239,7 @@ fn strides_f32(
     }
 }
 
-// As many walks as the pattern has places in a row, or as the row has samples.
+// One after another, from each place of the first period of the row, or from each sample of a row that is shorter.
 fn all_strides_f32(
     input: &[f32],
     out: &mut [f32],
@@ -268,7 +281,7 @@ fn all_strides_f32(
     }
 }
 
-// One row, the image row y from image column x0 on. Pairs serve where every column has a delta of its own, or none has.
+// One row, the image row y from image column x0 on. Pairs serve where every column has a delta of its own, or none.
 fn row_f32(
     input: &[f32],
     out: &mut [f32],
@@ -332,7 +345,8 @@ fn rows_f32(
         now (out .exit)
         ≡ each
         (levelledAt nan (λ x. x) f
-        (levels p (now (blacks .entry)) (now (scales .entry)) (now (rows .entry)) (now (columns .entry))) (now (input .entry)))
+        (levels p (now (blacks .entry)) (now (scales .entry)) (now (rows .entry)) (now (columns .entry)))
+        (now (input .entry)))
         (now (out .entry))
         ⌝ }
 {
@@ -363,7 +377,12 @@ fn rows_f32(
 // A loop with no branch and two levels that stay: vector code.
 fn pairs_u16(input: &[u16], out: &mut [f32], even: Level, odd: Level)
     requires { ⌜ length (now out) ≤ length (now input) ⌝ }
-    ensures { λ _. ⌜ now (out .exit) ≡ each (λ j v. pairRule 0 (wholeIn binary32) (now (input .entry)) noDelta even odd j) (now (out .entry)) ⌝ }
+    ensures { λ _. ⌜
+        now (out .exit)
+        ≡ each
+        (λ j v. pairRule 0 (wholeIn binary32) (now (input .entry)) noDelta even odd j)
+        (now (out .entry))
+        ⌝ }
 {
     let n = out.len();
     let end = n - n % 2;
@@ -384,8 +403,12 @@ fn pairs_u16(input: &[u16], out: &mut [f32], even: Level, odd: Level)
 // The same with a delta for each sample.
 fn delta_pairs_u16(input: &[u16], out: &mut [f32], deltas: &[f32], even: Level, odd: Level)
     requires { ⌜ (length (now out) ≤ length (now input)) × (length (now out) ≤ length (now deltas)) ⌝ }
-    ensures { λ _.
-        ⌜ now (out .exit) ≡ each (λ j v. pairRule 0 (wholeIn binary32) (now (input .entry)) (ownDelta (now (deltas .entry))) even odd j) (now (out .entry)) ⌝ }
+    ensures { λ _. ⌜
+        now (out .exit)
+        ≡ each
+        (λ j v. pairRule 0 (wholeIn binary32) (now (input .entry)) (ownDelta (now (deltas .entry))) even odd j)
+        (now (out .entry))
+        ⌝ }
 {
     let n = out.len();
     let end = n - n % 2;
@@ -415,7 +438,8 @@ fn delta_pairs_u16(input: &[u16], out: &mut [f32], deltas: &[f32], even: Level, 
     );
 }
 
-// The samples from `from` on that lie `step` apart, one level for all; their image columns lie `pitch` apart from x on.
+// The samples from `from` on that lie `step` apart, one level for all; their columns lie `pitch` apart, from image
+// column x on.
 fn strides_u16(
     input: &[u16],
     out: &mut [f32],
@@ -426,11 +450,12 @@ fn strides_u16(
     x: usize,
     pitch: usize,
 )
-    requires { ⌜ Strides from step pitch x (length (now out)) × (length (now out) ≤ length (now input)) ⌝ }
+    requires { ⌜ Stepped from step pitch x (length (now out)) × (length (now out) ≤ length (now input)) ⌝ }
     ensures { λ _. ⌜
         now (out .exit)
         ≡ each
-        (only (λ j. eqb (j % step) from) (stepRule 0 (wholeIn binary32) (now (input .entry)) a (now (columns .entry)) x pitch step))
+        (only (λ j. eqb (j % step) from)
+        (stepRule 0 (wholeIn binary32) (now (input .entry)) a (now (columns .entry)) x pitch step))
         (now (out .entry))
         ⌝ }
 {
@@ -448,7 +473,7 @@ fn strides_u16(
     }
 }
 
-// As many walks as the pattern has places in a row, or as the row has samples.
+// One after another, from each place of the first period of the row, or from each sample of a row that is shorter.
 fn all_strides_u16(
     input: &[u16],
     out: &mut [f32],
@@ -490,7 +515,7 @@ fn all_strides_u16(
     }
 }
 
-// One row, the image row y from image column x0 on. Pairs serve where every column has a delta of its own, or none has.
+// One row, the image row y from image column x0 on. Pairs serve where every column has a delta of its own, or none.
 fn row_u16(
     input: &[u16],
     out: &mut [f32],
@@ -554,7 +579,8 @@ fn rows_u16(
         now (out .exit)
         ≡ each
         (levelledAt 0 (wholeIn binary32) f
-        (levels p (now (blacks .entry)) (now (scales .entry)) (now (rows .entry)) (now (columns .entry))) (now (input .entry)))
+        (levels p (now (blacks .entry)) (now (scales .entry)) (now (rows .entry)) (now (columns .entry)))
+        (now (input .entry)))
         (now (out .entry))
         ⌝ }
 {
@@ -617,16 +643,31 @@ fn has_tables(p: Pattern, planes: usize, blacks: usize, scales: usize) -> bool
     fits(p, planes, blacks) & fits(p, planes, scales)
 }
 
+// How many samples a frame in range has.
+pub fn samples_of(f: Field) -> usize
+    requires { ⌜ fieldInRange f ≡ true ⌝ }
+    ensures { λ r. ⌜ r ≡ total f ⌝ }
+{
+    f.width * f.height * f.planes
+}
+
 fn has_samples(f: Field, input: usize, output: usize) -> bool
     requires { ⌜ fieldInRange f ≡ true ⌝ }
     ensures { λ r. ⌜ r ≡ sampled f input output ⌝ }
 {
-    let n = f.width * f.height * f.planes;
+    let n = samples_of(f);
     (n <= input) & (n <= output)
 }
 
-// 1, 60, 61, in that order.
-fn answer(f: Field, p: Pattern, blacks: usize, scales: usize, input: usize, output: usize) -> Black
+// 1, 60, 61, in that order: what a call answers, by the lengths of what it is lent.
+pub fn answer(
+    f: Field,
+    p: Pattern,
+    blacks: usize,
+    scales: usize,
+    input: usize,
+    output: usize,
+) -> Black
     ensures { λ r. ⌜ r ≡ answerOf f p blacks scales input output ⌝ }
 {
     if in_range(f) {
@@ -644,7 +685,7 @@ fn answer(f: Field, p: Pattern, blacks: usize, scales: usize, input: usize, outp
     }
 }
 
-fn is_done(a: Black) -> bool
+pub fn is_done(a: Black) -> bool
     ensures { λ r. ⌜ r ≡ isDone a ⌝ }
 {
     match a {

@@ -6,7 +6,7 @@ use borrow.Author.Needs.{needs}
 use lib.Ieee.{nan}
 use lib.ListN.{length}
 use Rattle.row_black.specs.Black.{levels}
-use Rattle.row_black.specs.Rows.{spotAt, rowRule, Strides}
+use Rattle.row_black.specs.Rows.{spotAt, rowRule, Stepped}
 use Rattle.row_black.proofs.Spots.{first-spot}
 use Rattle.row_black.proofs.Filling.{Spread, spread-start, spread-next, spread-end}
 use Rattle.row_black.proofs.Classes.{alike, spot-rule, period-fits, step-some, spot-tables, spot-next, spot-strides}
@@ -32,12 +32,19 @@ begun m = m .before .before .before .before .before .before .before .before .bef
 abbrev made : Turn → Made
 made t = t .before .before .before
 
+-- a turn whose walk is done, and one that has the next place
+abbrev walked : tie.After-slice-known2 Inv-loop μ-loop → tie.After-level-at Inv-loop μ-loop
+walked c = c .before .before .before .before
+
+abbrev gone : tie.After-next Inv-loop μ-loop → Turn
+gone c = walked (c .before) .before
+
 -- the place is one of the row's first
 early : (t : Turn) → t .before .loop .i ≤ 524288
 early t = omega (arith, t .loop-test .taken, made t .before .smaller .ensures, begun (made t) .pre .0 .short)
 
 mul-smaller : tie.Need-mul-smaller Inv-loop μ-loop
-mul-smaller c = omega (arith, period-fits (c .before .before .before .before .before .before .before .pre .0))
+mul-smaller c = let s = c .before .before .before .before .before .before .before in omega (arith, period-fits (s .pre .0))
 
 rem-t17 : tie.Need-rem-t17 Inv-loop μ-loop
 rem-t17 c = omega (arith, begun (c .before) .pre .0 .wide)
@@ -54,25 +61,25 @@ strides-f32-requires c κs =
     let a = t .before .loop in
     let m = made t in
     let s = begun m in (
-      subst (λ (n : ℕ). Strides (a .i) (m .before .smaller .result) (m .smaller2 .result) (a .s .column) n) (sym (a .inv .0 .same))
+      subst (λ (n : ℕ). Stepped (a .i) (m .before .smaller .result) (m .smaller2 .result) (a .s .column) n) (sym (a .inv .0 .same))
           (spot-strides (s .pre .0) (a .i) (a .inv .1) (m .before .smaller .ensures) (m .smaller2 .ensures) (t .loop-test .taken)),
       omega (arith, a .inv .0 .same, s .pre .1),
     )
 
 next-requires : tie.Need-next-requires Inv-loop μ-loop
 next-requires c κs =
-    let t = c .before .before .before .before .before in
+    let t = walked c .before in
     spot-next (begun (made t) .pre .0) (t .before .loop .i) (t .before .loop .inv .1) (early t)
 
 add-i : tie.Need-add-i Inv-loop μ-loop
-add-i c = omega (arith, early (c .before .before .before .before .before .before))
+add-i c = omega (arith, early (gone c))
 
 loop-less : tie.Need-loop-less Inv-loop μ-loop
-loop-less c = omega (arith, c .before .before .before .before .before .before .loop-test .taken)
+loop-less c = omega (arith, gone c .loop-test .taken)
 
 loop-again : tie.Need-loop-again Inv-loop μ-loop
 loop-again c =
-    let l = c .before .before .before .before .before in
+    let l = walked (c .before) in
     let t = l .before in
     let a = t .before .loop in
     let m = made t in

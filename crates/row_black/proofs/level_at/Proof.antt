@@ -1,36 +1,40 @@
 -- `level_at` meets its contract: the place lies in both tables. Assumes nothing.
-use mathlib.Core.Path.{ap}
 use native.Mathlib.Omega.{arith}
 use borrow.Author.Needs.{needs}
-use lib.Ieee.{Float}
-use Rattle.row_black.specs.declared.Level.{Level}
 use Rattle.row_black.proofs.Spots.{in-table, line-below}
 use Rattle.row_black.proofs.level_at.Statement.{statement}
 use Rattle.row_black.proofs.level_at.Tie as tie
 
+abbrev begun : tie.After-struct-known → tie.Start
+begun c = c .before .before .before .before
+
 mul-at : tie.Need-mul-at
-mul-at c = let s = c .before .before .before .before in omega (arith, line-below (s .args .y) (s .pre), s .pre .black)
+mul-at c = let s = begun c in omega (arith, line-below (s .args .y) (s .pre), s .pre .black)
 
 add-at : tie.Need-add-at
-add-at c = let s = c .before .before .before .before .before in omega (arith, line-below (s .args .y) (s .pre), s .pre .black)
+add-at c = let s = begun (c .before) in omega (arith, line-below (s .args .y) (s .pre), s .pre .black)
 
 mul-at-2 : tie.Need-mul-at-2
-mul-at-2 c = let s = c .before .before .before .before .before .before in omega (arith, in-table (s .args .y) (s .pre), s .pre .black)
+mul-at-2 c = let s = begun (c .before .before) in omega (arith, in-table (s .args .y) (s .pre), s .pre .black)
 
 add-at-2 : tie.Need-add-at-2
-add-at-2 c = let s = c .before .before .before .before .before .before in omega (arith, in-table (s .args .y) (s .pre), s .pre .black)
+add-at-2 c = let s = begun (c .before .before) in omega (arith, in-table (s .args .y) (s .pre), s .pre .black)
 
 mul-with-delta : tie.Need-mul-with-delta
-mul-with-delta c = let s = c .before .before .before .before .before .before in omega (arith, in-table (s .args .y) (s .pre), s .pre .black)
+mul-with-delta c = let s = begun (c .before .before) in omega (arith, in-table (s .args .y) (s .pre), s .pre .black)
 
 shared-slice-read-with-delta : tie.Need-shared-slice-read-with-delta
-shared-slice-read-with-delta c = let s = c .before .before .before .before .before .before .before in omega (arith, in-table (s .args .y) (s .pre), s .pre .black)
+shared-slice-read-with-delta c = let s = begun (c .before .before .before) in omega (arith, in-table (s .args .y) (s .pre), s .pre .black)
+
+-- the scale's table, once the black is there
+abbrev blacked : tie.After-with-delta → tie.After-struct-known
+blacked c = c .before .before .before .before
 
 mul-t12 : tie.Need-mul-t12
-mul-t12 c = let s = c .before .before .before .before .before .before .before .before in omega (arith, in-table (s .args .y) (s .pre), s .pre .scale)
+mul-t12 c = let s = begun (blacked c) in omega (arith, in-table (s .args .y) (s .pre), s .pre .scale)
 
 shared-slice-read-t17 : tie.Need-shared-slice-read-t17
-shared-slice-read-t17 c = let s = c .before .before .before .before .before .before .before .before .before in omega (arith, in-table (s .args .y) (s .pre), s .pre .scale)
+shared-slice-read-t17 c = let s = begun (blacked (c .before)) in omega (arith, in-table (s .args .y) (s .pre), s .pre .scale)
 
 returns : tie.Need-returns
 returns c = cc
