@@ -8,6 +8,8 @@
  * A buffer crosses as its first element and its length in elements. The pointer is not null and is aligned for its type, also where the
  * length is 0. No two buffers of a call overlap, and no other thread touches them until it returns; only the list is never written.
  *
+ * Black level has answers of its own: see the end of this file.
+ *
  * Answers (the field `number`)
  *     0  done
  *     1  a number is out of its range: width, height, stride and period at most 65,536; planes 1 to 8; x0, y0, full_width and
@@ -125,6 +127,63 @@ rolbhunga_numbers rolbhunga_bytes_u16(const uint8_t *list, size_t list_len, uint
 
 rolbhunga_row_numbers rolbhunga_bytes_row(const uint8_t *list, size_t list_len, uint8_t *bytes, size_t bytes_len,
                                           rolbhunga_row_window window, size_t y, float scale, float *work, size_t work_len);
+
+/* ---- Black level before list 2: from each sample the black of its image position is taken, and the rest is scaled.
+ *
+ * Answers of these functions alone
+ *     0  done
+ *     1  a number is out of its range: width and height at most 65,536; planes 1 to 8; x0 and y0 at most 16,777,216
+ *    60  the pattern's height or width is 0, or a table has fewer than planes * height * width entries
+ *    61  input or output has fewer than width * height * planes samples
+ *   100  `work` or `made` has fewer entries than that (the functions over bytes alone; tested after all others)
+ * They are tested in this order. On all but 0 the output is as it was; what stands behind the frame's samples always is. */
+#define ROLBHUNGA_TABLES 60u
+#define ROLBHUNGA_SAMPLES 61u
+
+/* width by height pixels of `planes` samples each, rows without gaps, the corner at (x0, y0) of the image. */
+typedef struct rolbhunga_field {
+    size_t width;
+    size_t height;
+    size_t planes;
+    size_t x0;
+    size_t y0;
+} rolbhunga_field;
+
+/* The pattern of black and scale, which starts at the image's corner and repeats. */
+typedef struct rolbhunga_pattern {
+    size_t height;
+    size_t width;
+} rolbhunga_pattern;
+
+/* Sample v of plane k at image row y and image column x becomes (v - black) * scale, at least 0: a NaN becomes 0, and a zero
+ * is +0. blacks, scales: a table for each plane, one behind another, each row after row; the entry is that of row y % height,
+ * column x % width. rows, columns: deltas of image rows and image columns, added to black in this order; an empty list adds
+ * nothing, a missing entry 0. Each operation is rounded to float. A part of a frame, with its own x0 and y0, becomes what it
+ * becomes in the frame. Input and output do not overlap. */
+uint32_t rolbhunga_black_f32(const float *input, size_t input_len, float *out, size_t out_len, rolbhunga_field field,
+                             rolbhunga_pattern pattern, const float *blacks, size_t blacks_len, const float *scales,
+                             size_t scales_len, const float *rows, size_t rows_len, const float *columns,
+                             size_t columns_len);
+
+/* The same from u16 samples, widened. */
+uint32_t rolbhunga_black_u16(const uint16_t *input, size_t input_len, float *out, size_t out_len, rolbhunga_field field,
+                             rolbhunga_pattern pattern, const float *blacks, size_t blacks_len, const float *scales,
+                             size_t scales_len, const float *rows, size_t rows_len, const float *columns,
+                             size_t columns_len);
+
+/* The same on samples that stand in bytes, little-endian, the output as f32. `work` and `made` are typed room, an entry for
+ * each of the frame's samples; both hold only zeros at every return. */
+uint32_t rolbhunga_bytes_black_f32(const uint8_t *input, size_t input_len, uint8_t *out, size_t out_len,
+                                   rolbhunga_field field, rolbhunga_pattern pattern, const float *blacks,
+                                   size_t blacks_len, const float *scales, size_t scales_len, const float *rows,
+                                   size_t rows_len, const float *columns, size_t columns_len, float *work,
+                                   size_t work_len, float *made, size_t made_len);
+
+uint32_t rolbhunga_bytes_black_u16(const uint8_t *input, size_t input_len, uint8_t *out, size_t out_len,
+                                   rolbhunga_field field, rolbhunga_pattern pattern, const float *blacks,
+                                   size_t blacks_len, const float *scales, size_t scales_len, const float *rows,
+                                   size_t rows_len, const float *columns, size_t columns_len, uint16_t *work,
+                                   size_t work_len, float *made, size_t made_len);
 
 #ifdef __cplusplus
 }

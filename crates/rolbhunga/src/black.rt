@@ -1,5 +1,6 @@
 // Black level before list 2, as C and Rust call it: document 02's number for the answer (M-109). The forms over bytes
-// are lent typed room for the frame's samples, as they are and as they become; too little of it is 100, after the others.
+// are lent typed room for the frame's samples, as they are and as they become; too little of it is 100, after the
+// others.
 use row_black::Field;
 use row_black::Pattern;
 ghost use mathlib.Core.Path.{_≡_};

@@ -64,17 +64,16 @@ module _ (planes width x0 i : ℕ) (s : Spot) (here : s ≡ spotAt planes width 
 
 -- ---- a place in a table
 
-module _ {p : Pattern} {k c b s : ℕ} (y : ℕ) (t : InTables p k c b s) where
-  line : k * p .height + y % p .height < t .planes * p .height
-  line = digits-lt (t .plane) (mod-lt y (t .tall))
+module _ {p : Pattern} {k c b s : ℕ} (y line : ℕ) (t : InTables p k c b s) (here : line ≡ y % p .height) where
+  in-line : k * p .height + line < t .planes * p .height
+  in-line = digits-lt (t .plane) (omega (arith, here, mod-lt y (t .tall)))
 
-  pub in-table : (k * p .height + y % p .height) * p .width + c < t .planes * p .height * p .width
-  in-table = digits-lt line (t .column)
+  pub in-table : (k * p .height + line) * p .width + c < t .planes * p .height * p .width
+  in-table = digits-lt in-line (t .column)
 
   -- the products on the way to it are no larger
-  pub line-below : k * p .height + y % p .height < t .planes * p .height * p .width
-  line-below =
-      omega (arith, in-table, mul-le-mul-right {m = 1} {n = p .width} (k * p .height + y % p .height) (t-wide), one-mul (k * p .height + y % p .height))
+  pub line-below : k * p .height + line < t .planes * p .height * p .width
+  line-below = omega (arith, in-table, mul-le-mul-right {m = 1} {n = p .width} (k * p .height + line) t-wide, one-mul (k * p .height + line))
     where
       t-wide : 1 ≤ p .width
       t-wide = omega (arith, t .column)

@@ -96,20 +96,21 @@ fn with_delta(deltas: &[f32], i: usize, b: f32) -> f32
     }
 }
 
-// The level of plane k in the pattern's column c and the line of image row y, before the column's delta.
+// The level of plane k in the pattern's line and column c, before the column's delta. The line is that of image row y.
 fn level_at(
     p: Pattern,
     k: usize,
     y: usize,
+    line: usize,
     c: usize,
     blacks: &[f32],
     scales: &[f32],
     rows: &[f32],
 ) -> Level
-    requires { ⌜ InTables p k c (length (now blacks)) (length (now scales)) ⌝ }
+    requires { ⌜ InTables p k c (length (now blacks)) (length (now scales)) × (line ≡ y % p .height) ⌝ }
     ensures { λ r. ⌜ r ≡ levelIn p (now (blacks .entry)) (now (scales .entry)) (now (rows .entry)) y c k ⌝ }
 {
-    let at = (k * p.height + y % p.height) * p.width + c;
+    let at = (k * p.height + line) * p.width + c;
     Level {
         black: with_delta(rows, y, blacks[at]),
         scale: scales[at],
@@ -267,6 +268,7 @@ fn all_strides_f32(
     let n = out.len();
     let step = smaller(p.width * planes, n);
     let pitch = smaller(p.width, n);
+    let line = y % p.height;
     let mut s = Spot {
         plane: 0,
         column: x0,
@@ -274,7 +276,7 @@ fn all_strides_f32(
     };
     let mut i = 0;
     while i < step {
-        let a = level_at(p, s.plane, y, s.entry, blacks, scales, rows);
+        let a = level_at(p, s.plane, y, line, s.entry, blacks, scales, rows);
         strides_f32(input, out, i, step, a, columns, s.column, pitch);
         s = next(s, planes, p.width);
         i += 1;
@@ -307,8 +309,9 @@ fn row_f32(
         ⌝ }
 {
     if is_paired(p, planes) {
-        let even = level_at(p, 0, y, x0 % p.width, blacks, scales, rows);
-        let odd = level_at(p, 0, y, (x0 + 1) % p.width, blacks, scales, rows);
+        let line = y % p.height;
+        let even = level_at(p, 0, y, line, x0 % p.width, blacks, scales, rows);
+        let odd = level_at(p, 0, y, line, (x0 + 1) % p.width, blacks, scales, rows);
         if columns.len() <= x0 {
             pairs_f32(
                 input,
@@ -501,6 +504,7 @@ fn all_strides_u16(
     let n = out.len();
     let step = smaller(p.width * planes, n);
     let pitch = smaller(p.width, n);
+    let line = y % p.height;
     let mut s = Spot {
         plane: 0,
         column: x0,
@@ -508,7 +512,7 @@ fn all_strides_u16(
     };
     let mut i = 0;
     while i < step {
-        let a = level_at(p, s.plane, y, s.entry, blacks, scales, rows);
+        let a = level_at(p, s.plane, y, line, s.entry, blacks, scales, rows);
         strides_u16(input, out, i, step, a, columns, s.column, pitch);
         s = next(s, planes, p.width);
         i += 1;
@@ -541,8 +545,9 @@ fn row_u16(
         ⌝ }
 {
     if is_paired(p, planes) {
-        let even = level_at(p, 0, y, x0 % p.width, blacks, scales, rows);
-        let odd = level_at(p, 0, y, (x0 + 1) % p.width, blacks, scales, rows);
+        let line = y % p.height;
+        let even = level_at(p, 0, y, line, x0 % p.width, blacks, scales, rows);
+        let odd = level_at(p, 0, y, line, (x0 + 1) % p.width, blacks, scales, rows);
         if columns.len() <= x0 {
             pairs_u16(
                 input,
