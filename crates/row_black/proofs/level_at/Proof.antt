@@ -25,7 +25,9 @@ mul-with-delta : tie.Need-mul-with-delta
 mul-with-delta c = let s = begun (c .before) in omega (arith, in-table (s .args .y) (s .args .line) (s .pre .0) (s .pre .1), s .pre .0 .black)
 
 shared-slice-read-with-delta : tie.Need-shared-slice-read-with-delta
-shared-slice-read-with-delta c = let s = begun (c .before .before) in omega (arith, in-table (s .args .y) (s .args .line) (s .pre .0) (s .pre .1), s .pre .0 .black)
+shared-slice-read-with-delta c =
+    let s = begun (c .before .before) in
+    omega (arith, in-table (s .args .y) (s .args .line) (s .pre .0) (s .pre .1), s .pre .0 .black)
 
 mul-t12 : tie.Need-mul-t12
 mul-t12 c = let s = begun (c .before .before .before) in omega (arith, in-table (s .args .y) (s .args .line) (s .pre .0) (s .pre .1), s .pre .0 .scale)
