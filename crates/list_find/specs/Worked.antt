@@ -181,9 +181,10 @@ pub record Limit : Type 0 where
   pub entry-over : foundIn (twice (sub true 1 38)) List1 ≡ TooMany
   -- offsets that lie outside are met before the 65th directory is gone to
   pub entry-outside : foundIn (twice (sub true 9 99999)) List1 ≡ Outside
-  -- a 65th, also where it would not be whole; offset 0 does not count
+  -- a 65th, also where it would not be whole; offset 0 does not count, neither before the 64th nor behind it
   pub over : foundIn (again 63 26 0) List1 ≡ TooMany
   pub unseen : foundIn (again 63 99999 0) List1 ≡ TooMany
+  pub uncounted : foundIn (again 62 0 26) List1 ≡ Missing
   pub zero : foundIn (again 63 0 0) List1 ≡ Missing
   -- the 64th, where it is not whole
   pub last : foundIn (again 62 99999 0) List1 ≡ Outside
@@ -315,6 +316,7 @@ limit =
       entry-outside = refl;
       over = refl;
       unseen = refl;
+      uncounted = refl;
       zero = refl;
       last = refl;
     }
