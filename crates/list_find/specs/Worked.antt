@@ -200,7 +200,17 @@ pub record Numbers : Type 0 where
 pub header : Header
 unfolding big little whole valueAt inside isList isSubs listAt ownFrom visit subOf subsFrom subsAt anySubs allSubs
     directory chain headed foundIn
-header = record { empty = refl; short = refl; other = refl; turned = refl; turned-back = refl; mixed = refl; none = refl; low = refl }
+header =
+    record {
+      empty = refl;
+      short = refl;
+      other = refl;
+      turned = refl;
+      turned-back = refl;
+      mixed = refl;
+      none = refl;
+      low = refl;
+    }
 
 own : (most : Bool) → Own most
 unfolding big little whole valueAt inside isList isSubs listAt ownFrom visit subOf subsFrom subsAt anySubs allSubs
