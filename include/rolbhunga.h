@@ -139,9 +139,8 @@ rolbhunga_row_numbers rolbhunga_bytes_row(const uint8_t *list, size_t list_len, 
  *     0  found: the list is the `length` bytes of the file from `start` on
  *     1  `which` is not 1, 2 or 3
  *    30  not a TIFF file: not II or MM, 42 and the offset of a first directory
- *    31  an offset or a size lies outside the file: of a directory that is gone to, of the list, or of an entry's
- *    SubIFD
- *        offsets
+ *    31  an offset or a size lies outside the file: of a directory that is gone to, of the list, or of the offsets that
+ *        an entry has of SubIFDs
  *    32  more than 64 directories: each one gone to counts, also where it is gone to again; the 65th is not looked at
  *    33  no such list, after all directories
  * `start` and `length` are 0 in all but 0. */

@@ -63,6 +63,7 @@ pub record Header : Type 0 where
   pub other : foundIn (77 ∷ 77 ∷ 0 ∷ 43 ∷ 0 ∷ 0 ∷ 0 ∷ 0 ∷ []) List1 ≡ NotTiff
   -- 42 in the other order; two letters that differ
   pub turned : foundIn (77 ∷ 77 ∷ 42 ∷ 0 ∷ 0 ∷ 0 ∷ 0 ∷ 0 ∷ []) List1 ≡ NotTiff
+  pub turned-back : foundIn (73 ∷ 73 ∷ 0 ∷ 42 ∷ 0 ∷ 0 ∷ 0 ∷ 0 ∷ []) List1 ≡ NotTiff
   pub mixed : foundIn (73 ∷ 77 ∷ 42 ∷ 0 ∷ 0 ∷ 0 ∷ 0 ∷ 0 ∷ []) List1 ≡ NotTiff
   -- offset 0 ends the chain, also the first
   pub none : foundIn (head false 0) List1 ≡ Missing
@@ -83,11 +84,13 @@ pub record Own (most : Bool) : Type 0 where
   pub nothing : found most (dir1 most (list1 most 0) 0) ≡ At 18 0
   -- a list may stand at offset 0
   pub first : found most (dir1 most (entry most 51008 7 5 0) 0) ≡ At 0 5
-  -- offset and size are added without wrapping
-  pub far : found most (dir1 most (entry most 51008 7 4294967295 4294967295) 0) ≡ Outside
-  -- types 7 and 1; another is passed over
+  -- offset and size are added without wrapping: in 32 bits the sum would be 4
+  pub far : found most (dir1 most (entry most 51008 7 5 4294967295) 0) ≡ Outside
+  -- types 7 and 1; another is passed over, those of SubIFDs too
   pub bytes : found most (dir1 most (entry most 51008 1 4 0) 0) ≡ At 18 4
   pub ascii : found most (dir2 most (entry most 51008 2 4 0) (list1 most 3) 0) ≡ At 30 3
+  pub long : found most (dir2 most (entry most 51008 4 1 0) (list1 most 3) 0) ≡ At 30 3
+  pub ifd : found most (dir2 most (entry most 51008 13 1 0) (list1 most 3) 0) ≡ At 30 3
   -- the first one of a right type decides, also where it lies outside
   pub decides : found most (dir2 most (entry most 51008 7 5 99) (list1 most 3) 0) ≡ Outside
   -- an entry of another tag is not looked into
@@ -111,21 +114,31 @@ pub record Subs (most : Bool) : Type 0 where
   -- type 13 as well as 4, and no other
   pub ifd : found most (dir1 most (entry most 330 13 1 26) 0 ++ dir1 most (list1 most 2) 0) ≡ At 36 2
   pub short : found most (dir1 most (entry most 330 3 1 26) 0 ++ dir1 most (list1 most 2) 0) ≡ Missing
+  pub bytes : found most (dir1 most (entry most 330 1 4 26) 0 ++ dir1 most (list1 most 2) 0) ≡ Missing
+  pub undefined : found most (dir1 most (entry most 330 7 4 26) 0 ++ dir1 most (list1 most 2) 0) ≡ Missing
+  -- a count of 0: there are none
+  pub none : found most (dir1 most (sub most 0 26) 0 ++ dir1 most (list1 most 2) 0) ≡ Missing
   -- own entries come first, whatever stands before them
   pub own-first : found most (dir2 most (sub most 1 38) (list1 most 3) 0 ++ dir1 most (list1 most 2) 0) ≡ At 30 3
   pub outside : found most (dir2 most (sub most 9 99) (list1 most 3) 0) ≡ At 30 3
   -- then the SubIFDs, before the next directory: list 1 of two bytes in the SubIFD, of three in the next
   pub before-next :
       found most (dir1 most (sub most 1 44) 26 ++ dir1 most (list1 most 3) 0 ++ dir1 most (list1 most 2) 0) ≡ At 54 2
+  -- and behind them the next directory, whose SubIFDs are gone to as well
+  pub then-next : found most (dir1 most (sub most 1 26) 32 ++ dir0 most 0 ++ dir1 most (list1 most 2) 0) ≡ At 42 2
+  pub of-next : found most (dir0 most 14 ++ dir1 most (sub most 1 32) 0 ++ dir1 most (list1 most 2) 0) ≡ At 42 2
   -- several, in order, from where they stand; offset 0 is passed over
   pub array :
       found most
       (dir1 most (sub most 3 26) 0 ++ fours most (0 ∷ 38 ∷ 44 ∷ []) ++ dir0 most 0 ++ dir1 most (list1 most 2) 0)
       ≡ At 54 2
+  -- the first of them is gone to before the second is looked at
+  pub in-turn :
+      found most (dir1 most (sub most 2 44) 0 ++ dir1 most (list1 most 2) 0 ++ fours most (26 ∷ 99999 ∷ [])) ≡ At 36 2
   -- two entries, in order
   pub both :
       found most (dir2 most (sub most 1 38) (sub most 1 44) 0 ++ dir0 most 0 ++ dir1 most (list1 most 2) 0) ≡ At 54 2
-  -- the first of them is gone to before the second is looked at
+  -- the first of them too
   pub first-found :
       found most (dir2 most (sub most 1 38) (sub most 9 99) 0 ++ dir1 most (list1 most 2) 0) ≡ At 48 2
   pub first-outside :
@@ -141,10 +154,15 @@ pub record Subs (most : Bool) : Type 0 where
   -- a SubIFD that is not whole
   pub cut : found most (dir1 most (sub most 1 26) 0) ≡ Outside
 
--- a first directory at 8 whose n SubIFDs are the one at 26 again and again, and one more at an offset of its own
-abbrev again : (n last : ℕ) → List ℕ
-again n last =
-    head true 8 ++ dir1 true (sub true (n + 1) 32) 0 ++ dir0 true 0 ++ fours true (replicate n 26) ++ four true last
+-- a first directory at 8 whose n SubIFDs are the one at 26 again and again, and one more at an offset of its own, and
+-- its next offset
+abbrev again : (n last next : ℕ) → List ℕ
+again n last next =
+    head true 8 ++ dir1 true (sub true (n + 1) 32) next ++ dir0 true 0 ++ fours true (replicate n 26) ++ four true last
+
+-- a first directory at 8 whose first entry has 63 SubIFDs, the one at 38 again and again, and a second entry
+abbrev twice : List ℕ → List ℕ
+twice e = head true 8 ++ dir2 true (sub true 63 44) e 0 ++ dir0 true 0 ++ fours true (replicate 63 38)
 
 -- n directories of no entries, each the next one of the one before, from `at` on
 abbrev links : (n at : ℕ) → List ℕ
@@ -156,13 +174,20 @@ pub record Limit : Type 0 where
   pub chain64 : foundIn (head true 8 ++ links 63 8) List1 ≡ Missing
   pub chain65 : foundIn (head true 8 ++ links 64 8) List1 ≡ TooMany
   -- every visit counts, also to one directory again: 64 with the first, and none asked for
-  pub full : foundIn (again 62 26) List1 ≡ Missing
-  -- a 65th, also where it would not be whole; offset 0 does not count
-  pub over : foundIn (again 63 26) List1 ≡ TooMany
-  pub unseen : foundIn (again 63 99999) List1 ≡ TooMany
-  pub zero : foundIn (again 63 0) List1 ≡ Missing
+  pub full : foundIn (again 62 26 0) List1 ≡ Missing
+  -- SubIFDs count where the chain goes on, and those of one entry where the next is looked at
+  pub chain-full : foundIn (again 61 26 26) List1 ≡ Missing
+  pub chain-over : foundIn (again 62 26 26) List1 ≡ TooMany
+  pub entry-over : foundIn (twice (sub true 1 38)) List1 ≡ TooMany
+  -- offsets that lie outside are met before the 65th directory is gone to
+  pub entry-outside : foundIn (twice (sub true 9 99999)) List1 ≡ Outside
+  -- a 65th, also where it would not be whole; offset 0 does not count, neither before the 64th nor behind it
+  pub over : foundIn (again 63 26 0) List1 ≡ TooMany
+  pub unseen : foundIn (again 63 99999 0) List1 ≡ TooMany
+  pub uncounted : foundIn (again 62 0 26) List1 ≡ Missing
+  pub zero : foundIn (again 63 0 0) List1 ≡ Missing
   -- the 64th, where it is not whole
-  pub last : foundIn (again 62 99999) List1 ≡ Outside
+  pub last : foundIn (again 62 99999 0) List1 ≡ Outside
 
 pub record Numbers : Type 0 where
   pub found : numberOf (At 5 4) ≡ 0
@@ -175,7 +200,17 @@ pub record Numbers : Type 0 where
 pub header : Header
 unfolding big little whole valueAt inside isList isSubs listAt ownFrom visit subOf subsFrom subsAt anySubs allSubs
     directory chain headed foundIn
-header = record { empty = refl; short = refl; other = refl; turned = refl; mixed = refl; none = refl; low = refl }
+header =
+    record {
+      empty = refl;
+      short = refl;
+      other = refl;
+      turned = refl;
+      turned-back = refl;
+      mixed = refl;
+      none = refl;
+      low = refl;
+    }
 
 own : (most : Bool) → Own most
 unfolding big little whole valueAt inside isList isSubs listAt ownFrom visit subOf subsFrom subsAt anySubs allSubs
@@ -193,6 +228,8 @@ own true =
       far = refl;
       bytes = refl;
       ascii = refl;
+      long = refl;
+      ifd = refl;
       decides = refl;
       unread = refl;
     }
@@ -209,6 +246,8 @@ own false =
       far = refl;
       bytes = refl;
       ascii = refl;
+      long = refl;
+      ifd = refl;
       decides = refl;
       unread = refl;
     }
@@ -229,10 +268,16 @@ subs true =
       one = refl;
       ifd = refl;
       short = refl;
+      bytes = refl;
+      undefined = refl;
+      none = refl;
       own-first = refl;
       outside = refl;
       before-next = refl;
+      then-next = refl;
+      of-next = refl;
       array = refl;
+      in-turn = refl;
       both = refl;
       first-found = refl;
       first-outside = refl;
@@ -247,10 +292,16 @@ subs false =
       one = refl;
       ifd = refl;
       short = refl;
+      bytes = refl;
+      undefined = refl;
+      none = refl;
       own-first = refl;
       outside = refl;
       before-next = refl;
+      then-next = refl;
+      of-next = refl;
       array = refl;
+      in-turn = refl;
       both = refl;
       first-found = refl;
       first-outside = refl;
@@ -264,7 +315,21 @@ subs false =
 limit : Limit
 unfolding big little whole valueAt inside isList isSubs listAt ownFrom visit subOf subsFrom subsAt anySubs allSubs
     directory chain headed foundIn
-limit = record { chain64 = refl; chain65 = refl; full = refl; over = refl; unseen = refl; zero = refl; last = refl }
+limit =
+    record {
+      chain64 = refl;
+      chain65 = refl;
+      full = refl;
+      chain-full = refl;
+      chain-over = refl;
+      entry-over = refl;
+      entry-outside = refl;
+      over = refl;
+      unseen = refl;
+      uncounted = refl;
+      zero = refl;
+      last = refl;
+    }
 
 numbers : Numbers
 numbers = record { found = refl; tiff = refl; outside = refl; many = refl; missing = refl; part = refl }
