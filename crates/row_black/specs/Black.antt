@@ -79,6 +79,10 @@ fieldInRange f =
     && (leb 1 (f .planes) && (leb (f .planes) 8
     && (leb (f .x0) 16777216 && leb (f .y0) 16777216))))
 
+-- how many samples a frame has, none if it is out of range
+unfoldable pub samplesIn : Field → ℕ
+samplesIn f = cond (fieldInRange f) (total f) 0
+
 -- a table of n entries has one for each place of the pattern and each plane
 abbrev pub holds : Pattern → (planes n : ℕ) → Bool
 holds p planes n = leb (planes * p .height * p .width) n

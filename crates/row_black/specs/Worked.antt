@@ -4,14 +4,13 @@ use mathlib.Core.Bool.{Bool, true, false}
 use mathlib.Core.List.{List, [], _∷_}
 use mathlib.Core.Path.{_≡_, refl}
 use lib.Ieee.{Float, nan, inf, binary32, ofBits, ofInt, round, add, sub, mul, lt}
-use lib.ListN.{replicate}
 use Rattle.pointwise.specs.Points.{each}
 use Rattle.num_convert.specs.Convert.{wholeIn}
 use Rattle.dng.specs.Value.{nought}
 use Rattle.row_black.specs.declared.Field.{Field}
 use Rattle.row_black.specs.declared.Pattern.{Pattern}
 use Rattle.row_black.specs.declared.Black.the-variants.{Done, Range, Tables, Samples}
-use Rattle.row_black.specs.Black.{Levels, levels, withDelta, blackAt, levelledBy, levelled, levelledAt, fieldInRange, tabled, sampled, answerOf, BlackOut, blackOut}
+use Rattle.row_black.specs.Black.{Levels, levels, withDelta, blackAt, levelledBy, levelled, levelledAt, fieldInRange, samplesIn, tabled, sampled, answerOf, numberOf, BlackOut, blackOut}
 
 abbrev w : ℕ → Float
 w n = wholeIn binary32 n
@@ -87,12 +86,13 @@ values = record {
 
 -- ---- tables
 
--- two planes of a pattern of 2 lines and 3 columns, each entry 100 times its plane, 10 times its line, and its column
+-- two planes of a pattern of 2 lines and 3 columns: each black is 100 times its plane, 10 times its line, and its
+-- column; no two scales are alike
 abbrev numbered : Levels
 numbered =
     levels (size 2 3)
     (w 0 ∷ w 1 ∷ w 2 ∷ w 10 ∷ w 11 ∷ w 12 ∷ w 100 ∷ w 101 ∷ w 102 ∷ w 110 ∷ w 111 ∷ w 112 ∷ [])
-    (replicate 12 (w 1)) [] []
+    (w 3 ∷ w 5 ∷ w 7 ∷ w 11 ∷ w 13 ∷ w 17 ∷ w 19 ∷ w 23 ∷ w 29 ∷ w 31 ∷ w 37 ∷ w 41 ∷ []) [] []
 
 pub record Places : Type 0 where
   -- plane after plane, each row after row, and the pattern again and again from the image's corner on
@@ -100,18 +100,31 @@ pub record Places : Type 0 where
   pub row-after-row : blackAt numbered 1 0 0 ≡ w 10
   pub last : blackAt numbered 1 2 1 ≡ w 112
   pub again : blackAt numbered 5 7 1 ≡ w 111
+  -- the scale is that of the same place: row 5, column 7, plane 1 have the eleventh, (113 − 111)·37
+  pub scale : levelled numbered 5 7 1 (w 113) ≡ w 74
+  pub scale-of-a-line : levelled numbered 1 0 0 (w 12) ≡ w 22
+  pub scale-of-a-plane : levelled numbered 0 0 1 (w 102) ≡ w 38
 
 pub places : Places
-unfolding blackAt withDelta ofInt round
-places = record { plane-after-plane = refl; row-after-row = refl; last = refl; again = refl }
+unfolding blackAt levelled levelledBy withDelta sub mul lt ofInt round
+places = record {
+  plane-after-plane = refl;
+  row-after-row = refl;
+  last = refl;
+  again = refl;
+  scale = refl;
+  scale-of-a-line = refl;
+  scale-of-a-plane = refl;
+}
 
 -- ---- frames
 
--- 2 by 1 pixels at (2, 1), two planes: columns 2 and 0 of the pattern's second line. What stands behind the frame stays
+-- 2 by 1 pixels at (2, 1), two planes: columns 2 and 0 of the pattern's second line, scales 17 and 41, 11 and 31. What
+-- stands behind the frame stays
 pub framed :
-    each (levelledAt nan (λ x. x) (field 2 1 2 2 1) numbered (w 50 ∷ w 160 ∷ w 70 ∷ w 180 ∷ []))
+    each (levelledAt nan (λ x. x) (field 2 1 2 2 1) numbered (w 13 ∷ w 114 ∷ w 13 ∷ w 114 ∷ []))
     (nan ∷ nan ∷ nan ∷ nan ∷ w 9 ∷ [])
-    ≡ w 38 ∷ w 48 ∷ w 60 ∷ w 70 ∷ w 9 ∷ []
+    ≡ w 17 ∷ w 82 ∷ w 33 ∷ w 124 ∷ w 9 ∷ []
 unfolding each levelledAt levelled levelledBy blackAt withDelta sub mul lt ofInt round
 framed = refl
 
@@ -137,6 +150,19 @@ unfolding blackOut answerOf fieldInRange tabled sampled
 refused = refl
 
 -- ---- answers
+
+pub record Numbers : Type 0 where
+  pub done : numberOf Done ≡ 0
+  pub range : numberOf Range ≡ 1
+  pub tables : numberOf Tables ≡ 60
+  pub samples : numberOf Samples ≡ 61
+  -- 2·3·2 samples, and none where a number is out of range
+  pub twelve : samplesIn (field 2 3 2 5 7) ≡ 12
+  pub none : samplesIn (field 2 3 9 5 7) ≡ 0
+
+pub numbers : Numbers
+unfolding samplesIn fieldInRange
+numbers = record { done = refl; range = refl; tables = refl; samples = refl; twelve = refl; none = refl }
 
 pub record Answers : Type 0 where
   -- the ends of the ranges

@@ -18,6 +18,7 @@ ghost use Rattle.row_black.specs.Black.{
   levelledAt,
   total,
   fieldInRange,
+  samplesIn,
   holds,
   tabled,
   sampled,
@@ -648,19 +649,25 @@ fn has_tables(p: Pattern, planes: usize, blacks: usize, scales: usize) -> bool
     fits(p, planes, blacks) & fits(p, planes, scales)
 }
 
-// How many samples a frame in range has.
-pub fn samples_of(f: Field) -> usize
+fn total_of(f: Field) -> usize
     requires { ⌜ fieldInRange f ≡ true ⌝ }
     ensures { λ r. ⌜ r ≡ total f ⌝ }
 {
     f.width * f.height * f.planes
 }
 
+// How many samples a frame has, none if it is out of range: its product could wrap.
+pub fn samples_of(f: Field) -> usize
+    ensures { λ r. ⌜ r ≡ samplesIn f ⌝ }
+{
+    if in_range(f) { total_of(f) } else { 0 }
+}
+
 fn has_samples(f: Field, input: usize, output: usize) -> bool
     requires { ⌜ fieldInRange f ≡ true ⌝ }
     ensures { λ r. ⌜ r ≡ sampled f input output ⌝ }
 {
-    let n = samples_of(f);
+    let n = total_of(f);
     (n <= input) & (n <= output)
 }
 

@@ -7,7 +7,7 @@ use Rattle.row_black.proofs.has_samples.Tie as tie
 
 returns : tie.Need-returns
 unfolding sampled
-returns c = rw (c .samples-of .ensures) refl
+returns c = rw (c .total-of .ensures) refl
 
 pub has-samples-spec : {M : Type 1} → statement M
 has-samples-spec = tie.close (tie.spec (λ c κs. search needs) returns)
