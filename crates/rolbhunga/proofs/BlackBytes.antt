@@ -20,7 +20,7 @@ use Rattle.row_black.specs.declared.Field.{Field}
 use Rattle.row_black.specs.declared.Pattern.{Pattern}
 use Rattle.row_black.specs.declared.Black.{Black}
 use Rattle.row_black.specs.declared.Black.the-variants.{Done}
-use Rattle.row_black.specs.Black.{Levels, total, levelledAt, fieldInRange, sampled, answerOf, numberOf, isDone, BlackOut, blackOut, Levelled}
+use Rattle.row_black.specs.Black.{Levels, total, levelledAt, fieldInRange, samplesIn, sampled, answerOf, numberOf, isDone, BlackOut, blackOut, Levelled}
 use Rattle.row_black.proofs.Refusals.{Goes, goes}
 use Rattle.row_black.proofs.Calls.{done-is}
 use Rattle.row_black.proofs.Theorems.{exactly-when}
@@ -141,8 +141,10 @@ pub done-answer : (f : Field) (p : Pattern) (b s input output : ℕ) {a : Black}
     → answerOf f p b s input output ≡ Done
 done-answer f p b s input output {a} e d = sym e ∙ done-is a d
 
-pub done-range : (f : Field) (p : Pattern) (b s input output : ℕ) → answerOf f p b s input output ≡ Done → fieldInRange f ≡ true
-done-range f p b s input output e = exactly-when f p b s input output Done .0 e .0
+-- where the call is not refused, its count is the frame's
+pub samples-are : (f : Field) (p : Pattern) (b s input output : ℕ) {n : ℕ} → answerOf f p b s input output ≡ Done → n ≡ samplesIn f → n ≡ total f
+unfolding samplesIn
+samples-are f p b s input output e counted = counted ∙ ap (λ (t : Bool). cond t (total f) 0) (exactly-when f p b s input output Done .0 e .0)
 
 module _ (o : BlackOut) (n : ℕ) (old : List ℕ) (work made : ℕ) {a : Black} (given : a ≡ o .answer) where
   done-too : {d : Bool} → isDone a ≡ d → isDone (o .answer) ≡ d

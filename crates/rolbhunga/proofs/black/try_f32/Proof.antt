@@ -12,7 +12,7 @@ use Rattle.run_bytes.specs.Samples.{floatAt}
 use Rattle.row_black.specs.declared.Black.the-variants.{Done}
 use Rattle.row_black.specs.Black.{levels, total, answerOf, isDone, BlackOut}
 use Rattle.rolbhunga.proofs.Rows.{part-length}
-use Rattle.rolbhunga.proofs.BlackBytes.{outIn, answer-in, done-answer, done-range, put-refused, short-work, short-made, put-done}
+use Rattle.rolbhunga.proofs.BlackBytes.{outIn, answer-in, done-answer, samples-are, put-refused, short-work, short-made, put-done}
 use Rattle.rolbhunga.proofs.black.try_f32.Statement.{statement}
 use Rattle.rolbhunga.proofs.black.try_f32.Tie as tie
 
@@ -55,10 +55,12 @@ Roomy = tie.Else3
 abbrev counted : Roomy → tie.After-samples-of
 counted c = c .before .before
 
-samples-of-requires : tie.Need-samples-of-requires
-samples-of-requires c κs =
-    let v = begun (c .before .before) .args in
-    done-range (v .f) (v .p) (length (v .blacks .now)) (length (v .scales .now)) (length (v .input .now) / 4) (length (v .bytes .now) / 4) (fine c)
+-- what was counted are the frame's samples
+size : (c : tie.After-samples-of) → c .samples-of .result ≡ total (begun (c .before .before .before) .args .f)
+size c =
+    let v = begun (c .before .before .before) .args in
+    samples-are (v .f) (v .p) (length (v .blacks .now)) (length (v .scales .now)) (length (v .input .now) / 4) (length (v .bytes .now) / 4)
+    (fine (c .before)) (c .samples-of .ensures)
 
 returns : tie.Need-returns
 returns c =
@@ -67,7 +69,7 @@ returns c =
     let a = t .before .before in
     let v = begun a .args in
     short-work (whole a) (total (v .f)) (v .bytes .now) (length (v .work .now)) (length (v .made .now)) (given a) (goes-on t)
-    (omega (arith, n .samples-of .ensures, c .if2 .taken))
+    (omega (arith, size n, c .if2 .taken))
 
 returns-2 : tie.Need-returns-2
 returns-2 c =
@@ -76,7 +78,7 @@ returns-2 c =
     let a = t .before .before in
     let v = begun a .args in
     short-made (whole a) (total (v .f)) (v .bytes .now) (length (v .work .now)) (length (v .made .now)) (given a) (goes-on t)
-    (omega (arith, n .samples-of .ensures, c .before .if2 .left)) (omega (arith, n .samples-of .ensures, c .if3 .taken))
+    (omega (arith, size n, c .before .if2 .left)) (omega (arith, size n, c .if3 .taken))
 
 slice-aggregate-write-f32 : tie.Need-slice-aggregate-write-f32
 slice-aggregate-write-f32 c = part-length _ _ (c .before .before .before .if2 .left)
@@ -90,8 +92,8 @@ write-f32-requires c κs =
     let n = counted r in
     record {
       goes = fine (n .before);
-      before = length-take-le _ _ (r .before .if2 .left) ∙ n .samples-of .ensures;
-      after = length-take-le _ _ (r .if3 .left) ∙ n .samples-of .ensures;
+      before = length-take-le _ _ (r .before .if2 .left) ∙ size n;
+      after = length-take-le _ _ (r .if3 .left) ∙ size n;
     }
 
 -- the frame is put
@@ -107,7 +109,7 @@ returns-3 c =
     let a = t .before .before in
     let v = begun a .args in
     put-done (whole a) (total (v .f)) (v .bytes .now) (length (v .work .now)) (length (v .made .now)) (given a) (goes-on t)
-    (omega (arith, n .samples-of .ensures, r .before .if2 .left)) (omega (arith, n .samples-of .ensures, r .if3 .left)) (q .write-f32 .ensures)
+    (omega (arith, size n, r .before .if2 .left)) (omega (arith, size n, r .if3 .left)) (q .write-f32 .ensures)
 
 returns-4 : tie.Need-returns-4
 returns-4 c =
@@ -121,6 +123,6 @@ pub try-f32-spec : {M : Type 1} → statement M
 try-f32-spec =
     tie.close
     (tie.spec
-    (λ c κs. search needs) (λ c κs. search needs) samples-of-requires returns returns-2 (λ c. search needs)
+    (λ c κs. search needs) (λ c κs. search needs) (λ c κs. search needs) returns returns-2 (λ c. search needs)
     slice-aggregate-write-f32 (λ c. search needs) slice-aggregate-write-f32-2 write-f32-requires (λ c. search needs)
     (λ c. search needs) (λ c. search needs) returns-3 (λ c κs. search needs) returns-4)
