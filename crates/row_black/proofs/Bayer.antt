@@ -115,7 +115,19 @@ module _ {A : Type 0} (none : A) (toFloat : A → Float) (s : List A) (p : Patte
           (getD-take (x0 + length out - x0) (drop x0 columns) j nan (omega arith) ∙ getD-drop x0 columns j nan)
           ∙ delta-here columns (x0 + j) (at (x0 + j) .black) (omega arith)
 
+-- a column of the pattern, and that of an image column, have one level
+pub level-is : (p : Pattern) (blacks scales rows : List Float) (y x : ℕ) {c : ℕ} {a : Level} → c ≡ x % p .width
+    → a ≡ levelIn p blacks scales rows y c 0 → a ≡ levelIn p blacks scales rows y (x % p .width) 0
+level-is p blacks scales rows y x e h = h ∙ ap (λ (k : ℕ). levelIn p blacks scales rows y k 0) e
+
 -- plane 0 and a column of the pattern lie in the tables of a row
-pub row-tables : {p : Pattern} {planes x0 n b s : ℕ} (x : ℕ) → RowLent p planes x0 n b s → InTables p 0 (x % p .width) b s
-row-tables {p} {planes} x k =
-    record { planes = planes; plane = k .some; column = mod-lt x (k .wide); tall = k .tall; black = k .black; scale = k .scale }
+pub row-tables : {p : Pattern} {planes x0 n b s c : ℕ} (x : ℕ) → RowLent p planes x0 n b s → c ≡ x % p .width → InTables p 0 c b s
+row-tables {p} {planes} x k e =
+    record {
+      planes = planes;
+      plane = k .some;
+      column = omega (arith, e, mod-lt x (k .wide));
+      tall = k .tall;
+      black = k .black;
+      scale = k .scale;
+    }

@@ -12,20 +12,20 @@ use Rattle.row_black.specs.Rows.{spotAt, InTables}
 -- ---- counted remainders
 
 -- below the last of a turn, both go on
-stays : (n m : ℕ) → n % m + 1 < m → ((n + 1) % m ≡ n % m + 1) × ((n + 1) / m ≡ n / m)
+pub stays : (n m : ℕ) → n % m + 1 < m → ((n + 1) % m ≡ n % m + 1) × ((n + 1) / m ≡ n / m)
 stays n m h =
     let e : n + 1 ≡ n / m * m + (n % m + 1) = omega (arith, div-add-mod' n m) in
     (ap (λ (k : ℕ). k % m) e ∙ digits-mod (n / m) h, ap (λ (k : ℕ). k / m) e ∙ digits-div (n / m) h)
 
 -- at the last of a turn, a new turn
-turns : (n m : ℕ) → 1 ≤ m → m ≤ n % m + 1 → ((n + 1) % m ≡ 0) × ((n + 1) / m ≡ n / m + 1)
+pub turns : (n m : ℕ) → 1 ≤ m → m ≤ n % m + 1 → ((n + 1) % m ≡ 0) × ((n + 1) / m ≡ n / m + 1)
 turns n m some h =
     let e : n + 1 ≡ (n / m + 1) * m + 0 = omega (arith, div-add-mod' n m, mod-lt n some, add-mul (n / m) 1 m, one-mul m) in
     (ap (λ (k : ℕ). k % m) e ∙ digits-mod (n / m + 1) {r = 0} some, ap (λ (k : ℕ). k / m) e ∙ digits-div (n / m + 1) {r = 0} some)
 
-pub first-spot : (planes width x0 : ℕ) → record { plane = 0; column = x0; entry = x0 % width } ≡ spotAt planes width x0 0
-first-spot planes width x0 =
-    let e : x0 + 0 / planes ≡ x0 = omega (arith, zero-div planes) in rw (zero-mod planes, e) refl
+pub first-spot : (planes width x0 first : ℕ) → first ≡ x0 % width → record { plane = 0; column = x0; entry = first } ≡ spotAt planes width x0 0
+first-spot planes width x0 first here =
+    let e : x0 + 0 / planes ≡ x0 = omega (arith, zero-div planes) in rw (here, zero-mod planes, e) refl
 
 module _ (planes width x0 i : ℕ) (s : Spot) (here : s ≡ spotAt planes width x0 i) where
   plane-is : s .plane ≡ i % planes
@@ -45,22 +45,12 @@ module _ (planes width x0 i : ℕ) (s : Spot) (here : s ≡ spotAt planes width 
       rw (here, go .0, go .1) refl
 
   -- the pixel to the right, in the pattern's next column
-  pub next-pixel : s .plane < planes → planes ≤ s .plane + 1 → s .entry + 1 < width
-      → record { plane = 0; column = s .column + 1; entry = s .entry + 1 } ≡ spotAt planes width x0 (i + 1)
-  next-pixel some h w =
+  pub next-pixel : (e : ℕ) → s .plane < planes → planes ≤ s .plane + 1 → ((k : ℕ) → s .entry ≡ k % width → e ≡ (k + 1) % width)
+      → record { plane = 0; column = s .column + 1; entry = e } ≡ spotAt planes width x0 (i + 1)
+  next-pixel e some h counted =
       let go = turns i planes (omega arith) (omega (arith, plane-is)) in
-      let wrap = stays (x0 + i / planes) width (omega (arith, entry-is)) in
       let shift : x0 + (i / planes + 1) ≡ x0 + i / planes + 1 = omega arith in
-      rw (here, go .0, go .1, shift, wrap .0) refl
-
-  -- the pixel to the right, in the pattern's first column
-  pub first-again : s .plane < planes → planes ≤ s .plane + 1 → s .entry < width → width ≤ s .entry + 1
-      → record { plane = 0; column = s .column + 1; entry = 0 } ≡ spotAt planes width x0 (i + 1)
-  first-again some h w past =
-      let go = turns i planes (omega arith) (omega (arith, plane-is)) in
-      let wrap = turns (x0 + i / planes) width (omega arith) (omega (arith, entry-is)) in
-      let shift : x0 + (i / planes + 1) ≡ x0 + i / planes + 1 = omega arith in
-      rw (here, go .0, go .1, shift, wrap .0) refl
+      rw (counted (x0 + i / planes) entry-is, column-is, go .0, go .1, shift) refl
 
 -- ---- a place in a table
 

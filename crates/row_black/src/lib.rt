@@ -130,6 +130,14 @@ fn settled(a: Level, columns: &[f32], x: usize) -> Level
 
 // ---- where a sample stands, counted and not divided
 
+// The place after i, of n that come again and again.
+fn after(i: usize, n: usize) -> usize
+    requires { ⌜ i < n ⌝ }
+    ensures { λ r. ⌜ ((k : ℕ) → i ≡ k % n → r ≡ (k + 1) % n) ⌝ }
+{
+    if i + 1 < n { i + 1 } else { 0 }
+}
+
 // The place after s, in a row of so many planes under a pattern so wide.
 fn next(s: Spot, planes: usize, width: usize) -> Spot
     requires { ⌜ (s .plane < planes) × (s .entry < width) × (s .column < 4294967296) ⌝ }
@@ -145,7 +153,7 @@ fn next(s: Spot, planes: usize, width: usize) -> Spot
     Spot {
         plane: 0,
         column: s.column + 1,
-        entry: if s.entry + 1 < width { s.entry + 1 } else { 0 },
+        entry: after(s.entry, width),
     }
 }
 
@@ -249,6 +257,8 @@ fn all_strides_f32(
     planes: usize,
     x0: usize,
     y: usize,
+    first: usize,
+    line: usize,
     blacks: &[f32],
     scales: &[f32],
     rows: &[f32],
@@ -256,7 +266,7 @@ fn all_strides_f32(
 )
     requires { ⌜
         RowLent p planes x0 (length (now out)) (length (now blacks)) (length (now scales))
-        × (length (now out) ≤ length (now input))
+        × (length (now out) ≤ length (now input)) × (first ≡ x0 % p .width) × (line ≡ y % p .height)
         ⌝ }
     ensures { λ _. ⌜
         now (out .exit)
@@ -269,11 +279,10 @@ fn all_strides_f32(
     let n = out.len();
     let step = smaller(p.width * planes, n);
     let pitch = smaller(p.width, n);
-    let line = y % p.height;
     let mut s = Spot {
         plane: 0,
         column: x0,
-        entry: x0 % p.width,
+        entry: first,
     };
     let mut i = 0;
     while i < step {
@@ -284,7 +293,8 @@ fn all_strides_f32(
     }
 }
 
-// One row, the image row y from image column x0 on. Pairs serve where every column has a delta of its own, or none.
+// One row, the image row y from image column x0 on, which have the pattern's line and the first of its columns. Pairs
+// serve where every column has a delta of its own, or none.
 fn row_f32(
     input: &[f32],
     out: &mut [f32],
@@ -292,6 +302,8 @@ fn row_f32(
     planes: usize,
     x0: usize,
     y: usize,
+    first: usize,
+    line: usize,
     blacks: &[f32],
     scales: &[f32],
     rows: &[f32],
@@ -299,7 +311,7 @@ fn row_f32(
 )
     requires { ⌜
         RowLent p planes x0 (length (now out)) (length (now blacks)) (length (now scales))
-        × (length (now out) ≤ length (now input))
+        × (length (now out) ≤ length (now input)) × (first ≡ x0 % p .width) × (line ≡ y % p .height)
         ⌝ }
     ensures { λ _. ⌜
         now (out .exit)
@@ -310,9 +322,8 @@ fn row_f32(
         ⌝ }
 {
     if is_paired(p, planes) {
-        let line = y % p.height;
-        let even = level_at(p, 0, y, line, x0 % p.width, blacks, scales, rows);
-        let odd = level_at(p, 0, y, line, (x0 + 1) % p.width, blacks, scales, rows);
+        let even = level_at(p, 0, y, line, first, blacks, scales, rows);
+        let odd = level_at(p, 0, y, line, after(first, p.width), blacks, scales, rows);
         if columns.len() <= x0 {
             pairs_f32(
                 input,
@@ -328,10 +339,12 @@ fn row_f32(
             return;
         }
     }
-    all_strides_f32(input, out, p, planes, x0, y, blacks, scales, rows, columns);
+    all_strides_f32(
+        input, out, p, planes, x0, y, first, line, blacks, scales, rows, columns,
+    );
 }
 
-// Row by row, each lent from its own start.
+// Row by row, each lent from its own start. The pattern's line is counted, not divided for.
 fn rows_f32(
     input: &[f32],
     out: &mut [f32],
@@ -355,6 +368,8 @@ fn rows_f32(
         ⌝ }
 {
     let n = f.width * f.planes;
+    let first = f.x0 % p.width;
+    let mut line = f.y0 % p.height;
     let mut y = 0;
     let mut at = 0;
     while y < f.height {
@@ -366,12 +381,15 @@ fn rows_f32(
             f.planes,
             f.x0,
             f.y0 + y,
+            first,
+            line,
             blacks,
             scales,
             rows,
             columns,
         );
         at = end;
+        line = after(line, p.height);
         y += 1;
     }
 }
@@ -485,6 +503,8 @@ fn all_strides_u16(
     planes: usize,
     x0: usize,
     y: usize,
+    first: usize,
+    line: usize,
     blacks: &[f32],
     scales: &[f32],
     rows: &[f32],
@@ -492,7 +512,7 @@ fn all_strides_u16(
 )
     requires { ⌜
         RowLent p planes x0 (length (now out)) (length (now blacks)) (length (now scales))
-        × (length (now out) ≤ length (now input))
+        × (length (now out) ≤ length (now input)) × (first ≡ x0 % p .width) × (line ≡ y % p .height)
         ⌝ }
     ensures { λ _. ⌜
         now (out .exit)
@@ -505,11 +525,10 @@ fn all_strides_u16(
     let n = out.len();
     let step = smaller(p.width * planes, n);
     let pitch = smaller(p.width, n);
-    let line = y % p.height;
     let mut s = Spot {
         plane: 0,
         column: x0,
-        entry: x0 % p.width,
+        entry: first,
     };
     let mut i = 0;
     while i < step {
@@ -520,7 +539,8 @@ fn all_strides_u16(
     }
 }
 
-// One row, the image row y from image column x0 on. Pairs serve where every column has a delta of its own, or none.
+// One row, the image row y from image column x0 on, which have the pattern's line and the first of its columns. Pairs
+// serve where every column has a delta of its own, or none.
 fn row_u16(
     input: &[u16],
     out: &mut [f32],
@@ -528,6 +548,8 @@ fn row_u16(
     planes: usize,
     x0: usize,
     y: usize,
+    first: usize,
+    line: usize,
     blacks: &[f32],
     scales: &[f32],
     rows: &[f32],
@@ -535,7 +557,7 @@ fn row_u16(
 )
     requires { ⌜
         RowLent p planes x0 (length (now out)) (length (now blacks)) (length (now scales))
-        × (length (now out) ≤ length (now input))
+        × (length (now out) ≤ length (now input)) × (first ≡ x0 % p .width) × (line ≡ y % p .height)
         ⌝ }
     ensures { λ _. ⌜
         now (out .exit)
@@ -546,9 +568,8 @@ fn row_u16(
         ⌝ }
 {
     if is_paired(p, planes) {
-        let line = y % p.height;
-        let even = level_at(p, 0, y, line, x0 % p.width, blacks, scales, rows);
-        let odd = level_at(p, 0, y, line, (x0 + 1) % p.width, blacks, scales, rows);
+        let even = level_at(p, 0, y, line, first, blacks, scales, rows);
+        let odd = level_at(p, 0, y, line, after(first, p.width), blacks, scales, rows);
         if columns.len() <= x0 {
             pairs_u16(
                 input,
@@ -564,10 +585,12 @@ fn row_u16(
             return;
         }
     }
-    all_strides_u16(input, out, p, planes, x0, y, blacks, scales, rows, columns);
+    all_strides_u16(
+        input, out, p, planes, x0, y, first, line, blacks, scales, rows, columns,
+    );
 }
 
-// Row by row, each lent from its own start.
+// Row by row, each lent from its own start. The pattern's line is counted, not divided for.
 fn rows_u16(
     input: &[u16],
     out: &mut [f32],
@@ -591,6 +614,8 @@ fn rows_u16(
         ⌝ }
 {
     let n = f.width * f.planes;
+    let first = f.x0 % p.width;
+    let mut line = f.y0 % p.height;
     let mut y = 0;
     let mut at = 0;
     while y < f.height {
@@ -602,12 +627,15 @@ fn rows_u16(
             f.planes,
             f.x0,
             f.y0 + y,
+            first,
+            line,
             blacks,
             scales,
             rows,
             columns,
         );
         at = end;
+        line = after(line, p.height);
         y += 1;
     }
 }
