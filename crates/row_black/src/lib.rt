@@ -340,7 +340,18 @@ fn row_f32(
         }
     }
     all_strides_f32(
-        input, out, p, planes, x0, y, first, line, blacks, scales, rows, columns,
+        input,
+        out,
+        p,
+        planes,
+        x0,
+        y,
+        first,
+        line,
+        blacks,
+        scales,
+        rows,
+        columns,
     );
 }
 
@@ -586,7 +597,18 @@ fn row_u16(
         }
     }
     all_strides_u16(
-        input, out, p, planes, x0, y, first, line, blacks, scales, rows, columns,
+        input,
+        out,
+        p,
+        planes,
+        x0,
+        y,
+        first,
+        line,
+        blacks,
+        scales,
+        rows,
+        columns,
     );
 }
 
