@@ -4,7 +4,7 @@ use rolbhunga::black::{Black, Field, Levels};
 use std::time::Instant;
 
 // The name, planes, lines and columns of the pattern, and whether there are deltas for each row and column.
-const KINDS: [(&str, usize, usize, usize, bool); 7] = [
+const KINDS: [(&str, usize, usize, usize, bool); 8] = [
     ("2x2", 1, 2, 2, false),
     ("2x2-deltas", 1, 2, 2, true),
     ("1x1", 1, 1, 1, false),
@@ -12,6 +12,7 @@ const KINDS: [(&str, usize, usize, usize, bool); 7] = [
     ("6x6-deltas", 1, 6, 6, true),
     ("1x1-3", 3, 1, 1, false),
     ("1x1-3-deltas", 3, 1, 1, true),
+    ("3x4096", 1, 3, 4096, false),
 ];
 
 extern "C" {
@@ -49,7 +50,8 @@ fn main() {
     let levels = Levels::new(ph, pw, &blacks, &scales).deltas(&rows, &columns);
     let field = Field::new(w, h, planes).at(x0, y0);
     let plane = |t: &[f32]| t.chunks(ph * pw).map(<[f32]>::to_vec).collect();
-    let info = FrameInfo { pw, ph, black: plane(&blacks), scale: plane(&scales), row_deltas: rows.clone(), col_deltas: columns.clone() };
+    let (row_deltas, col_deltas) = (rows.clone(), columns.clone());
+    let info = FrameInfo { pw, ph, black: plane(&blacks), scale: plane(&scales), row_deltas, col_deltas };
     let data = if form == "u16" { PixelData::U16(wholes.clone()) } else { PixelData::F32(floats.clone()) };
     let img = RawImage { width: w as u32, cpp: planes as u8, data };
     let mut out = vec![0.0; n];

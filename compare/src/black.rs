@@ -1,5 +1,6 @@
-// Black level: cases made by chance, each through the four calls, held to `normalize` of the Rust and, for what it has no word for, to
-// document 02, M-109. Allowed to differ, and nothing wider: where the Rust gives −0, +0 is wanted (docs/DIFFERENCES.md, 13).
+// Black level: cases made by chance, each through the four calls, held to `normalize` of the Rust and, for what it has no
+// word for, to document 02, M-109. Allowed to differ, and nothing wider: where the Rust gives −0, +0 is wanted
+// (docs/DIFFERENCES.md, B1).
 use crate::check::Lent;
 use crate::rng::{f32_bits, Rng};
 use normalize::{normalize, FrameInfo, PixelData, RawImage};
@@ -185,7 +186,8 @@ fn typed<T: Copy + PartialEq>(
     data: impl Fn(Vec<T>) -> PixelData,
 ) -> Result<Said, String> {
     let want = c.answer(input.len());
-    let theirs = if want == Black::Done { c.theirs(data(input[..samples(&c.field) as usize].to_vec())) } else { vec![] };
+    let frame = || data(input[..samples(&c.field) as usize].to_vec());
+    let theirs = if want == Black::Done { c.theirs(frame()) } else { vec![] };
     let lent = Lent::new(input.iter().copied(), guard);
     let mut out = Lent::new((0..c.out).map(old), 1.25);
     let answer = call(&c.field, lent.now(), out.lend(), &c.levels());
@@ -211,7 +213,8 @@ fn bytes<T: Copy + PartialEq + Default>(
     let short = want == Black::Done && ((c.work as u128) < n || (c.made as u128) < n);
     let want = if short { Black::Work } else { want };
     let lent = Lent::new(input.iter().copied(), 0xdd);
-    let before: Vec<u8> = (0..c.out).flat_map(|i| old(i).to_le_bytes()).chain((0..c.over).map(|i| i as u8 ^ 0xa0)).collect();
+    let over = (0..c.over).map(|i| i as u8 ^ 0xa0);
+    let before: Vec<u8> = (0..c.out).flat_map(|i| old(i).to_le_bytes()).chain(over).collect();
     let mut out = Lent::new(before.iter().copied(), 0xdd);
     let mut work = Lent::new((0..c.work).map(|_| guard), guard);
     let mut made = Lent::new((0..c.made).map(|i| i as f32 + 0.5), 1.25);
@@ -222,7 +225,8 @@ fn bytes<T: Copy + PartialEq + Default>(
     if !(lent.guarded() && out.guarded() && work.guarded() && made.guarded()) {
         return Err("a guard was written by the form over bytes".to_string());
     }
-    if lent.now() != input || work.now().iter().any(|&v| v != T::default()) || made.now().iter().any(|v| v.to_bits() != 0) {
+    let clear = work.now().iter().all(|&v| v == T::default()) && made.now().iter().all(|v| v.to_bits() == 0);
+    if lent.now() != input || !clear {
         return Err("the input was written, or a room is not clear".to_string());
     }
     let mut after = before;
@@ -251,7 +255,8 @@ fn check(c: &Case) -> Result<Vec<(String, Said)>, String> {
     let u = typed(c, &c.wholes, 0x5a5a, Field::from_u16, PixelData::U16)?;
     let mut out: Vec<f32> = (0..c.out).map(old).collect();
     c.field.from_u16(&c.wholes, &mut out, &c.levels());
-    let input: Vec<u8> = c.wholes.iter().flat_map(|v| v.to_le_bytes()).chain((0..c.over % 2).map(|i| i as u8)).collect();
+    let over = (0..c.over % 2).map(|i| i as u8);
+    let input: Vec<u8> = c.wholes.iter().flat_map(|v| v.to_le_bytes()).chain(over).collect();
     let b = bytes(c, &input, &out, u.answer, 0x5a5a, Field::bytes_from_u16)?;
     said.push(("u16".to_string(), u));
     said.push(("bytes u16".to_string(), Said { answer: b, zeros: 0 }));
@@ -274,7 +279,8 @@ fn count(c: &Case, said: &[(String, Said)], n: &mut BTreeMap<String, u64>) {
         add(format!("black: row deltas {}", list(&c.rows, c.field.y0, c.field.height)), 1);
         add(format!("black: column deltas {}", list(&c.columns, c.field.x0, c.field.width)), 1);
         add(format!("black: planes {}", c.field.planes), 1);
-        add(format!("black: pattern width {}", if c.width > 2 { "above 2".to_string() } else { c.width.to_string() }), 1);
+        add(format!("black: pattern width {}", if c.width > 2 { "above 2" } else { ["", "1", "2"][c.width] }), 1);
+        add(format!("black: pattern wider than the row {}", c.width > c.field.width), 1);
         add("black: samples f32".to_string(), samples(&c.field) as u64);
     }
 }
@@ -290,7 +296,9 @@ pub fn sweep(seed: u64, cases: u64) -> u64 {
                 wrong += 1;
                 if wrong <= 3 {
                     println!("black case {k} of seed {seed}: {why}");
-                    println!("  {:?}, pattern {} by {}, {} row and {} column deltas", c.field, c.height, c.width, c.rows.len(), c.columns.len());
+                    let (rows, columns) = (c.rows.len(), c.columns.len());
+                    let (h, w) = (c.height, c.width);
+                    println!("  {:?}, pattern {h} by {w}, {rows} row and {columns} column deltas", c.field);
                 }
                 if std::env::var_os("FIRST").is_some() {
                     return wrong;

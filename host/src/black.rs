@@ -1,8 +1,8 @@
 //! Black level before list 2: from each sample the black of its image position is taken, and the rest is scaled.
 //!
 //! Sample v of plane k at image row y and image column x becomes (v − black)·scale, at least 0; a NaN becomes 0, and a
-//! zero is +0. Black is the entry of the pattern, plus the row's delta, plus the column's, each sum rounded to f32. A part
-//! of a frame, with its own `x0` and `y0`, becomes what it becomes in the frame, so bands may go to threads.
+//! zero is +0. Black is the entry of the pattern, plus the row's delta, plus the column's, each sum rounded to f32. A
+//! part of a frame, with its own `x0` and `y0`, becomes what it becomes in the frame, so bands may go to threads.
 //!
 //! ```
 //! use rolbhunga::black::{Black, Field, Levels};

@@ -30,11 +30,11 @@ fn values() {
 fn positions() {
     // two planes under two lines and three columns: 100 times the plane, 10 times the line, and the column
     let black: Vec<f32> = [0, 1, 2, 10, 11, 12, 100, 101, 102, 110, 111, 112].iter().map(|&v| v as f32).collect();
-    let scale = [1.0; 12];
+    let scale: Vec<f32> = [3, 5, 7, 11, 13, 17, 19, 23, 29, 31, 37, 41].iter().map(|&v| v as f32).collect();
     let l = Levels::new(2, 3, &black, &scale);
     let mut out = [9.0; 5];
-    assert_eq!(Field::new(2, 1, 2).at(2, 1).from_u16(&[50, 160, 70, 180], &mut out, &l), Black::Done);
-    assert_eq!(out, [38.0, 48.0, 60.0, 70.0, 9.0]);
+    assert_eq!(Field::new(2, 1, 2).at(2, 1).from_u16(&[13, 114, 13, 114], &mut out, &l), Black::Done);
+    assert_eq!(out, [17.0, 82.0, 33.0, 124.0, 9.0]);
     // deltas go by image positions, and a missing one is 0
     let (rows, columns) = ([5.0], [10.0, 20.0, 30.0]);
     let (b, s) = ([1.0], [1.0]);
@@ -48,7 +48,8 @@ fn positions() {
 fn bands_and_tiles() {
     let (w, h, planes) = (13, 9, 3);
     let table: Vec<f32> = (0..planes * 4 * 5).map(|i| i as f32 / 8.0).collect();
-    let (rows, columns): (Vec<f32>, Vec<f32>) = ((0..10).map(|i| i as f32).collect(), (0..16).map(|i| i as f32 / 2.0).collect());
+    let rows: Vec<f32> = (0..10).map(|i| i as f32).collect();
+    let columns: Vec<f32> = (0..16).map(|i| i as f32 / 2.0).collect();
     let l = Levels::new(4, 5, &table, &table).deltas(&rows, &columns);
     let input: Vec<u16> = (0..w * h * planes).map(|i| (i * 37 % 4096) as u16).collect();
     let frame = Field::new(w, h, planes).at(3, 2);

@@ -142,7 +142,8 @@ pub done-answer : (f : Field) (p : Pattern) (b s input output : ℕ) {a : Black}
 done-answer f p b s input output {a} e d = sym e ∙ done-is a d
 
 -- where the call is not refused, its count is the frame's
-pub samples-are : (f : Field) (p : Pattern) (b s input output : ℕ) {n : ℕ} → answerOf f p b s input output ≡ Done → n ≡ samplesIn f → n ≡ total f
+pub samples-are : (f : Field) (p : Pattern) (b s input output : ℕ) {n : ℕ} → answerOf f p b s input output ≡ Done → n ≡ samplesIn f
+    → n ≡ total f
 unfolding samplesIn
 samples-are f p b s input output e counted = counted ∙ ap (λ (t : Bool). cond t (total f) 0) (exactly-when f p b s input output Done .0 e .0)
 

@@ -4,7 +4,6 @@ use mathlib.Core.Bool.{Bool, true, false}
 use mathlib.Core.List.{List, [], _∷_}
 use mathlib.Core.Path.{_≡_, refl}
 use lib.Ieee.{Float, nan, binary32, ofBits, toBits, ofInt, round, sub, mul, lt}
-use lib.ListN.{take}
 use Rattle.num_words.specs.Words.{little}
 use Rattle.num_convert.specs.Convert.{wholeIn}
 use Rattle.pointwise.specs.Points.{each, between}
@@ -55,7 +54,8 @@ abbrev floats : BlackOut
 floats = blackOut nan (λ x. x) one plain (floatsIn (0 ∷ 0 ∷ 64 ∷ 64 ∷ 5 ∷ [])) (floatsIn before)
 
 pub float-bytes : bytesIn true floats 1 before ≡ 0 ∷ 0 ∷ 128 ∷ 64 ∷ 1 ∷ 0 ∷ 128 ∷ 127 ∷ 7 ∷ []
-unfolding bytesIn blackOut answerOf fieldInRange tabled sampled encoded byteOf decoded little each between levelledAt levelled levelledBy blackAt withDelta sub mul lt ofBits toBits ofInt round
+unfolding bytesIn blackOut answerOf fieldInRange tabled sampled encoded byteOf decoded little each between levelledAt
+    levelled levelledBy blackAt withDelta sub mul lt ofBits toBits ofInt round
 float-bytes = refl
 
 -- the same from a u16 sample in two bytes, and a byte left over
@@ -63,7 +63,8 @@ abbrev wholes : BlackOut
 wholes = blackOut 0 (wholeIn binary32) one plain (wholesIn (3 ∷ 0 ∷ 5 ∷ [])) (floatsIn before)
 
 pub whole-bytes : bytesIn true wholes 1 before ≡ 0 ∷ 0 ∷ 128 ∷ 64 ∷ 1 ∷ 0 ∷ 128 ∷ 127 ∷ 7 ∷ []
-unfolding bytesIn blackOut answerOf fieldInRange tabled sampled encoded byteOf decoded little each between levelledAt levelled levelledBy blackAt withDelta sub mul lt ofBits toBits ofInt round
+unfolding bytesIn blackOut answerOf fieldInRange tabled sampled encoded byteOf decoded little each between levelledAt
+    levelled levelledBy blackAt withDelta sub mul lt ofBits toBits ofInt round
 whole-bytes = refl
 
 -- one byte is no sample: 61; too little room: as it was

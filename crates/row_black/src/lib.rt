@@ -28,7 +28,20 @@ ghost use Rattle.row_black.specs.Black.{
   blackOut,
   Levelled,
 };
-ghost use Rattle.row_black.specs.Rows.{levelIn, settledAt, spotAt, noDelta, ownDelta, only, pairRule, stepRule, rowRule, InTables, RowLent, Stepped};
+ghost use Rattle.row_black.specs.Rows.{
+  levelIn,
+  settledAt,
+  spotAt,
+  noDelta,
+  ownDelta,
+  only,
+  pairRule,
+  stepRule,
+  rowRule,
+  InTables,
+  RowLent,
+  Stepped,
+};
 
 // The frame: `width` by `height` pixels of `planes` samples, rows without gaps, its corner at (x0, y0) of the image.
 #[repr(C)]
