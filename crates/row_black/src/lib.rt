@@ -306,7 +306,7 @@ fn all_strides_f32(
     }
 }
 
-// One row, the image row y from image column x0 on, which have the pattern's line and the first of its columns. Pairs
+// One row, the image row y from image column x0 on; `line` and `first` are the pattern's line and column there. Pairs
 // serve where every column has a delta of its own, or none.
 fn row_f32(
     input: &[f32],
@@ -563,7 +563,7 @@ fn all_strides_u16(
     }
 }
 
-// One row, the image row y from image column x0 on, which have the pattern's line and the first of its columns. Pairs
+// One row, the image row y from image column x0 on; `line` and `first` are the pattern's line and column there. Pairs
 // serve where every column has a delta of its own, or none.
 fn row_u16(
     input: &[u16],
