@@ -7,13 +7,13 @@
 //! ```
 //! use rolbhunga::black::{Black, Field, Levels};
 //!
-//! // Four pixels of a Bayer image, its black 256 but for one colour; white is 4095.
-//! let black = [256.0, 256.0, 256.0, 255.0];
-//! let scale = black.map(|b| 1.0 / (4095.0 - b));
+//! // Four pixels of a Bayer image, its black 256 but for one colour; white lies 4096 above.
+//! let black = [256.0, 256.0, 256.0, 128.0];
+//! let scale = [1.0 / 4096.0; 4];
 //! let levels = Levels::new(2, 2, &black, &scale);
 //! let mut out = [0.0; 4];
-//! assert_eq!(Field::new(2, 2, 1).from_u16(&[4095, 256, 100, 255], &mut out, &levels), Black::Done);
-//! assert_eq!(out, [1.0, 0.0, 0.0, 0.0]);
+//! assert_eq!(Field::new(2, 2, 1).from_u16(&[4352, 256, 100, 2176], &mut out, &levels), Black::Done);
+//! assert_eq!(out, [1.0, 0.0, 0.0, 0.5]);
 //! ```
 use crate::WORK;
 
