@@ -9,19 +9,20 @@
  * type, also where the length is 0. No two buffers of a call overlap, and no other thread touches them until it
  * returns; what is `const` is never written.
  *
- * Answers (the field `number`)
+ * Answers of the functions over a list (the field `number`); those of the search and of black level stand with them
  *     0  done
  *     1  a number is out of its range: width, height, stride and period at most 65,536; planes 1 to 8; x0, y0,
- *     full_width and
- *        full_height at most 16,777,216; of a row: its number at most 16,842,751, and at most width * planes samples
+ *        full_width and full_height at most 16,777,216; of a row: its number at most 16,842,751, and at most
+ *        width * planes samples
  *     2  the list is malformed; `entry` entries were read whole before that
  *     3  the form does not take this list
  *     4  the skip buffer `names` is shorter than the skipped opcodes
  *     5  the repair `opcode` marks more positions than `marks` has entries; nothing of it is written
  *        (6 is withdrawn: it is never given, and no other answer has its number)
- *   100  `work` has fewer entries than the bytes have whole samples (the functions over bytes alone; tested before all
- *   others) They are tested in this order, 5 opcode by opcode. On 1 to 4 and on 100 the samples are as they were; on 5
- *   they are as after the opcodes before. Numbers that are not named here are 0.
+ *   100  `work` has fewer entries than the bytes have whole samples (the functions over a list and bytes alone;
+ *        tested before all others)
+ * They are tested in this order, 5 opcode by opcode. On 1 to 4 and on 100 the samples are as they were; on 5 they are
+ * as after the opcodes before. Numbers that are not named here are 0.
  */
 #ifndef ROLBHUNGA_H
 #define ROLBHUNGA_H
@@ -159,6 +160,68 @@ typedef struct rolbhunga_found {
  * any bytes. The first one is taken, in the order of a directory's own entries, its SubIFDs, the next directory; it may
  * have no bytes. A call takes about 17 KB of stack. */
 rolbhunga_found rolbhunga_find(const uint8_t *file, size_t file_len, uint32_t which);
+
+/* ---- black level before list 2: from each sample the black of its image position is taken, and the rest is scaled
+ *
+ * Answers of the four functions below (what they return), tested in this order:
+ *     0  done
+ *     1  a number is out of its range: width and height at most 65,536; planes 1 to 8; x0 and y0 at most 16,777,216
+ *    60  the pattern's height or width is 0, or a table has fewer than planes * height * width entries
+ *    61  input or output has fewer than width * height * planes samples
+ *   100  `work` or `made` has fewer entries than the frame has samples (the functions over bytes alone; here it is
+ *        tested after all others, and goes by the frame, not by the bytes)
+ * On all but 0 the output is as it was; what stands behind the frame's samples always is. */
+#define ROLBHUNGA_TABLES 60u
+#define ROLBHUNGA_SAMPLES 61u
+
+/* width by height pixels of `planes` samples each, rows without gaps, the corner at (x0, y0) of the image. */
+typedef struct rolbhunga_field {
+    size_t width;
+    size_t height;
+    size_t planes;
+    size_t x0;
+    size_t y0;
+} rolbhunga_field;
+
+/* The pattern of black and scale, which starts at the image's corner and repeats. */
+typedef struct rolbhunga_pattern {
+    size_t height;
+    size_t width;
+} rolbhunga_pattern;
+
+/* Sample v of plane k at image row y and image column x becomes (v - black) * scale, at least 0: a NaN becomes 0, and a
+ * zero is +0.
+ * input, out: two buffers that do not overlap; each may be longer than the frame. Only `out` is written.
+ * blacks, scales: a table for each plane, one behind another, each row after row; the entry is that of row y % height,
+ * column x % width.
+ * rows, columns: deltas of image rows and image columns, added to black in this order; an empty list adds nothing, a
+ * missing entry 0. Each operation is rounded to float.
+ * A part of a frame, with its own x0 and y0, becomes what it becomes in the frame. */
+uint32_t rolbhunga_black_f32(const float *input, size_t input_len, float *out, size_t out_len, rolbhunga_field field,
+                             rolbhunga_pattern pattern, const float *blacks, size_t blacks_len, const float *scales,
+                             size_t scales_len, const float *rows, size_t rows_len, const float *columns,
+                             size_t columns_len);
+
+/* The same from u16 samples, widened. */
+uint32_t rolbhunga_black_u16(const uint16_t *input, size_t input_len, float *out, size_t out_len, rolbhunga_field field,
+                             rolbhunga_pattern pattern, const float *blacks, size_t blacks_len, const float *scales,
+                             size_t scales_len, const float *rows, size_t rows_len, const float *columns,
+                             size_t columns_len);
+
+/* The same on samples that stand in bytes, little-endian, the output as f32. `work` and `made` are typed room, an entry
+ * for each of the frame's samples; both hold only zeros at every return. Bytes behind the frame's samples stay, whole
+ * samples or not. */
+uint32_t rolbhunga_bytes_black_f32(const uint8_t *input, size_t input_len, uint8_t *out, size_t out_len,
+                                   rolbhunga_field field, rolbhunga_pattern pattern, const float *blacks,
+                                   size_t blacks_len, const float *scales, size_t scales_len, const float *rows,
+                                   size_t rows_len, const float *columns, size_t columns_len, float *work,
+                                   size_t work_len, float *made, size_t made_len);
+
+uint32_t rolbhunga_bytes_black_u16(const uint8_t *input, size_t input_len, uint8_t *out, size_t out_len,
+                                   rolbhunga_field field, rolbhunga_pattern pattern, const float *blacks,
+                                   size_t blacks_len, const float *scales, size_t scales_len, const float *rows,
+                                   size_t rows_len, const float *columns, size_t columns_len, uint16_t *work,
+                                   size_t work_len, float *made, size_t made_len);
 
 #ifdef __cplusplus
 }

@@ -19,6 +19,40 @@ static const uint8_t repair[] = {0, 0, 0, 2, 0, 0, 0, 4, 1, 3, 0, 0, 0, 0, 0, 0,
 /* MM, 42, a directory at 8 with OpcodeList2, type 7, two bytes in the entry */
 static const uint8_t dng[] = {77, 77, 0, 42, 0, 0, 0, 8, 0, 1, 199, 65, 0, 7, 0, 0, 0, 2, 5, 6, 0, 0, 0, 0, 0, 0};
 
+/* Two planes of one pixel at (3, 2), a pattern of one line and two columns: column 1 of each plane's table. */
+static void black(void) {
+    static const float in[2] = {10.0f, 20.0f}, b[4] = {1.0f, 2.0f, 3.0f, 4.0f}, s[4] = {9.0f, 0.5f, 9.0f, 2.0f},
+                       rows[3] = {7.0f, 7.0f, 1.0f}, columns[4] = {7.0f, 7.0f, 7.0f, 3.0f};
+    static const uint16_t in16[2] = {10, 20};
+    static const uint8_t bytes16[4] = {10, 0, 20, 0};
+    float out[3] = {0.0f, 0.0f, 7.0f}, work[2] = {1.0f, 1.0f}, made[2] = {1.0f, 1.0f};
+    uint16_t work16[2] = {1, 1};
+    uint8_t in_bytes[8], out_bytes[9] = {0, 0, 0, 0, 0, 0, 0, 0, 0xcc};
+    rolbhunga_field f = {1, 1, 2, 3, 2};
+    rolbhunga_pattern p = {1, 2};
+    memcpy(in_bytes, in, sizeof in_bytes);
+    is("black f32", rolbhunga_black_f32(in, 2, out, 3, f, p, b, 4, s, 4, rows, 3, columns, 4), ROLBHUNGA_DONE);
+    is("black f32 samples", out[0] == 2.0f && out[1] == 24.0f && out[2] == 7.0f, 1);
+    is("black u16", rolbhunga_black_u16(in16, 2, out, 3, f, p, b, 4, s, 4, rows, 3, columns, 0), ROLBHUNGA_DONE);
+    is("black u16 samples", out[0] == 3.5f && out[1] == 30.0f && out[2] == 7.0f, 1);
+    is("black, short table", rolbhunga_black_u16(in16, 2, out, 3, f, p, b, 4, s, 3, rows, 3, columns, 0),
+       ROLBHUNGA_TABLES);
+    is("black, short input", rolbhunga_black_u16(in16, 1, out, 3, f, p, b, 4, s, 4, rows, 3, columns, 0),
+       ROLBHUNGA_SAMPLES);
+    is("black, bytes",
+       rolbhunga_bytes_black_f32(in_bytes, 8, out_bytes, 9, f, p, b, 4, s, 4, rows, 0, columns, 0, work, 2, made, 2),
+       ROLBHUNGA_DONE);
+    is("black, bytes of samples", memcmp(out_bytes, "\0\0\x80\x40\0\0\0\x42\xcc", 9), 0);
+    is("black, rooms", work[0] == 0.0f && work[1] == 0.0f && made[0] == 0.0f && made[1] == 0.0f, 1);
+    is("black, u16 bytes, little room",
+       rolbhunga_bytes_black_u16(bytes16, 4, out_bytes, 9, f, p, b, 4, s, 4, rows, 3, columns, 0, work16, 2, made, 1),
+       ROLBHUNGA_WORK);
+    is("black, u16 bytes",
+       rolbhunga_bytes_black_u16(bytes16, 4, out_bytes, 9, f, p, b, 4, s, 4, rows, 3, columns, 0, work16, 2, made, 2),
+       ROLBHUNGA_DONE);
+    is("black, u16 bytes of samples", memcmp(out_bytes, "\0\0\x60\x40\0\0\xf0\x41\xcc", 9), 0);
+}
+
 int main(void) {
     uint8_t list[sizeof repair];
     rolbhunga_window w = {3, 1, 1, 3, 0, 0, 3, 1};
@@ -83,5 +117,6 @@ int main(void) {
     is("find, cut", rolbhunga_find(dng, sizeof dng - 1, 2).number, ROLBHUNGA_OUTSIDE);
     is("find, no header", rolbhunga_find(dng, 7, 3).number, ROLBHUNGA_NOT_TIFF);
     is("find what", rolbhunga_find(dng, sizeof dng, 4).number, ROLBHUNGA_RANGE);
+    black();
     return failed;
 }

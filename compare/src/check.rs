@@ -13,29 +13,29 @@ pub type Counts = BTreeMap<String, u64>;
 const GUARD: usize = 4;
 
 // A buffer between two guards, which a call must leave alone.
-struct Lent<T> {
+pub struct Lent<T> {
     all: Vec<T>,
     guard: T,
 }
 
 impl<T: Copy + PartialEq> Lent<T> {
-    fn new(contents: impl Iterator<Item = T>, guard: T) -> Lent<T> {
+    pub fn new(contents: impl Iterator<Item = T>, guard: T) -> Lent<T> {
         let mut all = vec![guard; GUARD];
         all.extend(contents);
         all.extend([guard; GUARD]);
         Lent { all, guard }
     }
 
-    fn lend(&mut self) -> &mut [T] {
+    pub fn lend(&mut self) -> &mut [T] {
         let n = self.all.len();
         &mut self.all[GUARD..n - GUARD]
     }
 
-    fn now(&self) -> &[T] {
+    pub fn now(&self) -> &[T] {
         &self.all[GUARD..self.all.len() - GUARD]
     }
 
-    fn guarded(&self) -> bool {
+    pub fn guarded(&self) -> bool {
         let n = self.all.len();
         self.all[..GUARD].iter().chain(&self.all[n - GUARD..]).all(|&g| g == self.guard)
     }

@@ -1,4 +1,5 @@
 // Compares every exported function with the Rust module on cases made by chance. See compare/run.
+mod black;
 mod cases;
 mod check;
 mod doc01;
@@ -84,6 +85,9 @@ fn main() {
         frames::write(&args[1], number(args.get(2), 1));
         return;
     }
+    if args.first().map(String::as_str) == Some("black") {
+        exit((black::sweep(number(args.get(2), 1), number(args.get(1), 1_000_000)) > 0) as i32);
+    }
     let (cases, seed) = (number(args.first(), 1_000_000), number(args.get(1), 1));
     let jobs = number(env::var("JOBS").ok().as_ref(), 1).max(1);
     if first() {
@@ -133,6 +137,7 @@ fn main() {
         println!("{v:>12}  {k}");
     }
     println!("compared {cases} cases of seed {seed}, seven calls each, {fixed} at the limits, {cuts} cuts into tiles: {wrong} differ");
+    wrong += black::sweep(seed, cases);
     if wrong > 0 {
         exit(1);
     }

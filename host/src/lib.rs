@@ -18,6 +18,7 @@
 //! assert_eq!(answer, Answer::Done { names: 0, repaired: 1, left: 0 });
 //! assert_eq!(samples, [10.0, 14.5, 19.0]);
 //! ```
+pub mod black;
 pub mod ffi;
 mod find;
 

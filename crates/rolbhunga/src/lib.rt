@@ -1,6 +1,7 @@
 // What C and Rust call. Every function answers for every argument; include/rolbhunga.h says it in C's words.
 // The forms over bytes are lent typed room beside them, since samples are typed inside: too little of it is an answer
 // of its own.
+pub mod black;
 mod find;
 
 use dng::Answer;

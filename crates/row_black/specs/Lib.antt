@@ -1,0 +1,4 @@
+pub mod Black
+pub mod Promises
+pub mod Rows
+pub mod Worked
