@@ -136,7 +136,8 @@ module _ {A : Type 0} (c : Call A) where
   pub kept : (e : End A) → Meets (outOf c) (c .room) e → Kept c e
   kept e m =
       record {
-        samples = λ p q. m .left ∙ holds .first (subst (λ (a : Answer). 1 ≤ numbersOf a .number) (m .answered) p) (λ h. q (ap (λ (a : Answer). numbersOf a .number) (m .answered) ∙ h));
+        samples = λ p q. m .left ∙ holds .first (subst (λ (a : Answer). 1 ≤ numbersOf a .number) (m .answered) p)
+            (λ h. q (ap (λ (a : Answer). numbersOf a .number) (m .answered) ∙ h));
         names = λ p. m .named ∙ holds .any (subst (λ (a : Answer). 1 ≤ numbersOf a .number) (m .answered) p);
         written = λ n r l p. ap (take n) (m .named) ∙ holds .front n r l (sym (m .answered) ∙ p);
         after = λ n r l p. ap (drop n) (m .named) ∙ holds .back n r l (sym (m .answered) ∙ p);

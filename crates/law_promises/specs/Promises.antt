@@ -1,7 +1,9 @@
--- What a caller may conclude from the contracts of the public calls alone: `Ran` of a run, `RowRan` of a row call, the equation of reading.
--- Document 01, 'What comes back' and 'How a promise is judged'. Over any sample kind; proofs/Theorems proves each statement under its name in lower case:
---     1 Determined   2 Exactly-when, Row-exactly-when   3 Keeps, Row-keeps, Numbered, Locates, By-reason   4 Adds-up, Scratch
---     5 Row-calls, Whole-calls, Whole-calls-alike   6 Verdict, Row-verdict
+-- What a caller may conclude from the contracts of the public calls alone: `Ran` of a run, `RowRan` of a row call, the
+-- equation of reading.
+-- Document 01, 'What comes back' and 'How a promise is judged'. Over any sample kind; proofs/Theorems proves each
+-- statement under its name in lower case:
+--     1 Determined   2 Exactly-when, Row-exactly-when   3 Keeps, Row-keeps, Numbered, Locates, By-reason
+--     4 Adds-up, Scratch   5 Row-calls, Whole-calls, Whole-calls-alike   6 Verdict, Row-verdict
 use Prim.Native.Nat.{ℕ, suc, _+_, _≤_, _<_}
 use mathlib.Core.Bool.{Bool, true, false}
 use mathlib.Core.List.{List, [], _∷_}
@@ -131,7 +133,8 @@ module _ {A : Type 0} (c : Call A) where
   When (Ans.Done n r l) = Goes × (n ≡ skips) × ((t : List A) × (performed (itemsOf (c .list)) ≡ going t r l))
   When Ans.Range = inRange (c .window) (c .period) ≡ false
   When (Ans.Malformed k why) = (inRange (c .window) (c .period) ≡ true) × (readingOf (c .list) ≡ R.Malformed k why)
-  When Ans.NotTaken = (inRange (c .window) (c .period) ≡ true) × Whole (c .list) × (c .takes (itemsOf (c .list)) ≡ false)
+  When Ans.NotTaken = (inRange (c .window) (c .period) ≡ true) × Whole (c .list)
+      × (c .takes (itemsOf (c .list)) ≡ false)
   When Ans.Names =
       (inRange (c .window) (c .period) ≡ true) × Whole (c .list) × (c .takes (itemsOf (c .list)) ≡ true)
       × (length (c .names) < skips)
@@ -202,28 +205,33 @@ Row-keeps =
     (w : RowWindow) (scale : Float) (y : ℕ) (list : List ℕ) (row : List Float) (r : RowAnswer) (t : List Float)
     → RowRan (rowOut w scale y list row) r t → ((n : ℕ) → r ≡ Row.Done n → ⊥) → t ≡ row
 
--- the papers' numbers of every answer: names and totals 0 on a refusal, the entry's number and the offset 0 but in 20 to 25,
--- the opcode's 0 but in 5
+-- the papers' numbers of every answer: names and totals 0 on a refusal, the entry's number and the offset 0 but in 20
+-- to 25, the opcode's 0 but in 5
 pub record Numbered : Type 0 where
-  pub refused : (a : Answer) → 1 ≤ numbersOf a .number → (numbersOf a .names ≡ 0) × (numbersOf a .repaired ≡ 0) × (numbersOf a .left ≡ 0)
+  pub refused : (a : Answer) → 1 ≤ numbersOf a .number → (numbersOf a .names ≡ 0) × (numbersOf a .repaired ≡ 0)
+      × (numbersOf a .left ≡ 0)
   pub entry : (a : Answer) → numbersOf a .number < 20 → (numbersOf a .entry ≡ 0) × (numbersOf a .offset ≡ 0)
   pub opcode : (a : Answer) → (numbersOf a .number ≡ 5 → ⊥) → numbersOf a .opcode ≡ 0
   -- M-104: no answer has the number 6; M-100: none has 2
   pub withdrawn : (a : Answer) → numbersOf a .number ≡ 6 → ⊥
   pub divided : (a : Answer) → numbersOf a .number ≡ 2 → ⊥
   -- a row gives 0, 1, 3 or 20 to 25
-  pub row : (a : RowAnswer) → (rowNumbersOf a .number ≤ 3) ⊎ ((20 ≤ rowNumbersOf a .number) × (rowNumbersOf a .number ≤ 25))
+  pub row : (a : RowAnswer) → (rowNumbersOf a .number ≤ 3)
+      ⊎ ((20 ≤ rowNumbersOf a .number) × (rowNumbersOf a .number ≤ 25))
   pub rowDivided : (a : RowAnswer) → rowNumbersOf a .number ≡ 2 → ⊥
-  pub rowEntry : (a : RowAnswer) → rowNumbersOf a .number < 20 → (rowNumbersOf a .entry ≡ 0) × (rowNumbersOf a .offset ≡ 0)
-  pub rowRest : (a : RowAnswer) → (rowNumbersOf a .opcode ≡ 0) × (rowNumbersOf a .names ≡ 0) × (rowNumbersOf a .repaired ≡ 0) × (rowNumbersOf a .left ≡ 0)
+  pub rowEntry : (a : RowAnswer) → rowNumbersOf a .number < 20
+      → (rowNumbersOf a .entry ≡ 0) × (rowNumbersOf a .offset ≡ 0)
+  pub rowRest : (a : RowAnswer) → (rowNumbersOf a .opcode ≡ 0) × (rowNumbersOf a .names ≡ 0)
+      × (rowNumbersOf a .repaired ≡ 0) × (rowNumbersOf a .left ≡ 0)
   -- reading alone gives 0 or 20 to 25
   pub reading : (a : Reading) → readingNumbersOf a .number < 20
       → (readingNumbersOf a .number ≡ 0) × (readingNumbersOf a .entry ≡ 0) × (readingNumbersOf a .offset ≡ 0)
   pub readingMost : (a : Reading) → readingNumbersOf a .number ≤ 25
-  pub readingRest : (a : Reading) → (readingNumbersOf a .opcode ≡ 0) × (readingNumbersOf a .names ≡ 0) × (readingNumbersOf a .repaired ≡ 0) × (readingNumbersOf a .left ≡ 0)
+  pub readingRest : (a : Reading) → (readingNumbersOf a .opcode ≡ 0) × (readingNumbersOf a .names ≡ 0)
+      × (readingNumbersOf a .repaired ≡ 0) × (readingNumbersOf a .left ≡ 0)
 
--- a malformed list (document 02, M-100): the entries before it are those read whole, and the byte lies in the list or is
--- its end
+-- a malformed list (document 02, M-100): the entries before it are those read whole, and the byte lies in the list or
+-- is its end
 pub record Located (list : List ℕ) (k : ℕ) (why : Refusal) : Type 0 where
   pub entries : k ≡ length (itemsOf list)
   pub offset : why .at ≤ length list
@@ -238,13 +246,16 @@ RefusedFor list q = (k : ℕ) × ((at : ℕ) × (readingOf list ≡ R.Malformed 
 -- each of 20 to 25 exactly when: of a run, of a row, of reading alone
 pub record By-reason : Type 1 where
   pub run : (A : Type 0) (c : Call A) (e : End A) → Meets (outOf c) (c .room) e → (q : Reason)
-      → (numbersOf (e .answer) .number ≡ reasonNumber q) ↔ ((inRange (c .window) (c .period) ≡ true) × RefusedFor (c .list) q)
+      → (numbersOf (e .answer) .number ≡ reasonNumber q)
+      ↔ ((inRange (c .window) (c .period) ≡ true) × RefusedFor (c .list) q)
   pub row : (w : RowWindow) (scale : Float) (y : ℕ) (list : List ℕ) (row : List Float) (r : RowAnswer) (t : List Float)
       → RowRan (rowOut w scale y list row) r t → (q : Reason)
       → (rowNumbersOf r .number ≡ reasonNumber q) ↔ ((rowInRange w y (length row) ≡ true) × RefusedFor list q)
-  pub reading : (list : List ℕ) (q : Reason) → (readingNumbersOf (readingOf list) .number ≡ reasonNumber q) ↔ RefusedFor list q
+  pub reading : (list : List ℕ) (q : Reason)
+      → (readingNumbersOf (readingOf list) .number ≡ reasonNumber q) ↔ RefusedFor list q
 
--- ---- 4. totals: over a run that answers 0 they are sums over its repairs, and add up to the distinct marked positions of all of them
+-- ---- 4. totals: over a run that answers 0 they are sums over its repairs, and add up to the distinct marked positions
+-- of all of them
 
 module _ {A : Type 0} (c : Call A) (count : (ℕ → Bool) → ℕ) where
   abbrev pub countOn : Class → Item → List A → ℕ

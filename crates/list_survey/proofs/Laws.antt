@@ -163,12 +163,13 @@ empty-list [] h = refl
 empty-list (i ∷ is) h = absurd (omega (arith, h))
 
 module _ (s : List ℕ) {x : Entries} (e : x ≡ entriesOf s) where
-  pub none : {why : Refusal} {v : Surveyed} → x ≡ E.Refused why → v ≡ surveyedBy (R.Malformed 0 why) 0 begun → v ≡ surveyOf s
+  pub none :
+      {why : Refusal} {t : Tally} {v : Surveyed} → x ≡ E.Refused why → t ≡ begun → v ≡ surveyedBy (R.Malformed 0 why) 0 t → v ≡ surveyOf s
   unfolding surveyOf
-  none f h =
+  none f b h =
       let bad = reading-none s e f in
       let z = refused s (sym bad) .0 in
-      found (itemsOf s) begun h (sym z) (no-more begun (empty-list (itemsOf s) z))
+      found (itemsOf s) _ h (sym z) (b ∙ no-more begun (empty-list (itemsOf s) z))
       ∙ ap (λ (r : Reading). record { reading = r; survey = surveyOn (itemsOf s) }) bad
 
   module _ {n : ℕ} (f : x ≡ E.Are n) where

@@ -25,7 +25,12 @@ use Rattle.rolbhunga.specs.declared.RowNumbers.{RowNumbers}
 abbrev pub rowNumbersFor : RowAnswer → RowNumbers
 rowNumbersFor (Row.Done n) = record { number = 0; entry = 0; offset = 0; skipped = n }
 rowNumbersFor Row.Range = record { number = 1; entry = 0; offset = 0; skipped = 0 }
-rowNumbersFor (Row.Malformed k why) = record { number = reasonNumber (why .reason); entry = k; offset = why .at; skipped = 0 }
+rowNumbersFor (Row.Malformed k why) = record {
+  number = reasonNumber (why .reason);
+  entry = k;
+  offset = why .at;
+  skipped = 0;
+}
 rowNumbersFor Row.NotTaken = record { number = 3; entry = 0; offset = 0; skipped = 0 }
 
 -- too little work room: 100, which no other answer has

@@ -39,8 +39,8 @@ ghost use Rattle.rolbhunga.specs.Calls.{
   Bytes,
 };
 
-// What a row call answers: the papers' number, the entries read whole before a malformed one, the byte at which that one
-// was refused, and how many opcodes of the list the f32 run names.
+// What a row call answers: the papers' number, the entries read whole before a malformed one, the byte at which that
+// one was refused, and how many opcodes of the list the f32 run names.
 #[repr(C)]
 pub struct RowNumbers {
     pub number: u32,

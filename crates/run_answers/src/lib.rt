@@ -80,7 +80,15 @@ pub fn malformed_numbers(entry: usize, why: Refusal) -> Numbers
 }
 
 fn refused(number: u32, opcode: usize) -> Numbers
-    ensures { λ r. ⌜ r ≡ record { number = number; entry = 0; offset = 0; opcode = opcode; names = 0; repaired = 0; left = 0 } ⌝ }
+    ensures { λ r. ⌜ r ≡ record {
+      number = number;
+      entry = 0;
+      offset = 0;
+      opcode = opcode;
+      names = 0;
+      repaired = 0;
+      left = 0;
+    } ⌝ }
 {
     Numbers {
         number: number,

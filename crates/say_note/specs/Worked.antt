@@ -38,5 +38,17 @@ pub record Notes : Type 0 where
       ≡ text "OpcodeList1: applied FixBadPixelsConstant x2, MapTable\nOpcodeList1: not applied WarpFisheye, MapTable\n"
 
 pub worked : Notes
-unfolding big readingOf itemsOf counted readFrom stepAt nextAt parsedAt constantAt warpAt polynomialAt countedAt gainAt badListAt namesOf digitsIn decimal nameText occurs item firsts behind joined names about lines malformedAfter noteOn noteOf
-worked = record { all-names = refl; example = refl; no-input = refl; cut = refl; no-opcodes = refl; no-pixels = refl; all-applied = refl; repeats = refl; mixed = refl }
+unfolding big readingOf itemsOf counted readFrom stepAt nextAt parsedAt constantAt warpAt polynomialAt countedAt gainAt
+    badListAt namesOf digitsIn decimal nameText occurs item firsts behind joined names about lines malformedAfter noteOn
+    noteOf
+worked = record {
+  all-names = refl;
+  example = refl;
+  no-input = refl;
+  cut = refl;
+  no-opcodes = refl;
+  no-pixels = refl;
+  all-applied = refl;
+  repeats = refl;
+  mixed = refl;
+}

@@ -66,9 +66,11 @@ doneText form b n repaired left held =
 abbrev pub whyText : Reason → List ℕ
 whyText Why.Ends = text "20: the list is cut short: it ends inside its count or an entry's header, at byte "
 whyText Why.TooMany = text "21: the number of entries cannot be right: it is above 4096, at byte "
-whyText Why.TooLong = text "22: the list is cut short, or a length cannot be right: a body is longer than the rest, at byte "
+whyText Why.TooLong =
+    text "22: the list is cut short, or a length cannot be right: a body is longer than the rest, at byte "
 whyText Why.Inside = text "23: an entry is cut short: its body ends inside a field, at byte "
-whyText Why.Count = text "24: a count cannot be right: it breaks its limit, or the body is shorter than it says, at byte "
+whyText Why.Count =
+    text "24: a count cannot be right: it breaks its limit, or the body is shorter than it says, at byte "
 whyText Why.Degree = text "25: a degree cannot be right: it is above 8, at byte "
 
 unfoldable pub malformedText : ℕ → Refusal → List ℕ

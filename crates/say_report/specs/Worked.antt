@@ -19,7 +19,8 @@ pub record Worked : Type 0 where
       ≡ text "0: done in f32, rounded back"
       ++ (10 ∷ text "skipped WarpFisheye: 2"
       ++ (10 ∷ text "skipped unknown opcode: 1"
-      ++ (10 ∷ text "repaired: 0" ++ (10 ∷ text "left: 0" ++ (10 ∷ text "held to the largest value: 2" ++ (10 ∷ text "the frame is not whole" ++ (10 ∷ [])))))))
+      ++ (10 ∷ text "repaired: 0" ++ (10 ∷ text "left: 0" ++
+      (10 ∷ text "held to the largest value: 2" ++ (10 ∷ text "the frame is not whole" ++ (10 ∷ [])))))))
   -- a transfer that was cut, and a count that was damaged
   pub cut :
       textOf (Ans.Malformed 7 (refusal Why.Ends 132)) Float [] 0
@@ -29,7 +30,8 @@ pub record Worked : Type 0 where
       textOf (Ans.Malformed 0 (refusal Why.Count 52)) Float [] 0
       ≡ text "24: a count cannot be right: it breaks its limit, or the body is shorter than it says, at byte 52"
       ++ (10 ∷ text "whole entries before: 0" ++ (10 ∷ []))
-  pub full : textOf (Ans.Marks 4095) Float [] 0 ≡ text "5: more bad pixels than the scratch holds, at opcode 4095" ++ (10 ∷ [])
+  pub full : textOf (Ans.Marks 4095) Float [] 0
+      ≡ text "5: more bad pixels than the scratch holds, at opcode 4095" ++ (10 ∷ [])
 
 pub worked : Worked
 unfolding occurs line lineIf skippedText doneText malformedText decimal digitsIn

@@ -1,5 +1,5 @@
-// What a run answered, as text: a refusal is one line, of a malformed list two; a result has a line each for the form, what
-// was skipped, the totals and the verdict.
+// What a run answered, as text: a refusal is one line, of a malformed list two; a result has a line each for the form,
+// what was skipped, the totals and the verdict.
 use dng::Answer;
 use dng::Reason;
 use dng::Refusal;

@@ -76,7 +76,8 @@ returns-3 : tie.Need-returns-3
 returns-3 c =
     let g = c .before .before .before .before .before in
     let a = g .before .before .before .before .args in
-    within-as _ 512 (lit≤ tt) (ap (λ (x : Answer). textOf x (a .form) (a .names .now) (a .held)) (sym (g .a2 .given .1))) (c .before .before .put-malformed .ensures)
+    within-as _ 512 (lit≤ tt) (ap (λ (x : Answer). textOf x (a .form) (a .names .now) (a .held)) (sym (g .a2 .given .1)))
+    (c .before .before .put-malformed .ensures)
 
 returns-4 : tie.Need-returns-4
 returns-4 c =
