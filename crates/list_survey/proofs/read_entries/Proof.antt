@@ -31,7 +31,7 @@ loop-holds c =
       omega (arith, ap (λ n. length (readFrom (now (args .list)) n start)) z),
       ap (λ n. whyFrom (now (args .list)) n start) z,
       ap (λ t. tallyFrom t (readFrom (now (args .list)) (args .n - 0) start)) (c .begin .ensures)
-      ∙ ap (λ n. tallyFrom begun (readFrom (now (args .list)) n start)) z,
+          ∙ ap (λ n. tallyFrom begun (readFrom (now (args .list)) n start)) z,
     )
 
 turn-requires : tie.Need-turn-requires Inv-loop μ-loop

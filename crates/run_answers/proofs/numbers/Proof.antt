@@ -5,23 +5,8 @@ use borrow.Author.Needs.{needs}
 use Rattle.run_answers.proofs.numbers.Statement.{statement}
 use Rattle.run_answers.proofs.numbers.Tie as tie
 
-returns : tie.Need-returns
-returns c = cc
-
-returns-2 : tie.Need-returns-2
-returns-2 c = cc
-
 returns-3 : tie.Need-returns-3
 returns-3 c = c .malformed-numbers .ensures ∙ sym (ap numbersOf (c .before .before .a2 .given .1))
-
-returns-4 : tie.Need-returns-4
-returns-4 c = cc
-
-returns-5 : tie.Need-returns-5
-returns-5 c = cc
-
-returns-6 : tie.Need-returns-6
-returns-6 c = cc
 
 pub numbers-spec : {M : Type 1} → statement M
 numbers-spec =
@@ -29,4 +14,4 @@ numbers-spec =
     (tie.spec
     (λ c. search needs) (λ c. search needs) (λ c κs. search needs) (λ c. search needs) (λ c κs. search needs)
     (λ c. search needs) (λ c κs. search needs) (λ c. search needs) (λ c κs. search needs) (λ c. search needs)
-    (λ c κs. search needs) (λ c. cc) (λ c. cc) (λ c. cc) (λ c. cc) (λ c. cc) (λ c. cc))
+    (λ c κs. search needs) (λ c. cc) (λ c. cc) returns-3 (λ c. cc) (λ c. cc) (λ c. cc))

@@ -5,9 +5,6 @@ use borrow.Author.Needs.{needs}
 use Rattle.run_answers.proofs.reading_numbers.Statement.{statement}
 use Rattle.run_answers.proofs.reading_numbers.Tie as tie
 
-returns : tie.Need-returns
-returns c = cc
-
 returns-2 : tie.Need-returns-2
 returns-2 c = c .malformed-numbers .ensures ∙ sym (ap readingNumbersOf (c .before .before .a .given .1))
 
@@ -15,4 +12,4 @@ pub reading-numbers-spec : {M : Type 1} → statement M
 reading-numbers-spec =
     tie.close
     (tie.spec
-    (λ c. search needs) (λ c κs. search needs) (λ c. search needs) (λ c κs. search needs) (λ c. cc) (λ c. cc))
+    (λ c. search needs) (λ c κs. search needs) (λ c. search needs) (λ c κs. search needs) (λ c. cc) returns-2)

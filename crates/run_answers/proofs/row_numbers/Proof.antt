@@ -5,21 +5,12 @@ use borrow.Author.Needs.{needs}
 use Rattle.run_answers.proofs.row_numbers.Statement.{statement}
 use Rattle.run_answers.proofs.row_numbers.Tie as tie
 
-returns : tie.Need-returns
-returns c = cc
-
-returns-2 : tie.Need-returns-2
-returns-2 c = cc
-
 returns-3 : tie.Need-returns-3
 returns-3 c = c .malformed-numbers .ensures ∙ sym (ap rowNumbersOf (c .before .before .a .given .1))
-
-returns-4 : tie.Need-returns-4
-returns-4 c = cc
 
 pub row-numbers-spec : {M : Type 1} → statement M
 row-numbers-spec =
     tie.close
     (tie.spec
     (λ c. search needs) (λ c κs. search needs) (λ c. search needs) (λ c κs. search needs) (λ c. search needs)
-    (λ c κs. search needs) (λ c. search needs) (λ c κs. search needs) (λ c. cc) (λ c. cc) (λ c. cc) (λ c. cc))
+    (λ c κs. search needs) (λ c. search needs) (λ c κs. search needs) (λ c. cc) (λ c. cc) returns-3 (λ c. cc))
