@@ -21,8 +21,8 @@
  *    23  the body of an entry ends inside a field of fixed size
  *    24  a count or dimension breaks its limit, or what it counts does not fit the body
  *    25  the degree of a polynomial is above 8
- *        20 to 25: the list is malformed. `entry` entries were read whole before that; `offset` is the byte, from the list's
- *        first, of the field that could not be read or accepted, at most the list's length
+ *        20 to 25: the list is malformed. `entry` entries were read whole before that; `offset` is the byte, from the
+ *        list's first, of the field that could not be read or accepted, at most the list's length
  *     3  the form does not take this list
  *     4  the skip buffer `names` is shorter than the skipped opcodes
  *     5  the repair `opcode` marks more positions than `marks` has entries; nothing of it is written

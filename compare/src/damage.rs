@@ -1,5 +1,6 @@
-// Damaged copies of one list with all thirteen kinds, for the reason and the byte of each refusal: every prefix, every single-bit flip, and
-// every count at its limit and one past it, with the counted values whole, one byte short, and not there.
+// Damaged copies of one list with all thirteen kinds, for the reason and the byte of each refusal: every prefix, every
+// single-bit flip, and every count at its limit and one past it, with the counted values whole, one byte short, and not
+// there.
 use crate::lists::{list_of, word};
 
 fn words(w: &[u32]) -> Vec<u8> {
@@ -42,7 +43,8 @@ fn warp(n: u32) -> Vec<u8> {
     b
 }
 
-// An entry of each kind, and one of no kind; every body but the two that are not read ends with its last field or value.
+// An entry of each kind, and one of no kind; every body but the two that are not read ends with its last field or
+// value.
 pub fn all_kinds() -> Vec<(u32, Vec<u8>)> {
     vec![
         (1, warp(1)),
@@ -107,7 +109,9 @@ fn counts(put: &mut dyn FnMut(Vec<u8>)) {
         cut(9, gain(v, h + 1, p, 4 * n), 76);
         cut(9, gain(v, h, p + 2, 4 * n), 76);
     }
-    for (v, h, p) in [(4096, 4096, 1), (4096, 4097, 1), (1, 1, 1 << 24), (1, 1, most + 1), (u32::MAX, u32::MAX, u32::MAX), (1 << 31, 1 << 31, 4)] {
+    let all = u32::MAX;
+    let half = 1 << 31;
+    for (v, h, p) in [(4096, 4096, 1), (4096, 4097, 1), (1, 1, 1 << 24), (1, 1, most + 1), (all, all, all), (half, half, 4)] {
         cut(9, gain(v, h, p, 4), 76);
     }
     // the list's own count, and an entry's length

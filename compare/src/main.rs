@@ -160,9 +160,8 @@ fn main() {
     for (k, v) in &all {
         println!("{v:>12}  {k}");
     }
-    println!(
-        "compared {cases} cases of seed {seed}, seven calls each, {fixed} at the limits, {copies} damaged copies, {cuts} cuts into tiles: {wrong} differ"
-    );
+    let rest = format!("{fixed} at the limits, {copies} damaged copies, {cuts} cuts into tiles");
+    println!("compared {cases} cases of seed {seed}, seven calls each, {rest}: {wrong} differ");
     if wrong > 0 {
         exit(1);
     }

@@ -1,5 +1,6 @@
-// Why a list is refused, and at which byte: document 02, M-100, with document 01's layouts, read once more, apart from the definitions and
-// from the library. A reader goes from field to field; a field that is not whole is an error at its first byte.
+// Why a list is refused, and at which byte: document 02, M-100, with document 01's layouts, read once more, apart from
+// the definitions and from the library. A reader goes from field to field; a field that is not whole is an error at
+// its first byte.
 
 #[derive(Debug, Clone, Copy, PartialEq, Eq)]
 pub struct Refusal {

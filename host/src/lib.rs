@@ -88,8 +88,8 @@ pub enum Answer {
     Done { names: usize, repaired: u64, left: u64 },
     /// 1: a number of the frame is out of its range.
     Range,
-    /// 20 to 25: the list is malformed, after `entry` entries that were read whole. `offset` is the byte, from the list's first, of
-    /// the field that could not be read or accepted. 2 is divided: no answer has it.
+    /// 20 to 25: the list is malformed, after `entry` entries that were read whole. `offset` is the byte, from the
+    /// list's first, of the field that could not be read or accepted. 2 is divided: no answer has it.
     Malformed { entry: usize, reason: Reason, offset: usize },
     /// 3: the form does not take this list.
     NotTaken,
@@ -160,8 +160,8 @@ pub enum RowAnswer {
     Done { skipped: usize },
     /// 1: a number of the row is out of its range.
     Range,
-    /// 20 to 25: the list is malformed, after `entry` entries that were read whole. `offset` is the byte, from the list's first, of
-    /// the field that could not be read or accepted. 2 is divided: no answer has it.
+    /// 20 to 25: the list is malformed, after `entry` entries that were read whole. `offset` is the byte, from the
+    /// list's first, of the field that could not be read or accepted. 2 is divided: no answer has it.
     Malformed { entry: usize, reason: Reason, offset: usize },
     /// 3: the list has a repair or an empty table.
     NotTaken,
@@ -226,8 +226,8 @@ impl fmt::Display for RowAnswer {
 pub enum Reading {
     /// 0: every entry can be read.
     Whole,
-    /// 20 to 25: malformed, after `entry` entries that were read whole. `offset` is the byte, from the list's first, of the field
-    /// that could not be read or accepted; it is at most the list's length.
+    /// 20 to 25: malformed, after `entry` entries that were read whole. `offset` is the byte, from the list's first, of
+    /// the field that could not be read or accepted; it is at most the list's length.
     Malformed { entry: usize, reason: Reason, offset: usize },
 }
 

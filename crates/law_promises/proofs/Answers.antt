@@ -59,7 +59,7 @@ module _ {A : Type 0} (c : Call A) where
         go true (R.Malformed k why) i r = malformed k why i r
         go false q i r = range i
 
-  -- none of 1 to 4: all opcodes, then the names
+  -- none of 1, 20 to 25, 3, 4: all opcodes, then the names
   pub goes-on : Goes c → outOf c ≡ finished named (c .names) all
   unfolding runOut ranOn
   goes-on g =
