@@ -12,8 +12,8 @@
  * Answers (the field `number`)
  *     0  done
  *     1  a number is out of its range: width, height, stride and period at most 65,536; planes 1 to 8; x0, y0,
- *     full_width and
- *        full_height at most 16,777,216; of a row: its number at most 16,842,751, and at most width * planes samples
+ *        full_width and full_height at most 16,777,216; of a row: its number at most 16,842,751, and at most
+ *        width * planes samples
  *        (2 is divided into 20 to 25: it is never given, and no other answer has its number)
  *    20  the list ends inside its count or inside an entry's header: it is cut short
  *    21  the list has more than 4,096 entries
@@ -22,7 +22,8 @@
  *    24  a count or dimension breaks its limit, or what it counts does not fit the body
  *    25  the degree of a polynomial is above 8
  *        20 to 25: the list is malformed. `entry` entries were read whole before that; `offset` is the byte, from the
- *        list's first, of the field that could not be read or accepted, at most the list's length
+ *        list's first, of the field that could not be read or accepted: of 22 the length, of several counts the first.
+ *        It is at most the list's length
  *     3  the form does not take this list
  *     4  the skip buffer `names` is shorter than the skipped opcodes
  *     5  the repair `opcode` marks more positions than `marks` has entries; nothing of it is written

@@ -17,6 +17,8 @@ use Rattle.num_round.specs.Whole.{roundHeld}
 use Rattle.num_convert.specs.Convert.{wholeIn, heldTo}
 use Rattle.dng.specs.declared.Region.{Region}
 use Rattle.dng.specs.declared.Window.{Window}
+use Rattle.dng.specs.declared.RowWindow.{RowWindow}
+use Rattle.dng.specs.declared.Numbers.{Numbers}
 use Rattle.dng.specs.declared.Opcode.{Opcode}
 use Rattle.dng.specs.declared.Opcode.the-variants.{WarpRectilinear, FixVignetteRadial, FixBadPixelsConstant, FixBadPixelsList, TrimBounds, MapTable, MapPolynomial, GainMap, DeltaPerRow, DeltaPerColumn, ScalePerRow, ScalePerColumn, Other}
 use Rattle.dng.specs.declared.Entry.{Entry}
@@ -32,7 +34,7 @@ use Rattle.dng.specs.Select.{onRegion, inWindow, active}
 use Rattle.dng.specs.Value.{Frame, mapTable, mapPolynomial, horner, nth, delta, scaled, position, mix, lineAt, gainOf, gained, ruleOf}
 use Rattle.dng.specs.Repair.{countBelow, complete, pointAt, rectAt, badValue, marksOf, moved, sound, tallyOn, tallyAt, repairAt, soundOn, markedIn, repairedIn, leftIn}
 use Rattle.dng.specs.Run.{f32Kind, namesOf, takes16On, takes16From, repairOn, performAll, Room}
-use Rattle.dng.specs.Answer.{inRange, ranOn, runOut, u16Out}
+use Rattle.dng.specs.Answer.{numbersOf, readingNumbersOf, rowNumbersOf, inRange, rowInRange, ranOn, runOut, u16Out, rowOut}
 use Rattle.dng.specs.Frames.{words, whole, frame, room, constant, entry, listOf, out}
 
 -- the bytes of f64 and of f32 values 1, 2, 3, 4, and of u16 entries
@@ -44,6 +46,9 @@ singles = words (1065353216 ∷ 1073741824 ∷ 1077936128 ∷ 1082130432 ∷ [])
 
 abbrev double : ℕ → Float
 double n = ofInt binary64 (pos n)
+
+abbrev onePixel : RowWindow
+onePixel = record { width = 1; planes = 1; x0 = 0; «full_width» = 1; «full_height» = 1 }
 
 -- the body b as the opcode with this id
 abbrev read : ℕ → List ℕ → Parsed
@@ -355,6 +360,7 @@ pub record Cuts : Type 0 where
   pub constant-first : zeros 4 3 ≡ cut 0
   pub constant-last : zeros 4 7 ≡ cut 4
   pub bad-list-first : zeros 5 3 ≡ cut 0
+  pub bad-list-second : zeros 5 7 ≡ cut 4
   -- np is 9, and nr is not there: the sum is met when its last count has been read
   pub bad-list-last : read 5 (words (0 ∷ 9 ∷ [])) ≡ cut 8
   pub trim-first : zeros 6 3 ≡ cut 0
@@ -366,11 +372,16 @@ pub record Cuts : Type 0 where
   pub polynomial-first : zeros 8 3 ≡ cut 0
   pub polynomial-last : zeros 8 35 ≡ cut 32
   pub gain-first : zeros 9 3 ≡ cut 0
+  pub gain-pitch : zeros 9 31 ≡ cut 28
+  pub gain-points-v : zeros 9 35 ≡ cut 32
+  pub gain-points-h : zeros 9 39 ≡ cut 36
   -- points v are 0, which is met when the map planes have been read
   pub gain-spacing : zeros 9 40 ≡ cut 40
   pub gain-spacing-part : zeros 9 44 ≡ cut 40
   pub gain-origin : zeros 9 71 ≡ cut 64
   pub gain-last : zeros 9 75 ≡ cut 72
+  -- nor is v·h refused before where it is far too large
+  pub gain-large : read 9 (area ++ (words (65536 ∷ 65536 ∷ []) ++ doubles)) ≡ cut 72
   pub gain-none : zeros 9 76 ≡ miscounted 32
   pub delta-row-first : zeros 10 3 ≡ cut 0
   pub delta-row-last : zeros 10 35 ≡ cut 32
@@ -392,6 +403,7 @@ cuts =
       constant-first = refl;
       constant-last = refl;
       bad-list-first = refl;
+      bad-list-second = refl;
       bad-list-last = refl;
       trim-first = refl;
       trim-last = refl;
@@ -401,10 +413,14 @@ cuts =
       polynomial-first = refl;
       polynomial-last = refl;
       gain-first = refl;
+      gain-pitch = refl;
+      gain-points-v = refl;
+      gain-points-h = refl;
       gain-spacing = refl;
       gain-spacing-part = refl;
       gain-origin = refl;
       gain-last = refl;
+      gain-large = refl;
       gain-none = refl;
       delta-row-first = refl;
       delta-row-last = refl;
@@ -426,7 +442,8 @@ pub record Counts : Type 0 where
   -- one field can give both 24 and 25: 25 comes first
   pub degree : read 8 (area ++ words (8 ∷ [])) ≡ miscounted 32
   pub degree-over : read 8 (area ++ words (9 ∷ [])) ≡ P.Malformed (refusal Why.Degree 32)
-  -- at points v, though the map planes are too many, or the gains are missing
+  -- at points v, though it is points h that are 0, the map planes that are too many, or the gains that are missing
+  pub gain-points : read 9 (area ++ (words (1 ∷ 0 ∷ []) ++ (doubles ++ words (1 ∷ [])))) ≡ miscounted 32
   pub gain-planes : read 9 (area ++ (words (1 ∷ 1 ∷ []) ++ (doubles ++ words (16777217 ∷ [])))) ≡ miscounted 32
   pub gain-missing : read 9 (area ++ (words (1 ∷ 1 ∷ []) ++ (doubles ++ words (1 ∷ [])))) ≡ miscounted 32
 
@@ -441,6 +458,7 @@ counts =
       line = refl;
       degree = refl;
       degree-over = refl;
+      gain-points = refl;
       gain-planes = refl;
       gain-missing = refl;
     }
@@ -470,10 +488,16 @@ pub record Refusals : Type 0 where
   -- 22: at the length, before the body is looked at; a warp's length too, though its body is never refused
   pub long : readingOf (words (1 ∷ []) ++ header 4 1) ≡ refused 0 Why.TooLong 16
   pub long-second : readingOf (words (2 ∷ []) ++ (entry 2 [] ++ header 1 1)) ≡ refused 1 Why.TooLong 32
+  pub long-degree : readingOf (words (1 ∷ []) ++ (header 8 37 ++ (area ++ words (9 ∷ []))))
+      ≡ refused 0 Why.TooLong 16
   pub warp : readingOf (listOf (entry 1 [] ∷ [])) ≡ R.Whole 1
-  -- 23
+  -- 23: a body ends where its length says, though the list goes on; and comes before the next entry's header, which is
+  -- not there
   pub inside : readingOf (listOf (entry 4 [] ∷ [])) ≡ refused 0 Why.Inside 20
   pub inside-second : readingOf (listOf (entry 2 [] ∷ entry 4 (words (8 ∷ [])) ∷ [])) ≡ refused 1 Why.Inside 40
+  pub inside-followed : readingOf (listOf (entry 4 [] ∷ entry 2 [] ∷ [])) ≡ refused 0 Why.Inside 20
+  pub sum-followed : readingOf (listOf (entry 5 (words (0 ∷ 9 ∷ [])) ∷ entry 2 [] ∷ [])) ≡ refused 0 Why.Inside 28
+  pub inside-before-ends : readingOf (words (2 ∷ []) ++ entry 4 []) ≡ refused 0 Why.Inside 20
   -- 24 and 25 by reading order: the first entry's, whatever the second's is
   pub count-first : readingOf (listOf (entry 10 (area ++ words (1 ∷ [])) ∷ entry 8 (area ++ words (9 ∷ [])) ∷ []))
       ≡ refused 0 Why.Count 52
@@ -482,7 +506,7 @@ pub record Refusals : Type 0 where
 
 pub refusals : Refusals
 unfolding big extent firstCut headerWhy insideWhy fieldWhy whyFrom whyOf readingOf itemsOf counted readFrom stepAt
-    nextAt parsedAt vignetteAt constantAt trimAt warpAt countedAt polynomialAt
+    nextAt parsedAt vignetteAt constantAt trimAt warpAt badListAt countedAt polynomialAt
 refusals =
     record {
       numbers = refl;
@@ -496,12 +520,37 @@ refusals =
       over = refl;
       long = refl;
       long-second = refl;
+      long-degree = refl;
       warp = refl;
       inside = refl;
       inside-second = refl;
+      inside-followed = refl;
+      sum-followed = refl;
+      inside-before-ends = refl;
       count-first = refl;
       degree-first = refl;
     }
+
+-- the numbers of a list refused after one entry, at byte 40: which of the two is which, from every call
+abbrev second-cut : List ℕ
+second-cut = listOf (entry 2 [] ∷ entry 4 (words (8 ∷ [])) ∷ [])
+
+abbrev told : Numbers
+told = record { number = 23; entry = 1; offset = 40; opcode = 0; names = 0; repaired = 0; left = 0 }
+
+pub record Told : Type 0 where
+  pub reading : readingNumbersOf (readingOf second-cut) ≡ told
+  pub run : numbersOf (u16Out (frame 1 1) 1 room second-cut (3 ∷ []) [] .answer) ≡ told
+  pub row : rowNumbersOf (rowOut onePixel (whole 1) 0 second-cut (whole 3 ∷ []) .answer) ≡ told
+  -- the ranges come first: then there is neither entry nor offset
+  pub range : numbersOf (u16Out (frame 65537 1) 1 room second-cut (3 ∷ []) [] .answer) .offset ≡ 0
+  pub row-range : rowNumbersOf (rowOut onePixel (whole 1) 16842752 second-cut (whole 3 ∷ []) .answer)
+      ≡ record { number = 1; entry = 0; offset = 0; opcode = 0; names = 0; repaired = 0; left = 0 }
+
+pub tells : Told
+unfolding big firstCut insideWhy whyFrom whyOf readingOf itemsOf counted readFrom stepAt nextAt parsedAt constantAt
+    inRange rowInRange runOut rowOut
+tells = record { reading = refl; run = refl; row = refl; range = refl; row-range = refl }
 
 -- ---- runs
 

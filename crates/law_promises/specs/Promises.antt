@@ -357,8 +357,8 @@ Whole-calls =
     room′ e′
     → Wholes-agree e e′
 
--- The same with one scratch for both, however short, and on 1, 2 and 5 too: the f32 run answers what the whole-number
--- form answers, but for the number of names.
+-- The same with one scratch for both, however short, and on 1, 20 to 25 and 5 too: the f32 run answers what the
+-- whole-number form answers, but for the number of names.
 pub record Wholes-alike (list : List ℕ) (e : End ℕ) (e′ : End Float) : Type 0 where
   pub answers : e′ .answer ≡ renamed (length (namesOf skipped (itemsOf list))) (e .answer)
   pub samples : e .samples ≡ narrowed (e′ .samples)

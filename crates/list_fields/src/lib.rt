@@ -1,6 +1,5 @@
 // The fields of a body and the records made of them. Positions are those of the whole list: a field k bytes into a body
-// that starts at
-// `at` stands at `at + k`. A field past the list's end is 0, so every function takes any position.
+// that starts at `at` stands at `at + k`. A field past the list's end is 0, so every function takes any position.
 // Of a body of `len` bytes a reader answers what it reads, or the offset of the first field that is not whole.
 use dng::Grid;
 use dng::Radial;
