@@ -227,7 +227,8 @@ pub enum Reading {
     /// 0: every entry can be read.
     Whole,
     /// 20 to 25: malformed, after `entry` entries that were read whole. `offset` is the byte, from the list's first, of
-    /// the field that could not be read or accepted; it is at most the list's length.
+    /// the field that could not be read or accepted: of 22 the length, of several counts the first. It is at most the
+    /// list's length.
     Malformed { entry: usize, reason: Reason, offset: usize },
 }
 
