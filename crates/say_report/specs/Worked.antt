@@ -1,12 +1,14 @@
 -- Worked texts, each by computing; 10 is a newline.
 use mathlib.Core.Path.{_≡_, refl}
 use mathlib.Core.List.{[], _∷_, _++_}
+use lib.ListN.{take}
 use Rattle.num_text.specs.Text.{text, decimal, digitsIn}
 use Rattle.dng.specs.declared.Answer.the-variants as Ans
+use Rattle.dng.specs.declared.Reason.{Reason}
 use Rattle.dng.specs.declared.Reason.the-variants as Why
-use Rattle.dng.specs.List.{refusal}
+use Rattle.dng.specs.List.{refusal, reasonNumber}
 use Rattle.say_report.specs.declared.Form.the-variants.{Whole, Rounded, Float}
-use Rattle.say_report.specs.Report.{occurs, line, lineIf, skippedText, doneText, malformedText, textOf}
+use Rattle.say_report.specs.Report.{occurs, line, lineIf, skippedText, doneText, whyText, malformedText, textOf}
 
 pub record Worked : Type 0 where
   pub whole :
@@ -36,3 +38,13 @@ pub record Worked : Type 0 where
 pub worked : Worked
 unfolding occurs line lineIf skippedText doneText malformedText decimal digitsIn
 worked = record { whole = refl; skipped = refl; cut = refl; damaged = refl; full = refl }
+
+-- the number in front of a reason's sentence is the paper's
+pub numbered : (q : Reason) → take 2 (whyText q) ≡ decimal (reasonNumber q)
+unfolding decimal digitsIn
+numbered Why.Ends = refl
+numbered Why.TooMany = refl
+numbered Why.TooLong = refl
+numbered Why.Inside = refl
+numbered Why.Count = refl
+numbered Why.Degree = refl
