@@ -3,7 +3,7 @@
 use mathlib.Core.Path.{_≡_, refl, sym, ap, subst, _∙_}
 use mathlib.Core.Bool.{Bool, true, false, _&&_, cond}
 use mathlib.Core.List.{List, [], _∷_, _++_}
-use Prim.Native.Nat.{ℕ, _+_, _-_, _*_, _≤_, _<_}
+use Prim.Native.Nat.{ℕ, _+_, _-_, _*_, _/_, _≤_, _<_}
 use native.Mathlib.Omega.{arith}
 use borrow.Author.Tests.{le-leb, lt-leb, leb-true, leb-false}
 use lib.Dec.{leb}
@@ -19,10 +19,11 @@ use Rattle.dng.specs.declared.Opcode.the-variants.{WarpRectilinear, FixVignette
 use Rattle.dng.specs.declared.Reason.{Reason}
 use Rattle.dng.specs.declared.Reason.the-variants as Why
 use Rattle.dng.specs.declared.Refusal.{Refusal}
+use Rattle.dng.specs.declared.Parsed.{Parsed}
 use Rattle.dng.specs.declared.Parsed.the-variants as P
 use Rattle.dng.specs.List.{refusal, offsetIn, extent, firstCut, fours, eights, vignetteFields, constantFields, badListFields, trimFields, countedFields, gainFields, insideWhy, fieldWhy}
 use Rattle.dng.specs.List.{u32At, f64At, regionAt, gridAt, radialAt, given, half, warpAt, vignetteAt, constantAt, badListAt, trimAt, countedAt, polynomialAt, gainAt}
-use Rattle.dng.proofs.Cuts.{extent-append, cut-early, cut-late, cut-here}
+use Rattle.dng.proofs.Cuts.{cut-same, extent-append, cut-early, cut-late, cut-here}
 use Rattle.list_fields.specs.declared.Area.{Area}
 use Rattle.list_fields.specs.declared.Area.the-variants as A
 use Rattle.list_fields.specs.declared.Lattice.{Lattice}
@@ -140,6 +141,11 @@ module _ (s : List ℕ) (at len : ℕ) where
   unfolding constantAt extent
   constant-cut c = cut-inside constantFields _ (sym (lt-leb 8 len (c .short))) c
 
+  pub constant-short : {r : Parsed} → r ≡ P.Malformed (refusal Why.Inside (offsetIn s at (len / 4 * 4))) → len < 8 → r ≡ constantAt s at len
+  unfolding extent
+  constant-short e h =
+      e ∙ constant-cut (record { short = h; place = ap (λ (k : ℕ). offsetIn s at k) (sym (cut-same 4 2 len (omega arith) (omega arith))) })
+
   pub trim-read :
       {t l b r : ℕ} → 16 ≤ len → t ≡ u32At s (at + 0) → l ≡ u32At s (at + 4) → b ≡ u32At s (at + 8) → r ≡ u32At s (at + 12)
       → P.Read (TrimBounds t l b r) ≡ trimAt s at len
@@ -149,6 +155,11 @@ module _ (s : List ℕ) (at len : ℕ) where
   pub trim-cut : {f : ℕ} → CutAt s at len trimFields f → P.Malformed (refusal Why.Inside f) ≡ trimAt s at len
   unfolding trimAt extent
   trim-cut c = cut-inside trimFields _ (sym (lt-leb 16 len (c .short))) c
+
+  pub trim-short : {r : Parsed} → r ≡ P.Malformed (refusal Why.Inside (offsetIn s at (len / 4 * 4))) → len < 16 → r ≡ trimAt s at len
+  unfolding extent
+  trim-short e h =
+      e ∙ trim-cut (record { short = h; place = ap (λ (k : ℕ). offsetIn s at k) (sym (cut-same 4 4 len (omega arith) (omega arith))) })
 
   -- ---- a warp, which is always read
 

@@ -14,7 +14,7 @@ use num_words::Word;
 ghost use mathlib.Core.Path.{_≡_};
 ghost use mathlib.Core.Bool.{cond};
 ghost use lib.Dec.{leb};
-ghost use Prim.Native.Nat.{_<_};
+ghost use Prim.Native.Nat.{_*_, _/_, _<_};
 ghost use Rattle.dng.specs.declared.Opcode.the-variants.{MapTable};
 ghost use Rattle.dng.specs.declared.Reason.the-variants.{Inside, Count, Degree};
 ghost use Rattle.dng.specs.List.{refusal, offsetIn, warpAt, vignetteAt, constantAt, badListAt, trimAt, countedAt};
@@ -79,21 +79,24 @@ fn vignette(list: &[u8], at: usize, len: usize) -> Parsed
     }
 }
 
+// 23, in a body of words alone: the first that is not whole starts at the last multiple of four.
+fn inside_words(list: &[u8], at: usize, len: usize) -> Parsed
+    ensures { λ r. ⌜ r ≡ Parsed.Malformed (refusal Inside (offsetIn (now (list .entry)) at (len / 4 * 4))) ⌝ }
+{
+    inside(list_fields::place(list, at, len / 4 * 4))
+}
+
 fn constant(list: &[u8], at: usize, len: usize) -> Parsed
     ensures { λ r. ⌜ r ≡ constantAt (now (list .entry)) at len ⌝ }
 {
-    match list_fields::word_in(list, at, 0, len) {
-        Word::Cut { at: f } => inside(f),
-        Word::Is { value: constant } => match list_fields::word_in(list, at, 4, len) {
-            Word::Cut { at: f } => inside(f),
-            Word::Is { value: bayer_phase } => Parsed::Read {
-                op: Opcode::FixBadPixelsConstant {
-                    constant,
-                    bayer_phase,
-                },
-            },
-        },
+    if len < 8 {
+        return inside_words(list, at, len);
     }
+    let op = Opcode::FixBadPixelsConstant {
+        constant: list_fields::word(list, at, 0),
+        bayer_phase: list_fields::word(list, at, 4),
+    };
+    Parsed::Read { op }
 }
 
 fn bad_list(list: &[u8], at: usize, len: usize) -> Parsed
@@ -126,26 +129,16 @@ fn bad_list(list: &[u8], at: usize, len: usize) -> Parsed
 fn trim(list: &[u8], at: usize, len: usize) -> Parsed
     ensures { λ r. ⌜ r ≡ trimAt (now (list .entry)) at len ⌝ }
 {
-    match list_fields::word_in(list, at, 0, len) {
-        Word::Cut { at: f } => inside(f),
-        Word::Is { value: top } => match list_fields::word_in(list, at, 4, len) {
-            Word::Cut { at: f } => inside(f),
-            Word::Is { value: left } => match list_fields::word_in(list, at, 8, len) {
-                Word::Cut { at: f } => inside(f),
-                Word::Is { value: bottom } => match list_fields::word_in(list, at, 12, len) {
-                    Word::Cut { at: f } => inside(f),
-                    Word::Is { value: right } => Parsed::Read {
-                        op: Opcode::TrimBounds {
-                            top,
-                            left,
-                            bottom,
-                            right,
-                        },
-                    },
-                },
-            },
-        },
+    if len < 16 {
+        return inside_words(list, at, len);
     }
+    let op = Opcode::TrimBounds {
+        top: list_fields::word(list, at, 0),
+        left: list_fields::word(list, at, 4),
+        bottom: list_fields::word(list, at, 8),
+        right: list_fields::word(list, at, 12),
+    };
+    Parsed::Read { op }
 }
 
 // A region and the number behind it: a count, or a degree.
