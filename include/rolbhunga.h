@@ -15,7 +15,7 @@
  *        full_width and full_height at most 16,777,216; of a row: its number at most 16,842,751, and at most
  *        width * planes samples
  *        (2 is divided into 20 to 25: it is never given, and no other answer has its number)
- *    20  the list ends inside its count or inside an entry's header: it is cut short
+ *    20  the list ends inside its count or inside an entry's header
  *    21  the list has more than 4,096 entries
  *    22  the body of an entry is longer than the rest of the list
  *    23  the body of an entry ends inside a field of fixed size

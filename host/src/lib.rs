@@ -65,10 +65,10 @@ impl Reason {
 impl fmt::Display for Reason {
     fn fmt(&self, f: &mut fmt::Formatter<'_>) -> fmt::Result {
         f.write_str(match self {
-            Reason::Ends => "the list is cut short: it ends inside its count or an entry's header",
+            Reason::Ends => "the list is cut short, or its count cannot be right: it ends inside the count or a header",
             Reason::TooMany => "the number of entries cannot be right: it is above 4096",
             Reason::TooLong => "the list is cut short, or a length cannot be right: a body is longer than the rest",
-            Reason::Inside => "an entry is cut short: its body ends inside a field",
+            Reason::Inside => "a length cannot be right for its entry's kind: the body ends inside a field",
             Reason::Count => "a count cannot be right: it breaks its limit, or the body is shorter than it says",
             Reason::Degree => "a degree cannot be right: it is above 8",
         })

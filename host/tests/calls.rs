@@ -67,7 +67,8 @@ fn reasons() {
         assert_eq!((a, a.number()), (RowAnswer::Malformed { entry, reason, offset }, number));
     }
     let said = read(&words(&[1, 5])).to_string();
-    let why = "20: the list is cut short: it ends inside its count or an entry's header, at byte 8";
+    let why =
+        "20: the list is cut short, or its count cannot be right: it ends inside the count or a header, at byte 8";
     assert_eq!(said, format!("{why}; whole entries before: 0"));
 }
 

@@ -62,13 +62,15 @@ doneText form b n repaired left held =
     ((((formText form ++ skippedText (first n b)) ++ line (text "repaired: ") repaired) ++ line (text "left: ") left)
     ++ lineIf (text "held to the largest value: ") held) ++ verdictText (eqb n 0)
 
--- what was wrong with a list: cut short, or a number in it that cannot be right; the byte follows. Document 02, M-100
+-- what was wrong with a list: cut short, or a number in it that cannot be right; the byte follows. A whole list that
+-- lost its end gives 20 or 22, so the others do not speak of a cut. Document 02, M-100
 abbrev pub whyText : Reason → List ℕ
-whyText Why.Ends = text "20: the list is cut short: it ends inside its count or an entry's header, at byte "
+whyText Why.Ends =
+    text "20: the list is cut short, or its count cannot be right: it ends inside the count or a header, at byte "
 whyText Why.TooMany = text "21: the number of entries cannot be right: it is above 4096, at byte "
 whyText Why.TooLong =
     text "22: the list is cut short, or a length cannot be right: a body is longer than the rest, at byte "
-whyText Why.Inside = text "23: an entry is cut short: its body ends inside a field, at byte "
+whyText Why.Inside = text "23: a length cannot be right for its entry's kind: the body ends inside a field, at byte "
 whyText Why.Count =
     text "24: a count cannot be right: it breaks its limit, or the body is shorter than it says, at byte "
 whyText Why.Degree = text "25: a degree cannot be right: it is above 8, at byte "

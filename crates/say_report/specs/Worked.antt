@@ -25,8 +25,8 @@ pub record Worked : Type 0 where
       (10 ∷ text "held to the largest value: 2" ++ (10 ∷ text "the frame is not whole" ++ (10 ∷ [])))))))
   -- a transfer that was cut, and a count that was damaged
   pub cut :
-      textOf (Ans.Malformed 7 (refusal Why.Ends 132)) Float [] 0
-      ≡ text "20: the list is cut short: it ends inside its count or an entry's header, at byte 132"
+      textOf (Ans.Malformed 7 (refusal Why.Ends 68)) Float [] 0
+      ≡ text "20: the list is cut short, or its count cannot be right: it ends inside the count or a header, at byte 68"
       ++ (10 ∷ text "whole entries before: 7" ++ (10 ∷ []))
   pub damaged :
       textOf (Ans.Malformed 0 (refusal Why.Count 52)) Float [] 0

@@ -161,7 +161,7 @@ fn put_why(out: &mut [u8], reason: Reason, at: u64) -> usize
         Reason::Ends => put_line(
             out,
             0,
-            b"20: the list is cut short: it ends inside its count or an entry's header, at byte ",
+            b"20: the list is cut short, or its count cannot be right: it ends inside the count or a header, at byte ",
             at,
         ),
         Reason::TooMany => put_line(
@@ -179,7 +179,7 @@ fn put_why(out: &mut [u8], reason: Reason, at: u64) -> usize
         Reason::Inside => put_line(
             out,
             0,
-            b"23: an entry is cut short: its body ends inside a field, at byte ",
+            b"23: a length cannot be right for its entry's kind: the body ends inside a field, at byte ",
             at,
         ),
         Reason::Count => put_line(
