@@ -111,7 +111,8 @@ fn counts(put: &mut dyn FnMut(Vec<u8>)) {
     }
     let all = u32::MAX;
     let half = 1 << 31;
-    for (v, h, p) in [(4096, 4096, 1), (4096, 4097, 1), (1, 1, 1 << 24), (1, 1, most + 1), (all, all, all), (half, half, 4)] {
+    let limits = [(4096, 4096, 1), (4096, 4097, 1), (1, 1, 1 << 24), (1, 1, most + 1)];
+    for (v, h, p) in limits.into_iter().chain([(all, all, all), (half, half, 4)]) {
         cut(9, gain(v, h, p, 4), 76);
     }
     // the list's own count, and an entry's length
