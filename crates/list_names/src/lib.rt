@@ -48,7 +48,7 @@ fn put_all(list: &[u8], names: &mut [u8], whole: bool)
                 c = next;
                 k += 1;
             }
-            Step::Malformed => {
+            Step::Malformed { why: _ } => {
                 return;
             }
         }

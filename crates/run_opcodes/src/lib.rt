@@ -121,7 +121,7 @@ pub fn perform_f32(
                 }
             }
             // Not of a list that was read whole.
-            Step::Malformed => {
+            Step::Malformed { why: _ } => {
                 return Performed::All { repaired, left };
             }
         }
@@ -221,7 +221,7 @@ pub fn perform_u16(
                 }
             }
             // Not of a list that was read whole.
-            Step::Malformed => {
+            Step::Malformed { why: _ } => {
                 return Performed::All { repaired, left };
             }
         }

@@ -1,5 +1,5 @@
--- The refusals 1 to 4 as one value: which of them a call is given, or how many names a run that goes on will write.
--- Document 01, 'What comes back'.
+-- The refusals 1, 20 to 25, 3 and 4 as one value: which of them a call is given, or how many names a run that goes on
+-- will write. Document 01, 'What comes back'.
 -- Over which lists a form takes and which opcodes it skips. proofs/Laws says that it is what the definitions of a run
 -- and of a row answer.
 use Prim.Native.Nat.{ℕ}
@@ -43,13 +43,13 @@ module _ (takes : List Item → Bool) (skip : Class → Bool) where
 
   abbrev pub planRead : List ℕ → (room : ℕ) → Reading → Plan
   planRead list room (R.Whole n) = planOn list room
-  planRead list room (R.Malformed k) = P.Refuse (Ans.Malformed k)
+  planRead list room (R.Malformed k why) = P.Refuse (Ans.Malformed k why)
 
-  -- 1 before 2; room is the length of the skip buffer
+  -- 1 before 20 to 25; room is the length of the skip buffer
   unfoldable pub planOf : List ℕ → Window → (period room : ℕ) → Plan
   planOf list w period room = cond (inRange w period) (planRead list room (readingOf list)) (P.Refuse Ans.Range)
 
--- a row: 1, 2, 3
+-- a row: 1, 20 to 25, 3
 unfoldable pub rowPlanFor : (taken : Bool) → (names : ℕ) → RowPlan
 rowPlanFor taken names = cond taken (RP.Go names) (RP.Refuse Row.NotTaken)
 
@@ -58,7 +58,7 @@ rowPlanOn list = rowPlanFor (takesRows (itemsOf list)) (length (namesOf skipped 
 
 abbrev pub rowPlanRead : List ℕ → Reading → RowPlan
 rowPlanRead list (R.Whole n) = rowPlanOn list
-rowPlanRead list (R.Malformed k) = RP.Refuse (Row.Malformed k)
+rowPlanRead list (R.Malformed k why) = RP.Refuse (Row.Malformed k why)
 
 unfoldable pub rowPlanOf : List ℕ → RowWindow → (y n : ℕ) → RowPlan
 rowPlanOf list w y n = cond (rowInRange w y n) (rowPlanRead list (readingOf list)) (RP.Refuse Row.Range)

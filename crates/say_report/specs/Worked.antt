@@ -1,10 +1,14 @@
 -- Worked texts, each by computing; 10 is a newline.
 use mathlib.Core.Path.{_≡_, refl}
 use mathlib.Core.List.{[], _∷_, _++_}
+use lib.ListN.{take}
 use Rattle.num_text.specs.Text.{text, decimal, digitsIn}
 use Rattle.dng.specs.declared.Answer.the-variants as Ans
+use Rattle.dng.specs.declared.Reason.{Reason}
+use Rattle.dng.specs.declared.Reason.the-variants as Why
+use Rattle.dng.specs.List.{refusal, reasonNumber}
 use Rattle.say_report.specs.declared.Form.the-variants.{Whole, Rounded, Float}
-use Rattle.say_report.specs.Report.{occurs, line, lineIf, skippedText, doneText, textOf}
+use Rattle.say_report.specs.Report.{occurs, line, lineIf, skippedText, doneText, whyText, malformedText, textOf}
 
 pub record Worked : Type 0 where
   pub whole :
@@ -19,11 +23,28 @@ pub record Worked : Type 0 where
       ++ (10 ∷ text "skipped unknown opcode: 1"
       ++ (10 ∷ text "repaired: 0" ++ (10 ∷ text "left: 0" ++
       (10 ∷ text "held to the largest value: 2" ++ (10 ∷ text "the frame is not whole" ++ (10 ∷ [])))))))
-  pub malformed : textOf (Ans.Malformed 7) Float [] 0 ≡ text "2: the list is malformed; whole entries before: 7" ++
-      (10 ∷ [])
-  pub full : textOf (Ans.Marks 4095) Float [] 0 ≡ text "5: more bad pixels than the scratch holds, at opcode 4095" ++
-      (10 ∷ [])
+  -- a transfer that was cut, and a count that was damaged
+  pub cut :
+      textOf (Ans.Malformed 7 (refusal Why.Ends 68)) Float [] 0
+      ≡ text "20: the list is cut short, or its count cannot be right: it ends inside the count or a header, at byte 68"
+      ++ (10 ∷ text "whole entries before: 7" ++ (10 ∷ []))
+  pub damaged :
+      textOf (Ans.Malformed 0 (refusal Why.Count 52)) Float [] 0
+      ≡ text "24: a count cannot be right: it breaks its limit, or the body is shorter than it says, at byte 52"
+      ++ (10 ∷ text "whole entries before: 0" ++ (10 ∷ []))
+  pub full : textOf (Ans.Marks 4095) Float [] 0
+      ≡ text "5: more bad pixels than the scratch holds, at opcode 4095" ++ (10 ∷ [])
 
 pub worked : Worked
-unfolding occurs line lineIf skippedText doneText decimal digitsIn
-worked = record { whole = refl; skipped = refl; malformed = refl; full = refl }
+unfolding occurs line lineIf skippedText doneText malformedText decimal digitsIn
+worked = record { whole = refl; skipped = refl; cut = refl; damaged = refl; full = refl }
+
+-- the number in front of a reason's sentence is the paper's
+pub numbered : (q : Reason) → take 2 (whyText q) ≡ decimal (reasonNumber q)
+unfolding decimal digitsIn
+numbered Why.Ends = refl
+numbered Why.TooMany = refl
+numbered Why.TooLong = refl
+numbered Why.Inside = refl
+numbered Why.Count = refl
+numbered Why.Degree = refl
