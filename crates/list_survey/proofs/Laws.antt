@@ -11,8 +11,8 @@ use Rattle.dng.specs.declared.Entry.{Entry}
 use Rattle.dng.specs.declared.Opcode.{Opcode}
 use Rattle.dng.specs.declared.Reading.{Reading}
 use Rattle.dng.specs.declared.Reading.the-variants as R
-use Rattle.dng.specs.List.{Item, itemsOf, readingOf}
-use Rattle.dng.specs.Run.{Class, table, empty, local, repair, unapplied, classOf, nameOf, skipped, skipped16, takes16On, takes16From, takes16, rowTakes, takesRows, namesOf}
+use Rattle.dng.specs.List.{Item, previewOf, itemsOf, readingOf}
+use Rattle.dng.specs.Run.{drops, keptOf, keptIn, Class, table, empty, local, repair, unapplied, classOf, nameOf, skipped, skipped16, takes16On, takes16From, takes16, rowTakes, takesRows, namesOf}
 use Rattle.list_classes.specs.declared.Facts.{Facts}
 use Rattle.list_classes.specs.Classes.{isLocal, isRepair, factsOf}
 use Rattle.list_read.proofs.Fold.{items-bound, refused}
@@ -98,15 +98,36 @@ takes-all t (i ∷ is) =
 
 -- ---- the loop: one entry more, no entry more, and that no count wraps
 
-pub more :
-    (t : Tally) {u : Tally} {is rest : List Item} {e : Entry} {op : Opcode} → is ≡ record { entry = e; op = op } ∷ rest
-    → u ≡ turnOn (factsOf (classOf op)) t → tallyFrom u rest ≡ tallyFrom t is
+-- an entry is dropped, or it is the first of those that are left
+one-kept :
+    (d : Bool) (t : Tally) (i : Item) (rest : List Item)
+    → tallyFrom (cond d t (turnOn (factsOf (classOf (i .op))) t)) rest ≡ tallyFrom t (cond d rest (i ∷ rest))
 unfolding tallyFrom
-more t {rest = rest} p q = ap (λ (v : Tally). tallyFrom v rest) q ∙ sym (ap (tallyFrom t) p)
+one-kept true t i rest = refl
+one-kept false t i rest = refl
 
-pub no-more : (t : Tally) {is : List Item} → is ≡ [] → t ≡ tallyFrom t is
-unfolding tallyFrom
-no-more t p = sym (ap (tallyFrom t) p)
+pub more :
+    (preview : Bool) (t : Tally) {u : Tally} {is rest : List Item} {e : Entry} {op : Opcode} {d : Bool} → is ≡ record { entry = e; op = op } ∷ rest
+    → d ≡ (preview && previewOf e) → u ≡ cond d t (turnOn (factsOf (classOf op)) t)
+    → tallyFrom u (keptOf preview rest) ≡ tallyFrom t (keptOf preview is)
+unfolding keptOf
+more preview t {rest = rest} {e = e} {op} p h q =
+    ap (λ (v : Tally). tallyFrom v (keptOf preview rest)) (q ∙ ap (λ (d : Bool). cond d t (turnOn (factsOf (classOf op)) t)) h)
+    ∙ one-kept (preview && previewOf e) t (record { entry = e; op = op }) (keptOf preview rest)
+    ∙ sym (ap (λ (l : List Item). tallyFrom t (keptOf preview l)) p)
+
+pub no-more : (preview : Bool) (t : Tally) {is : List Item} → is ≡ [] → t ≡ tallyFrom t (keptOf preview is)
+unfolding tallyFrom keptOf
+no-more preview t p = sym (ap (λ (l : List Item). tallyFrom t (keptOf preview l)) p)
+
+kept-bound : (preview : Bool) (is : List Item) → length (keptOf preview is) ≤ length is
+unfolding keptOf
+kept-bound preview [] = omega arith
+kept-bound preview (i ∷ is) = go (drops preview i) (kept-bound preview is)
+  where
+    go : (b : Bool) → length (keptOf preview is) ≤ length is → length (cond b (keptOf preview is) (i ∷ keptOf preview is)) ≤ length (i ∷ is)
+    go true h = omega arith
+    go false h = omega arith
 
 names-bound : (skip : Class → Bool) (is : List Item) → length (namesOf skip is) ≤ length is
 unfolding namesOf
@@ -118,12 +139,14 @@ names-bound skip (i ∷ is) = go (skip (classOf (i .op))) (names-bound skip is)
     go false h = omega arith
 
 pub small :
-    (s : List ℕ) (t : Tally) (is : List Item) → tallyFrom t is ≡ tallyFrom begun (itemsOf s) → (t .skips ≤ 4096) × (t .skips16 ≤ 4096)
-small s t is e =
-    let a = ap (λ (u : Tally). u .skips) e ∙ skips-all begun (itemsOf s) in
-    let b = ap (λ (u : Tally). u .skips16) e ∙ skips16-all begun (itemsOf s) in (
-      omega (arith, a, skips-all t is, names-bound skipped (itemsOf s), items-bound s),
-      omega (arith, b, skips16-all t is, names-bound skipped16 (itemsOf s), items-bound s),
+    (preview : Bool) (s : List ℕ) (t : Tally) (is : List Item) → tallyFrom t is ≡ tallyFrom begun (keptIn preview s)
+    → (t .skips ≤ 4096) × (t .skips16 ≤ 4096)
+small preview s t is e =
+    let a = ap (λ (u : Tally). u .skips) e ∙ skips-all begun (keptIn preview s) in
+    let b = ap (λ (u : Tally). u .skips16) e ∙ skips16-all begun (keptIn preview s) in
+    let few = kept-bound preview (itemsOf s) in (
+      omega (arith, a, skips-all t is, names-bound skipped (keptIn preview s), few, items-bound s),
+      omega (arith, b, skips16-all t is, names-bound skipped16 (keptIn preview s), few, items-bound s),
     )
 
 -- ---- the ways out
@@ -132,23 +155,26 @@ zero-plus : (n : ℕ) → 0 + n ≡ n
 zero-plus n = omega arith
 
 pub known :
-    (s : List ℕ) (t : Tally) {v : Surveyed} {r : Reading} {n : ℕ} → v ≡ surveyedBy r n t → r ≡ readingOf s → n ≡ length (itemsOf s)
-    → t ≡ tallyFrom begun (itemsOf s) → v ≡ surveyOf s
+    (preview : Bool) (s : List ℕ) (t : Tally) {v : Surveyed} {r : Reading} {n : ℕ} → v ≡ surveyedBy r n t → r ≡ readingOf s
+    → n ≡ length (itemsOf s) → t ≡ tallyFrom begun (keptIn preview s) → v ≡ surveyOf preview s
 unfolding surveyOf surveyOn
-known s t {r = r} {n = n} h p q e =
+known preview s t {r = r} {n = n} h p q e =
     h
     ∙ ap (λ (u : Tally). surveyedBy r n u) e
     ∙ simp (
       p,
       q,
-      takes-all begun (itemsOf s),
-      rows-all begun (itemsOf s),
-      skips-all begun (itemsOf s) ∙ zero-plus _,
-      skips16-all begun (itemsOf s) ∙ zero-plus _,
+      takes-all begun (keptIn preview s),
+      rows-all begun (keptIn preview s),
+      skips-all begun (keptIn preview s) ∙ zero-plus _,
+      skips16-all begun (keptIn preview s) ∙ zero-plus _,
     )
 
-pub none : (s : List ℕ) → R.Malformed 0 ≡ readingOf s → (0 ≡ length (itemsOf s)) × (begun ≡ tallyFrom begun (itemsOf s))
-none s e = let z = refused s (sym e) in (sym z, no-more begun (empty-list (itemsOf s) z))
+pub no-entries : (s : List ℕ) → R.Malformed 0 ≡ readingOf s → 0 ≡ length (itemsOf s)
+no-entries s e = sym (refused s (sym e))
+
+pub none : (preview : Bool) (s : List ℕ) → R.Malformed 0 ≡ readingOf s → begun ≡ tallyFrom begun (keptIn preview s)
+none preview s e = no-more preview begun (empty-list (itemsOf s) (refused s (sym e)))
   where
     empty-list : (is : List Item) → length is ≡ 0 → is ≡ []
     empty-list [] h = refl

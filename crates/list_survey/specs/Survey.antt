@@ -7,24 +7,25 @@ use mathlib.Core.List.{List, [], _∷_}
 use lib.ListN.{length}
 use Rattle.dng.specs.declared.Reading.{Reading}
 use Rattle.dng.specs.List.{Item, itemsOf, readingOf}
-use Rattle.dng.specs.Run.{takes16, takesRows, skipped, skipped16, namesOf}
+use Rattle.dng.specs.Run.{keptIn, takes16, takesRows, skipped, skipped16, namesOf}
 use Rattle.list_classes.specs.declared.Facts.{Facts}
 use Rattle.list_survey.specs.declared.Survey.{Survey}
 use Rattle.list_survey.specs.declared.Surveyed.{Surveyed}
 use Rattle.list_survey.specs.declared.Tally.{Tally}
 
-unfoldable pub surveyOn : List Item → Survey
-surveyOn is =
+-- of n entries, of which those are left
+unfoldable pub surveyOn : ℕ → List Item → Survey
+surveyOn n is =
     record {
-      opcodes = length is;
+      opcodes = n;
       takes16 = takes16 is;
       «takes_rows» = takesRows is;
       skips = length (namesOf skipped is);
       skips16 = length (namesOf skipped16 is);
     }
 
-unfoldable pub surveyOf : List ℕ → Surveyed
-surveyOf s = record { reading = readingOf s; survey = surveyOn (itemsOf s) }
+unfoldable pub surveyOf : (preview : Bool) → List ℕ → Surveyed
+surveyOf preview s = record { reading = readingOf s; survey = surveyOn (length (itemsOf s)) (keptIn preview s) }
 
 -- ---- how the pass comes to it: one entry more, and the end
 

@@ -8,45 +8,46 @@ use borrow.Author.Tests.{not-true, not-false}
 use lib.ListN.{length}
 use denote.Ref.{now}
 use Rattle.dng.specs.List.{readFrom, itemsOf}
+use Rattle.dng.specs.Run.{keptOf, keptIn}
 use Rattle.list_read.proofs.Fold.{begin, item, stop, end, total}
 use Rattle.list_read.proofs.Laws.{reading-none, reading-stop, reading-whole}
-use Rattle.list_survey.proofs.Laws.{begun, tallyFrom, more, no-more, small, known, none}
+use Rattle.list_survey.proofs.Laws.{begun, tallyFrom, more, no-more, small, known, no-entries, none}
 use Rattle.list_survey.proofs.read.Statement.{statement}
 use Rattle.list_survey.proofs.read.Tie as tie
 
 abbrev Inv-loop : tie.InvT-loop
-Inv-loop list t₀ n k₀ c₀ t k c =
+Inv-loop list preview t₀ n k₀ c₀ t k c =
     (k ≤ n) × (k + length (readFrom list (n - k) c) ≡ length (itemsOf list)) ×
-    (tallyFrom t (readFrom list (n - k) c) ≡ tallyFrom begun (itemsOf list))
+    (tallyFrom t (keptOf preview (readFrom list (n - k) c)) ≡ tallyFrom begun (keptIn preview list))
 
 abbrev μ-loop : tie.MeasureT-loop
-μ-loop list t₀ n k₀ c₀ t k c = n - k
+μ-loop list preview t₀ n k₀ c₀ t k c = n - k
 
 returns : tie.Need-returns Inv-loop μ-loop
 returns c =
     let bad = reading-none _ (c .before .before .is-counted .ensures) (not-true _ (c .before .if1 .taken)) in
-    known _ _ (c .made-of .ensures) bad (none _ bad .0) (none _ bad .1)
+    known _ _ _ (c .made-of .ensures) bad (no-entries _ bad) (none _ _ bad)
 
 loop-holds : tie.Need-loop-holds Inv-loop μ-loop
 loop-holds c = (
   omega arith,
   omega (arith, ap length (begin _ (c .count .ensures))),
-  ap (tallyFrom begun) (begin _ (c .count .ensures)),
+  ap (λ l. tallyFrom begun (keptOf (c .before .before .before .before .args .preview) l)) (begin _ (c .count .ensures)),
 )
 
 turn-requires : tie.Need-turn-requires Inv-loop μ-loop
-turn-requires c κs = small _ _ _ (c .before .before .before .before .before .loop .inv .2)
+turn-requires c κs = small _ _ _ _ (c .before .before .before .before .before .before .loop .inv .2)
 
 loop-again : tie.Need-loop-again Inv-loop μ-loop
 loop-again c =
-    let b4 = c .before .before .before .before in
-    let taken = b4 .before .loop-test .taken in
-    let stepped = b4 .step .ensures in
-    let told = c .before .before .op .given .1 in
-    let inv = b4 .before .before .loop .inv in (
+    let b5 = c .before .before .before .before .before in
+    let taken = b5 .before .loop-test .taken in
+    let stepped = b5 .step .ensures in
+    let told = c .before .before .before .entry .given .1 in
+    let inv = b5 .before .before .loop .inv in (
       omega arith,
       total _ _ _ _ _ taken stepped told (inv .1),
-      more _ (item _ _ _ _ taken stepped told) (c .turn .ensures) ∙ inv .2,
+      more _ _ (item _ _ _ _ taken stepped told) (c .before .dropped .ensures) (c .turn .ensures) ∙ inv .2,
     )
 
 returns-2 : tie.Need-returns-2 Inv-loop μ-loop
@@ -58,9 +59,9 @@ returns-2 c =
     let read = b4 .before .before .count .ensures in
     let entries : b4 .before .loop .k ≡ length (itemsOf (now (b4 .before .before .before .before .before .before .args .list))) =
     omega (arith, ap length nothing) in
-    known _ _ (c .made-of2 .ensures)
+    known _ _ _ (c .made-of2 .ensures)
     (reading-stop _ (b4 .before .before .before .before .is-counted .ensures) (not-false _ (b4 .before .before .before .if1 .left)) read entries at)
-    entries (no-more _ nothing ∙ inv .2)
+    entries (no-more _ _ nothing ∙ inv .2)
 
 returns-3 : tie.Need-returns-3 Inv-loop μ-loop
 returns-3 c =
@@ -70,9 +71,9 @@ returns-3 c =
     (c .before .before .loop .c) (c .before .loop-test .left) in
     let entries : c .before .before .before .count .result ≡ length (itemsOf (now (b4 .before .before .before .args .list))) =
     omega (arith, ap length nothing) in
-    known _ _ (c .made-of3 .ensures)
+    known _ _ _ (c .made-of3 .ensures)
     (reading-whole _ (b4 .before .is-counted .ensures) (not-false _ (b4 .if1 .left)) (c .before .before .before .count .ensures) entries)
-    entries (no-more _ nothing ∙ inv .2)
+    entries (no-more _ _ nothing ∙ inv .2)
 
 pub read-spec : {M : Type 1} → statement M
 read-spec =
@@ -87,6 +88,7 @@ read-spec =
     loop-holds
     (λ c κs. search needs)
     (λ c. search needs)
+    (λ c κs. search needs)
     turn-requires
     (λ c. omega arith)
     (λ c. omega arith)
