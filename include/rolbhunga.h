@@ -14,14 +14,24 @@
  *     1  a number is out of its range: width, height, stride and period at most 65,536; planes 1 to 8; x0, y0,
  *     full_width and
  *        full_height at most 16,777,216; of a row: its number at most 16,842,751, and at most width * planes samples
- *     2  the list is malformed; `entry` entries were read whole before that
+ *        (2 is divided into 20 to 25: it is never given, and no other answer has its number)
+ *    20  the list ends inside its count or inside an entry's header: it is cut short
+ *    21  the list has more than 4,096 entries
+ *    22  the body of an entry is longer than the rest of the list
+ *    23  the body of an entry ends inside a field of fixed size
+ *    24  a count or dimension breaks its limit, or what it counts does not fit the body
+ *    25  the degree of a polynomial is above 8
+ *        20 to 25: the list is malformed. `entry` entries were read whole before that; `offset` is the byte, from the
+ *        list's first, of the field that could not be read or accepted, at most the list's length
  *     3  the form does not take this list
  *     4  the skip buffer `names` is shorter than the skipped opcodes
  *     5  the repair `opcode` marks more positions than `marks` has entries; nothing of it is written
  *        (6 is withdrawn: it is never given, and no other answer has its number)
  *   100  `work` has fewer entries than the bytes have whole samples (the functions over bytes alone; tested before all
- *   others) They are tested in this order, 5 opcode by opcode. On 1 to 4 and on 100 the samples are as they were; on 5
- *   they are as after the opcodes before. Numbers that are not named here are 0.
+ *        others)
+ * They are tested in this order, 20 to 25 by which is met first while the list is read, 5 opcode by opcode. On 1, 20 to
+ * 25, 3, 4 and 100 the samples are as they were; on 5 they are as after the opcodes before. Numbers that are not named
+ * here are 0.
  */
 #ifndef ROLBHUNGA_H
 #define ROLBHUNGA_H
@@ -35,12 +45,21 @@ extern "C" {
 
 #define ROLBHUNGA_DONE 0u
 #define ROLBHUNGA_RANGE 1u
-#define ROLBHUNGA_MALFORMED 2u
+/* 2 is divided */
+#define ROLBHUNGA_ENDS 20u
+#define ROLBHUNGA_TOO_MANY 21u
+#define ROLBHUNGA_TOO_LONG 22u
+#define ROLBHUNGA_INSIDE 23u
+#define ROLBHUNGA_COUNT 24u
+#define ROLBHUNGA_DEGREE 25u
 #define ROLBHUNGA_NOT_TAKEN 3u
 #define ROLBHUNGA_NAMES 4u
 #define ROLBHUNGA_MARKS 5u
 /* 6 is withdrawn */
 #define ROLBHUNGA_WORK 100u
+
+/* Whether a number says that the list is malformed. */
+#define ROLBHUNGA_IS_MALFORMED(n) ((uint32_t)(n) - ROLBHUNGA_ENDS <= ROLBHUNGA_DEGREE - ROLBHUNGA_ENDS)
 
 /* A list has at most so many opcodes, so that a skip buffer of so many bytes is never too short. */
 #define ROLBHUNGA_MAX_OPCODES 4096u
@@ -81,6 +100,7 @@ typedef struct rolbhunga_settings {
 typedef struct rolbhunga_numbers {
     uint32_t number;
     size_t entry;
+    size_t offset;
     size_t opcode;
     size_t names;
     uint64_t repaired;
@@ -91,10 +111,11 @@ typedef struct rolbhunga_numbers {
 typedef struct rolbhunga_row_numbers {
     uint32_t number;
     size_t entry;
+    size_t offset;
     size_t skipped;
 } rolbhunga_row_numbers;
 
-/* Reads a list, big-endian as in a DNG file: 0 or 2. */
+/* Reads a list, big-endian as in a DNG file: 0 or 20 to 25. */
 rolbhunga_numbers rolbhunga_read(const uint8_t *list, size_t list_len);
 
 /* Runs a list on f32 samples.
@@ -113,14 +134,14 @@ rolbhunga_numbers rolbhunga_run_u16(const uint8_t *list, size_t list_len, uint16
                                     size_t period, uint32_t *marks, size_t marks_len, uint8_t *names, size_t names_len);
 
 /* Runs a list on one row, the row y of the image, as the f32 run would; for lists with no repair and no empty MapTable.
- * Answers 0 to 3. */
+ * Answers 0, 1, 20 to 25 or 3. */
 rolbhunga_row_numbers rolbhunga_run_row(const uint8_t *list, size_t list_len, float *row, size_t row_len, rolbhunga_row_window window,
                                         size_t y, float scale);
 
 /* The same three on samples that stand in bytes, little-endian. `work` is typed room, an entry for each whole sample;
- * it holds only zeros at every return. Bytes left over after the last whole sample stay. On 1 to 4 and on 100 the bytes
- * are as they were; otherwise every f32 sample is written back, and a NaN is then the pattern 7fc00000 hex, whatever it
- * was before. */
+ * it holds only zeros at every return. Bytes left over after the last whole sample stay. On 1, 20 to 25, 3, 4 and 100
+ * the bytes are as they were; otherwise every f32 sample is written back, and a NaN is then the pattern 7fc00000 hex,
+ * whatever it was before. */
 rolbhunga_numbers rolbhunga_bytes_f32(const uint8_t *list, size_t list_len, uint8_t *bytes, size_t bytes_len, rolbhunga_window window,
                                       rolbhunga_settings settings, float *work, size_t work_len, uint32_t *marks, size_t marks_len,
                                       uint8_t *names, size_t names_len);

@@ -5,7 +5,7 @@ use crate::cases::{Case, Lengths};
 use crate::doc01;
 use crate::oracle::{self, same, Oracle, Read, Want};
 use rolbhunga::ffi::{self, Numbers, RowNumbers};
-use rolbhunga::{Answer, Frame, Reading, Room, RowAnswer, WORK};
+use rolbhunga::{Answer, Frame, Reading, Reason, Room, RowAnswer, WORK};
 use std::collections::BTreeMap;
 
 pub type Counts = BTreeMap<String, u64>;
@@ -83,11 +83,16 @@ fn answer_of(n: Numbers) -> Answer {
     match n.number {
         0 => Answer::Done { names: n.names, repaired: n.repaired, left: n.left },
         1 => Answer::Range,
-        2 => Answer::Malformed { entry: n.entry },
         3 => Answer::NotTaken,
         4 => Answer::Names,
-        _ => Answer::Marks { opcode: n.opcode },
+        5 => Answer::Marks { opcode: n.opcode },
+        _ => Answer::Malformed { entry: n.entry, reason: reason(n.number), offset: n.offset },
     }
+}
+
+fn reason(number: u32) -> Reason {
+    use Reason::*;
+    [Ends, TooMany, TooLong, Inside, Count, Degree][number as usize - 20]
 }
 
 fn told<T: std::fmt::Debug + PartialEq>(got: T, want: T) -> Result<(), String> {
@@ -272,8 +277,8 @@ fn typed_row(c: &Case, want: RowNumbers, row: Option<&[f32]>) -> Result<(), Stri
     let answer = match want.number {
         0 => RowAnswer::Done { skipped: want.skipped },
         1 => RowAnswer::Range,
-        2 => RowAnswer::Malformed { entry: want.entry },
-        _ => RowAnswer::NotTaken,
+        3 => RowAnswer::NotTaken,
+        _ => RowAnswer::Malformed { entry: want.entry, reason: reason(want.number), offset: want.offset },
     };
     told(c.frame.row().run(&c.list, s.lend(), c.y), answer)?;
     floats_are(s.now(), &c.row, row)?;
@@ -301,7 +306,7 @@ fn bytes_row(c: &Case, want: RowNumbers, row: Option<&[f32]>) -> Result<(), Stri
             work.len(),
         )
     };
-    told(n, if short { RowNumbers { number: WORK, entry: 0, skipped: 0 } } else { want })?;
+    told(n, if short { RowNumbers { number: WORK, entry: 0, offset: 0, skipped: 0 } } else { want })?;
     let result = match row {
         Some(v) if !short => float_bytes(&float_result(v), c.over),
         _ => float_bytes(&c.row, c.over),
@@ -321,7 +326,10 @@ fn named<T>(what: &str, r: Result<T, String>) -> Result<T, String> {
 pub fn check(c: &Case, o: &Oracle) -> Result<(), String> {
     let list = c.list.clone();
     let read = oracle::want_read(o);
-    let reading = if read.number == 0 { Reading::Whole } else { Reading::Malformed { entry: read.entry } };
+    let reading = match read.number {
+        0 => Reading::Whole,
+        n => Reading::Malformed { entry: read.entry, reason: reason(n), offset: read.offset },
+    };
     named("read", told(rolbhunga::read(&c.list), reading))?;
     let raw = unsafe { ffi::rolbhunga_read(c.list.as_ptr(), c.list.len()) };
     named("read", told(raw, read))?;

@@ -53,7 +53,7 @@ fn replays(c: &Case, o: &Oracle) -> Vec<Replay> {
     let (w, row) = oracle::want_row(c, o);
     let before = float_bytes(&c.row, 0);
     let after = row.map_or(before.clone(), |s| float_bytes(&float_result(s), 0));
-    let numbers = Numbers { entry: w.entry, names: w.skipped, ..oracle::numbers(w.number) };
+    let numbers = Numbers { entry: w.entry, offset: w.offset, names: w.skipped, ..oracle::numbers(w.number) };
     v.push(Replay { form: 3, lengths: nothing, before, numbers, names: vec![], after });
     v
 }
@@ -128,10 +128,11 @@ pub fn write(folder: &str, seed: u64) {
             cases.extend_from_slice(&r.before);
             let n = r.numbers;
             lines += &format!(
-                "{} {} {} {} {} {} {} {} {}\n",
+                "{} {} {} {} {} {} {} {} {} {}\n",
                 r.form,
                 n.number,
                 n.entry,
+                n.offset,
                 n.opcode,
                 n.names,
                 n.repaired,

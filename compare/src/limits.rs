@@ -6,7 +6,7 @@ use rolbhunga::Frame;
 
 const MOST: usize = 1 << 24;
 
-fn case(list: Vec<u8>, frame: Frame) -> Case {
+pub fn case(list: Vec<u8>, frame: Frame) -> Case {
     let n = frame.width * frame.height * frame.planes;
     let n = if n <= 1 << 22 { n } else { 16 };
     Case {

@@ -1,11 +1,13 @@
 // Compares every exported function with the Rust module on cases made by chance. See compare/run.
 mod cases;
 mod check;
+mod damage;
 mod doc01;
 mod frames;
 mod limits;
 mod lists;
 mod oracle;
+mod reasons;
 mod rng;
 mod shrink;
 mod tiles;
@@ -14,6 +16,7 @@ use cases::Case;
 use check::Counts;
 use oracle::Oracle;
 use rng::Rng;
+use rolbhunga::Frame;
 use std::env;
 use std::process::exit;
 use std::thread;
@@ -61,6 +64,28 @@ fn sweep(seed: u64, from: u64, to: u64, step: u64) -> (Counts, u64) {
         k += step;
     }
     (n, wrong)
+}
+
+// Damaged copies of a list with all kinds, over a window of 3 by 2: the answer, why and at which byte, from every call.
+fn damaged(seed: u64) -> (u64, u64) {
+    let (mut copies, mut wrong) = (0, 0);
+    for (what, list) in damage::lists() {
+        let mut c = limits::case(list, Frame::new(3, 2, 1));
+        let o = Oracle::of(&c);
+        c.set_lengths(&mut Rng::new(seed, copies), &o);
+        copies += 1;
+        if let Err(why) = check::check(&c, &o) {
+            wrong += 1;
+            if first() {
+                println!("{what}: {why}");
+                exit(1);
+            }
+            if wrong <= 3 {
+                report(what, &c, &why);
+            }
+        }
+    }
+    (copies, wrong)
 }
 
 // FIRST=1: the first difference ends it, as compare/slips wants it.
@@ -111,6 +136,9 @@ fn main() {
         }
     }
     println!("limits: {fixed} cases, {wrong} differ");
+    let (copies, astray) = damaged(seed);
+    println!("damaged copies: {copies}, {astray} differ");
+    wrong += astray;
     let threads: Vec<_> = (0..jobs).map(|j| thread::spawn(move || sweep(seed, j, cases, jobs))).collect();
     let mut all = Counts::new();
     for t in threads {
@@ -132,7 +160,8 @@ fn main() {
     for (k, v) in &all {
         println!("{v:>12}  {k}");
     }
-    println!("compared {cases} cases of seed {seed}, seven calls each, {fixed} at the limits, {cuts} cuts into tiles: {wrong} differ");
+    let rest = format!("{fixed} at the limits, {copies} damaged copies, {cuts} cuts into tiles");
+    println!("compared {cases} cases of seed {seed}, seven calls each, {rest}: {wrong} differ");
     if wrong > 0 {
         exit(1);
     }

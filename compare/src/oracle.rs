@@ -1,28 +1,40 @@
 // What the Rust module makes of a case, asked opcode by opcode, and the answers that document 01 gives to it.
 // Allowed to differ, and nothing wider: an empty MapTable is named by the f32 run and refused by the row form
-// (DIFFERENCES 1), and what the Rust has no word for: the limits of document 01 and the lengths of the lent buffers.
+// (DIFFERENCES 1), and what the Rust has no word for: the limits of document 01, the lengths of the lent buffers, and
+// why a list is malformed.
 use crate::cases::{Case, Lengths};
 use crate::doc01::{self, Need};
+use crate::reasons::{self, Refusal};
 use dng_opcodes::{apply, apply_u16, parse, u16_exact, Opcode, PlaneImage, RowOps};
 use rolbhunga::ffi::{Numbers, RowNumbers};
 use rolbhunga::Frame;
 
 pub enum Read {
     Whole(Vec<Opcode>),
-    Malformed(usize),
+    Malformed(Refusal),
+}
+
+// Whether a list is read, and after how many entries not, is the Rust's; why and at which byte it does not say.
+pub fn read(list: &[u8]) -> Read {
+    match (parse(list), reasons::read(list)) {
+        (Ok(ops), None) => Read::Whole(ops),
+        (Err(_), Some(why)) => {
+            let entry = entries(list);
+            assert_eq!(entry, why.entry, "entries read whole: the Rust's, and document 02 once more");
+            Read::Malformed(Refusal { entry, ..why })
+        }
+        (theirs, why) => panic!("the Rust reads: {}; document 02 once more: {why:?}", theirs.is_ok()),
+    }
 }
 
 // The entries read whole before a malformed one: the largest count that the Rust reads the same list with.
-pub fn read(list: &[u8]) -> Read {
-    if let Ok(ops) = parse(list) {
-        return Read::Whole(ops);
-    }
+fn entries(list: &[u8]) -> usize {
     if list.len() < 4 {
-        return Read::Malformed(0);
+        return 0;
     }
     let n = u32::from_be_bytes([list[0], list[1], list[2], list[3]]);
     if n > 4096 {
-        return Read::Malformed(0);
+        return 0;
     }
     let mut l = list.to_vec();
     let (mut good, mut bad) = (0, n);
@@ -35,7 +47,7 @@ pub fn read(list: &[u8]) -> Read {
             bad = k;
         }
     }
-    Read::Malformed(good as usize)
+    good as usize
 }
 
 // A repair: its opcode's number, what it needs, and the samples at its start.
@@ -210,7 +222,11 @@ pub struct Want<'a, T> {
 }
 
 pub fn numbers(number: u32) -> Numbers {
-    Numbers { number, entry: 0, opcode: 0, names: 0, repaired: 0, left: 0 }
+    Numbers { number, entry: 0, offset: 0, opcode: 0, names: 0, repaired: 0, left: 0 }
+}
+
+fn malformed(why: Refusal) -> Numbers {
+    Numbers { entry: why.entry, offset: why.offset, ..numbers(why.number) }
 }
 
 fn refused<'a, T>(number: u32) -> Want<'a, T> {
@@ -221,8 +237,8 @@ fn want<'a, T>(c: &Case, o: &'a Oracle, run: &'a Option<Run<T>>, l: &Lengths) ->
     if !doc01::in_range(&c.frame) {
         return refused(1);
     }
-    if let Read::Malformed(entry) = o.read {
-        return Want { numbers: Numbers { entry, ..numbers(2) }, samples: None, names: &[] };
+    if let Read::Malformed(why) = o.read {
+        return Want { numbers: malformed(why), samples: None, names: &[] };
     }
     let run = match run {
         None => return refused(3),
@@ -254,7 +270,7 @@ pub fn want_u16<'a>(c: &Case, o: &'a Oracle) -> Want<'a, u16> {
 pub fn want_read(o: &Oracle) -> Numbers {
     match o.read {
         Read::Whole(_) => numbers(0),
-        Read::Malformed(entry) => Numbers { entry, ..numbers(2) },
+        Read::Malformed(why) => malformed(why),
     }
 }
 
@@ -264,13 +280,15 @@ fn skipped(ops: &[Opcode]) -> usize {
 }
 
 pub fn want_row<'a>(c: &Case, o: &'a Oracle) -> (RowNumbers, Option<&'a [f32]>) {
-    let plain = |number, entry, skipped| RowNumbers { number, entry, skipped };
+    let plain = |number, skipped| RowNumbers { number, entry: 0, offset: 0, skipped };
     if !doc01::row_in_range(&c.frame, c.y, c.row.len()) {
-        return (plain(1, 0, 0), None);
+        return (plain(1, 0), None);
     }
     match (&o.read, &o.row) {
-        (Read::Malformed(k), _) => (plain(2, *k, 0), None),
-        (Read::Whole(_), None) => (plain(3, 0, 0), None),
-        (Read::Whole(ops), Some(row)) => (plain(0, 0, skipped(ops)), Some(row)),
+        (Read::Malformed(why), _) => {
+            (RowNumbers { number: why.number, entry: why.entry, offset: why.offset, skipped: 0 }, None)
+        }
+        (Read::Whole(_), None) => (plain(3, 0), None),
+        (Read::Whole(ops), Some(row)) => (plain(0, skipped(ops)), Some(row)),
     }
 }

@@ -41,6 +41,7 @@ pub struct Settings {
 pub struct Numbers {
     pub number: u32,
     pub entry: usize,
+    pub offset: usize,
     pub opcode: usize,
     pub names: usize,
     pub repaired: u64,
@@ -52,6 +53,7 @@ pub struct Numbers {
 pub struct RowNumbers {
     pub number: u32,
     pub entry: usize,
+    pub offset: usize,
     pub skipped: usize,
 }
 

@@ -18,6 +18,8 @@
 //! assert_eq!(answer, Answer::Done { names: 0, repaired: 1, left: 0 });
 //! assert_eq!(samples, [10.0, 14.5, 19.0]);
 //! ```
+use std::fmt;
+
 pub mod ffi;
 mod find;
 
@@ -29,6 +31,54 @@ pub const WORK: u32 = 100;
 /// The opcodes that a list can have at most, so that so many bytes of names are always enough.
 pub const MAX_OPCODES: usize = 4096;
 
+/// Why a list is malformed.
+#[derive(Debug, Clone, Copy, PartialEq, Eq, Hash)]
+pub enum Reason {
+    /// 20: the list ends inside its count or inside an entry's header.
+    Ends,
+    /// 21: more than 4,096 entries.
+    TooMany,
+    /// 22: the body of an entry is longer than the rest of the list.
+    TooLong,
+    /// 23: the body of an entry ends inside a field of fixed size.
+    Inside,
+    /// 24: a count or dimension breaks its limit, or what it counts does not fit the body.
+    Count,
+    /// 25: the degree of a polynomial is above 8.
+    Degree,
+}
+
+impl Reason {
+    const ALL: [Reason; 6] =
+        [Reason::Ends, Reason::TooMany, Reason::TooLong, Reason::Inside, Reason::Count, Reason::Degree];
+
+    /// Document 02's number of the reason.
+    pub fn number(self) -> u32 {
+        20 + self as u32
+    }
+
+    fn of(number: u32) -> Option<Reason> {
+        Reason::ALL.into_iter().find(|r| r.number() == number)
+    }
+}
+
+impl fmt::Display for Reason {
+    fn fmt(&self, f: &mut fmt::Formatter<'_>) -> fmt::Result {
+        f.write_str(match self {
+            Reason::Ends => "the list is cut short: it ends inside its count or an entry's header",
+            Reason::TooMany => "the number of entries cannot be right: it is above 4096",
+            Reason::TooLong => "the list is cut short, or a length cannot be right: a body is longer than the rest",
+            Reason::Inside => "an entry is cut short: its body ends inside a field",
+            Reason::Count => "a count cannot be right: it breaks its limit, or the body is shorter than it says",
+            Reason::Degree => "a degree cannot be right: it is above 8",
+        })
+    }
+}
+
+fn malformed(f: &mut fmt::Formatter<'_>, entry: usize, reason: Reason, offset: usize) -> fmt::Result {
+    write!(f, "{}: {reason}, at byte {offset}; whole entries before: {entry}", reason.number())
+}
+
 /// What a run answers. On `Range` to `Names` and on `Work` samples and names are as they were; on `Marks` the samples
 /// are as after the opcodes before, and the names are as they were. The scratch holds only zeros after every call. The
 /// number 6 is withdrawn: no answer has it.
@@ -38,8 +88,9 @@ pub enum Answer {
     Done { names: usize, repaired: u64, left: u64 },
     /// 1: a number of the frame is out of its range.
     Range,
-    /// 2: the list is malformed, after `entry` entries that were read whole.
-    Malformed { entry: usize },
+    /// 20 to 25: the list is malformed, after `entry` entries that were read whole. `offset` is the byte, from the
+    /// list's first, of the field that could not be read or accepted. 2 is divided: no answer has it.
+    Malformed { entry: usize, reason: Reason, offset: usize },
     /// 3: the form does not take this list.
     NotTaken,
     /// 4: the skip buffer is shorter than the skipped opcodes.
@@ -52,12 +103,12 @@ pub enum Answer {
 }
 
 impl Answer {
-    /// Document 01's number of the answer.
+    /// The papers' number of the answer.
     pub fn number(self) -> u32 {
         match self {
             Answer::Done { .. } => 0,
             Answer::Range => 1,
-            Answer::Malformed { .. } => 2,
+            Answer::Malformed { reason, .. } => reason.number(),
             Answer::NotTaken => 3,
             Answer::Names => 4,
             Answer::Marks { .. } => 5,
@@ -74,12 +125,30 @@ impl Answer {
         match n.number {
             0 => Answer::Done { names: n.names, repaired: n.repaired, left: n.left },
             1 => Answer::Range,
-            2 => Answer::Malformed { entry: n.entry },
             3 => Answer::NotTaken,
             4 => Answer::Names,
             5 => Answer::Marks { opcode: n.opcode },
             WORK => Answer::Work,
-            other => unreachable!("no answer has the number {other}"),
+            other => match Reason::of(other) {
+                Some(reason) => Answer::Malformed { entry: n.entry, reason, offset: n.offset },
+                None => unreachable!("no answer has the number {other}"),
+            },
+        }
+    }
+}
+
+impl fmt::Display for Answer {
+    fn fmt(&self, f: &mut fmt::Formatter<'_>) -> fmt::Result {
+        match *self {
+            Answer::Done { names, repaired, left } => {
+                write!(f, "0: done; skipped opcodes: {names}, repaired: {repaired}, left: {left}")
+            }
+            Answer::Range => f.write_str("1: a number is outside its range"),
+            Answer::Malformed { entry, reason, offset } => malformed(f, entry, reason, offset),
+            Answer::NotTaken => f.write_str("3: the form does not take the list"),
+            Answer::Names => f.write_str("4: more skipped opcodes than names fit"),
+            Answer::Marks { opcode } => write!(f, "5: more bad pixels than the scratch holds, at opcode {opcode}"),
+            Answer::Work => f.write_str("100: the work room is too small"),
         }
     }
 }
@@ -91,8 +160,9 @@ pub enum RowAnswer {
     Done { skipped: usize },
     /// 1: a number of the row is out of its range.
     Range,
-    /// 2: the list is malformed, after `entry` entries that were read whole.
-    Malformed { entry: usize },
+    /// 20 to 25: the list is malformed, after `entry` entries that were read whole. `offset` is the byte, from the
+    /// list's first, of the field that could not be read or accepted. 2 is divided: no answer has it.
+    Malformed { entry: usize, reason: Reason, offset: usize },
     /// 3: the list has a repair or an empty table.
     NotTaken,
     /// 100, of the form over bytes alone.
@@ -100,12 +170,12 @@ pub enum RowAnswer {
 }
 
 impl RowAnswer {
-    /// Document 01's number of the answer.
+    /// The papers' number of the answer.
     pub fn number(self) -> u32 {
         match self {
             RowAnswer::Done { .. } => 0,
             RowAnswer::Range => 1,
-            RowAnswer::Malformed { .. } => 2,
+            RowAnswer::Malformed { reason, .. } => reason.number(),
             RowAnswer::NotTaken => 3,
             RowAnswer::Work => WORK,
         }
@@ -120,21 +190,64 @@ impl RowAnswer {
         match n.number {
             0 => RowAnswer::Done { skipped: n.skipped },
             1 => RowAnswer::Range,
-            2 => RowAnswer::Malformed { entry: n.entry },
             3 => RowAnswer::NotTaken,
             WORK => RowAnswer::Work,
-            other => unreachable!("no answer of a row has the number {other}"),
+            other => match Reason::of(other) {
+                Some(reason) => RowAnswer::Malformed { entry: n.entry, reason, offset: n.offset },
+                None => unreachable!("no answer of a row has the number {other}"),
+            },
+        }
+    }
+}
+
+impl fmt::Display for RowAnswer {
+    fn fmt(&self, f: &mut fmt::Formatter<'_>) -> fmt::Result {
+        match *self {
+            RowAnswer::Done { skipped } => write!(f, "0: done; skipped opcodes: {skipped}"),
+            RowAnswer::Range => f.write_str("1: a number is outside its range"),
+            RowAnswer::Malformed { entry, reason, offset } => malformed(f, entry, reason, offset),
+            RowAnswer::NotTaken => f.write_str("3: the form does not take the list"),
+            RowAnswer::Work => f.write_str("100: the work room is too small"),
         }
     }
 }
 
 /// What reading a list answers.
+///
+/// ```
+/// use rolbhunga::{read, Reading, Reason};
+///
+/// // One entry, of which only the id is there.
+/// let answer = read(&[0, 0, 0, 1, 0, 0, 0, 5]);
+/// assert_eq!(answer, Reading::Malformed { entry: 0, reason: Reason::Ends, offset: 8 });
+/// assert!(answer.to_string().contains("at byte 8"));
+/// ```
 #[derive(Debug, Clone, Copy, PartialEq, Eq)]
 pub enum Reading {
     /// 0: every entry can be read.
     Whole,
-    /// 2: malformed, after `entry` entries that were read whole.
-    Malformed { entry: usize },
+    /// 20 to 25: malformed, after `entry` entries that were read whole. `offset` is the byte, from the list's first, of
+    /// the field that could not be read or accepted; it is at most the list's length.
+    Malformed { entry: usize, reason: Reason, offset: usize },
+}
+
+impl Reading {
+    /// The papers' number of the answer.
+    pub fn number(self) -> u32 {
+        match self {
+            Reading::Whole => 0,
+            Reading::Malformed { reason, .. } => reason.number(),
+        }
+    }
+}
+
+impl fmt::Display for Reading {
+    fn fmt(&self, f: &mut fmt::Formatter<'_>) -> fmt::Result {
+        match *self {
+            Reading::Whole => f.write_str("0: every entry can be read"),
+            Reading::Malformed { entry, reason, offset } => malformed(f, entry, reason, offset),
+        }
+    }
 }
 
 /// Reads a list, big-endian as in a DNG file.
@@ -143,7 +256,10 @@ pub fn read(list: &[u8]) -> Reading {
     let n = unsafe { ffi::rolbhunga_read(list.as_ptr(), list.len()) };
     match n.number {
         0 => Reading::Whole,
-        _ => Reading::Malformed { entry: n.entry },
+        other => match Reason::of(other) {
+            Some(reason) => Reading::Malformed { entry: n.entry, reason, offset: n.offset },
+            None => unreachable!("no answer of reading has the number {other}"),
+        },
     }
 }
 

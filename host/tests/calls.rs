@@ -1,5 +1,5 @@
 //! The wrappers over document 01's bench frames, the refusals, and samples in bytes.
-use rolbhunga::{read, Answer, Frame, Reading, Room, RowAnswer, Scratch};
+use rolbhunga::{read, Answer, Frame, Reading, Reason, Room, RowAnswer, Scratch};
 
 fn words(w: &[u32]) -> Vec<u8> {
     w.iter().flat_map(|w| w.to_be_bytes()).collect()
@@ -33,12 +33,42 @@ fn run_f32(f: Frame, l: &[u8], samples: &mut [f32]) -> Answer {
 
 #[test]
 fn reading() {
-    assert_eq!(read(&[]), Reading::Malformed { entry: 0 });
+    assert_eq!(read(&[]), refused(0, Reason::Ends, 0));
     assert_eq!(read(&[0; 4]), Reading::Whole);
-    assert_eq!(read(&words(&[4097])), Reading::Malformed { entry: 0 });
+    assert_eq!(read(&words(&[4097])), refused(0, Reason::TooMany, 0));
     let l = list(&[(2, vec![]), constant(0)]);
     assert_eq!(read(&l), Reading::Whole);
-    assert_eq!(read(&l[..l.len() - 1]), Reading::Malformed { entry: 1 });
+    assert_eq!(read(&l[..l.len() - 1]), refused(1, Reason::TooLong, 32));
+}
+
+fn refused(entry: usize, reason: Reason, offset: usize) -> Reading {
+    Reading::Malformed { entry, reason, offset }
+}
+
+// One of each reason, from the calls that read a list; and in words.
+#[test]
+fn reasons() {
+    let degree = |d| (8, words(&[0, 0, 1, 1, 0, 1, 1, 1, d]));
+    let cases: [(Vec<u8>, usize, Reason, usize); 6] = [
+        (words(&[1, 5]), 0, Reason::Ends, 8),
+        (words(&[4097]), 0, Reason::TooMany, 0),
+        (words(&[1, 4, 0, 0, 1]), 0, Reason::TooLong, 16),
+        (list(&[constant(0), (4, vec![])]), 1, Reason::Inside, 44),
+        (list(&[degree(8)]), 0, Reason::Count, 52),
+        (list(&[degree(9)]), 0, Reason::Degree, 52),
+    ];
+    for (number, (l, entry, reason, offset)) in (20..).zip(cases) {
+        assert_eq!((read(&l), reason.number()), (refused(entry, reason, offset), number));
+        let f = Frame::new(1, 1, 1);
+        assert_eq!(run_f32(f, &l, &mut [3.0]), Answer::Malformed { entry, reason, offset });
+        let a = f.run_u16(&l, &mut [3], &mut Scratch::enough(&f).room());
+        assert_eq!((a, a.number()), (Answer::Malformed { entry, reason, offset }, number));
+        let a = f.row().run(&l, &mut [3.0], 0);
+        assert_eq!((a, a.number()), (RowAnswer::Malformed { entry, reason, offset }, number));
+    }
+    let said = read(&words(&[1, 5])).to_string();
+    let why = "20: the list is cut short: it ends inside its count or an entry's header, at byte 8";
+    assert_eq!(said, format!("{why}; whole entries before: 0"));
 }
 
 #[test]
@@ -88,7 +118,7 @@ fn refusals() {
     };
     assert_eq!(go(f.period(65_537), &l, 1, 1), Answer::Range);
     assert_eq!(go(Frame::new(3, 1, 9), &[], 1, 1), Answer::Range);
-    assert_eq!(go(f, &l[..30], 1, 1), Answer::Malformed { entry: 1 });
+    assert_eq!(go(f, &l[..30], 1, 1), Answer::Malformed { entry: 1, reason: Reason::Ends, offset: 28 });
     assert_eq!(go(f, &l, 1, 0), Answer::Names);
     assert_eq!(go(f, &l, 0, 1), Answer::Marks { opcode: 1 });
     let two = list(&[constant(0), constant(1)]);

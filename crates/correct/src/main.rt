@@ -215,7 +215,7 @@ fn is_done(a: Answer) -> bool {
             left: _,
         } => true,
         Answer::Range => false,
-        Answer::Malformed { entry: _ } => false,
+        Answer::Malformed { entry: _, why: _ } => false,
         Answer::NotTaken => false,
         Answer::Names => false,
         Answer::Marks { opcode: _ } => false,

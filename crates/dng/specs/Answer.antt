@@ -15,9 +15,10 @@ use Rattle.dng.specs.declared.Answer.{Answer}
 use Rattle.dng.specs.declared.Answer.the-variants as Ans
 use Rattle.dng.specs.declared.RowAnswer.{RowAnswer}
 use Rattle.dng.specs.declared.RowAnswer.the-variants as Row
+use Rattle.dng.specs.declared.Refusal.{Refusal}
 use Rattle.dng.specs.declared.Reading.{Reading}
 use Rattle.dng.specs.declared.Reading.the-variants as R
-use Rattle.dng.specs.List.{Item, readingOf, itemsOf}
+use Rattle.dng.specs.List.{Item, reasonNumber, readingOf, itemsOf}
 use Rattle.dng.specs.Value.{Frame, one}
 use Rattle.dng.specs.Run.{keptIn, Kind, f32Kind, u16Kind, Class, skipped, skipped16, takes16, takesRows, namesOf, Progress, going, marksFull, Room, performAll, rowOn}
 
@@ -38,28 +39,50 @@ rowInRange w y n =
     && (leb (w .x0) 16777216 && (leb (w .«full_width») 16777216 && (leb (w .«full_height») 16777216
     && (leb y 16842751 && leb n (w .width * w .planes)))))))
 
--- ---- the paper's number and values for each answer (6, of document 01, is withdrawn by M-104 and given to nothing);
--- entry and opcode numbers, names and totals are 0 where they are not named
+-- ---- the paper's number and values for each answer; entry and opcode numbers, offset, names and totals are 0 where
+-- they are not named. 2, of document 01, is 20 to 25 by M-100; 6 is withdrawn by M-104. Both are given to nothing
+
+-- 20 to 25 (document 02, M-100): the entries read whole before it, and the byte
+abbrev pub malformedNumbers : ℕ → Refusal → Numbers
+malformedNumbers k why =
+    record {
+      number = reasonNumber (why .reason);
+      entry = k;
+      offset = why .at;
+      opcode = 0;
+      names = 0;
+      repaired = 0;
+      left = 0;
+    }
 
 abbrev pub numbersOf : Answer → Numbers
-numbersOf (Ans.Done n r l) = record { number = 0; entry = 0; opcode = 0; names = n; repaired = r; left = l }
-numbersOf Ans.Range = record { number = 1; entry = 0; opcode = 0; names = 0; repaired = 0; left = 0 }
-numbersOf (Ans.Malformed k) = record { number = 2; entry = k; opcode = 0; names = 0; repaired = 0; left = 0 }
-numbersOf Ans.NotTaken = record { number = 3; entry = 0; opcode = 0; names = 0; repaired = 0; left = 0 }
-numbersOf Ans.Names = record { number = 4; entry = 0; opcode = 0; names = 0; repaired = 0; left = 0 }
-numbersOf (Ans.Marks k) = record { number = 5; entry = 0; opcode = k; names = 0; repaired = 0; left = 0 }
+numbersOf (Ans.Done n r l) = record { number = 0; entry = 0; offset = 0; opcode = 0; names = n; repaired = r; left = l }
+numbersOf Ans.Range = record { number = 1; entry = 0; offset = 0; opcode = 0; names = 0; repaired = 0; left = 0 }
+numbersOf (Ans.Malformed k why) = malformedNumbers k why
+numbersOf Ans.NotTaken = record { number = 3; entry = 0; offset = 0; opcode = 0; names = 0; repaired = 0; left = 0 }
+numbersOf Ans.Names = record { number = 4; entry = 0; offset = 0; opcode = 0; names = 0; repaired = 0; left = 0 }
+numbersOf (Ans.Marks k) = record { number = 5; entry = 0; offset = 0; opcode = k; names = 0; repaired = 0; left = 0 }
 
 abbrev pub readingNumbersOf : Reading → Numbers
-readingNumbersOf (R.Whole n) = record { number = 0; entry = 0; opcode = 0; names = 0; repaired = 0; left = 0 }
-readingNumbersOf (R.Malformed k) = record { number = 2; entry = k; opcode = 0; names = 0; repaired = 0; left = 0 }
+readingNumbersOf (R.Whole n) = record {
+  number = 0;
+  entry = 0;
+  offset = 0;
+  opcode = 0;
+  names = 0;
+  repaired = 0;
+  left = 0;
+}
+readingNumbersOf (R.Malformed k why) = malformedNumbers k why
 
 abbrev pub rowNumbersOf : RowAnswer → Numbers
-rowNumbersOf (Row.Done n) = record { number = 0; entry = 0; opcode = 0; names = 0; repaired = 0; left = 0 }
-rowNumbersOf Row.Range = record { number = 1; entry = 0; opcode = 0; names = 0; repaired = 0; left = 0 }
-rowNumbersOf (Row.Malformed k) = record { number = 2; entry = k; opcode = 0; names = 0; repaired = 0; left = 0 }
-rowNumbersOf Row.NotTaken = record { number = 3; entry = 0; opcode = 0; names = 0; repaired = 0; left = 0 }
+rowNumbersOf (Row.Done n) = record { number = 0; entry = 0; offset = 0; opcode = 0; names = 0; repaired = 0; left = 0 }
+rowNumbersOf Row.Range = record { number = 1; entry = 0; offset = 0; opcode = 0; names = 0; repaired = 0; left = 0 }
+rowNumbersOf (Row.Malformed k why) = malformedNumbers k why
+rowNumbersOf Row.NotTaken = record { number = 3; entry = 0; offset = 0; opcode = 0; names = 0; repaired = 0; left = 0 }
 
--- ---- a run: the refusals 1 to 4 in order, samples and names unchanged; then opcode by opcode 5; names only on 0
+-- ---- a run: the refusals 1, 20 to 25, 3, 4 in order, samples and names unchanged; then opcode by opcode 5; names only
+-- on 0
 
 pub record Out (A : Type 0) : Type 0 where
   pub answer : Answer
@@ -90,7 +113,7 @@ module _ {A : Type 0} (kind : Kind A) (takes : List Item → Bool) (skip : Class
 
   abbrev pub readOut : Window → (period : ℕ) → (preview : Bool) → Room → List ℕ → List A → List ℕ → Reading → Out A
   readOut w period preview room list s names (R.Whole n) = ranOn w period preview room list s names
-  readOut w period preview room list s names (R.Malformed k) = unchanged (Ans.Malformed k) s names
+  readOut w period preview room list s names (R.Malformed k why) = unchanged (Ans.Malformed k why) s names
 
   unfoldable pub runOut : Window → (period : ℕ) → (preview : Bool) → Room → List ℕ → List A → List ℕ → Out A
   runOut w period preview room list s names =
@@ -121,7 +144,7 @@ pub record Ran {A : Type 0} (o : Out A) (room : Room) (r : Answer) (samples : Li
     pub named : names ≡ o .names
     pub marksClear : marks ≡ replicate (room .marks) 0
 
--- ---- a row: 1, 2, 3 in order, the row unchanged on each
+-- ---- a row: 1, 20 to 25, 3 in order, the row unchanged on each
 
 pub record RowOut : Type 0 where
   pub answer : RowAnswer
@@ -138,7 +161,7 @@ rowRead w scale preview y list row (R.Whole n) =
       row = rowOn (rowFrameOf w scale) (w .x0) (w .planes) y list (keptIn preview list) row;
     })
     (record { answer = Row.NotTaken; row = row })
-rowRead w scale preview y list row (R.Malformed k) = record { answer = Row.Malformed k; row = row }
+rowRead w scale preview y list row (R.Malformed k why) = record { answer = Row.Malformed k why; row = row }
 
 unfoldable pub rowOut : RowWindow → Float → (preview : Bool) → (y : ℕ) → List ℕ → List Float → RowOut
 rowOut w scale preview y list row =
@@ -150,7 +173,7 @@ rowOut w scale preview y list row =
 abbrev pub wholeFrame : Answer → Bool
 wholeFrame (Ans.Done n r l) = eqb n 0
 wholeFrame Ans.Range = false
-wholeFrame (Ans.Malformed k) = false
+wholeFrame (Ans.Malformed k why) = false
 wholeFrame Ans.NotTaken = false
 wholeFrame Ans.Names = false
 wholeFrame (Ans.Marks k) = false
@@ -158,5 +181,5 @@ wholeFrame (Ans.Marks k) = false
 abbrev pub wholeRow : RowAnswer → Bool
 wholeRow (Row.Done n) = eqb n 0
 wholeRow Row.Range = false
-wholeRow (Row.Malformed k) = false
+wholeRow (Row.Malformed k why) = false
 wholeRow Row.NotTaken = false

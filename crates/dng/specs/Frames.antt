@@ -1,5 +1,6 @@
 -- The bench frames P1 to P12 of document 01, 'Bench frames', as one table over the definitions. `bench`, at the end, is
 -- the one statement.
+-- The reasons of P1, P2 and P12 are document 02's, M-100.
 use Prim.Native.Nat.{ℕ, zero, suc, _+_, _*_, _/_, _%_, _^_}
 use mathlib.Core.Path.{_≡_, refl}
 use mathlib.Core.Bool.{Bool, true, false}
@@ -19,12 +20,13 @@ use Rattle.dng.specs.declared.Answer.{Answer}
 use Rattle.dng.specs.declared.Answer.the-variants as Ans
 use Rattle.dng.specs.declared.RowAnswer.the-variants as Row
 use Rattle.dng.specs.declared.Reading.the-variants as R
-use Rattle.dng.specs.List.{Item, readingOf, itemsOf, counted, readFrom, stepAt, nextAt, parsedAt, warpAt, polynomialAt, countedAt, gainAt, badListAt, half}
+use Rattle.dng.specs.declared.Reason.the-variants as Why
+use Rattle.dng.specs.List.{Item, refusal, extent, firstCut, headerWhy, insideWhy, fieldWhy, whyFrom, whyOf, readingOf, itemsOf, counted, readFrom, stepAt, nextAt, parsedAt, warpAt, vignetteAt, constantAt, trimAt, polynomialAt, countedAt, gainAt, badListAt, half}
 use Rattle.dng.specs.Select.{onRegion, onWindow, onRow, inWindow, active, wholePixel}
 use Rattle.dng.specs.Value.{mapTable, mapTable16}
 use Rattle.dng.specs.Repair.{anyBelow, countBelow, complete, pointAt, rectAt, listed, badValue, marksOf, moved, sound, tallyOn, repairAt, soundOn, markedIn, repairedIn, leftIn}
 use Rattle.dng.specs.Run.{keptOf, namesOf, takes16On, takes16From, takesRows, repairOn, performAll, rowOn, Room}
-use Rattle.dng.specs.Answer.{Out, inRange, rowInRange, ranOn, runOut, f32Out, u16Out, rowOut}
+use Rattle.dng.specs.Answer.{Out, readingNumbersOf, inRange, rowInRange, ranOn, runOut, f32Out, u16Out, rowOut}
 
 -- ---- lists, written out
 
@@ -105,9 +107,11 @@ abbrev pub out : {A : Type 0} → Answer → List A → List ℕ → Out A
 out a s n = record { answer = a; samples = s; names = n }
 
 pub record Bench : Type 0 where
-  pub P1 : readingOf [] ≡ R.Malformed 0
+  pub P1 : readingOf [] ≡ R.Malformed 0 (refusal Why.Ends 0)
+  pub P1-number : readingNumbersOf (readingOf []) .number ≡ 20
   pub P2 : readingOf (word 0) ≡ R.Whole 0
-  pub P2-over : readingOf (word 4097 ++ entry 2 []) ≡ R.Malformed 0
+  pub P2-over : readingOf (word 4097 ++ entry 2 []) ≡ R.Malformed 0 (refusal Why.TooMany 0)
+  pub P2-number : readingNumbersOf (readingOf (word 4097 ++ entry 2 [])) .number ≡ 21
   pub P3 : touched (region 1 6 0 1 2) third (0 ∷ 0 ∷ 0 ∷ 0 ∷ []) ≡ 0 ∷ 1 ∷ 0 ∷ 1 ∷ []
   pub P4 : touched (region 0 1 1 5 1) pixel (0 ∷ 0 ∷ 0 ∷ []) ≡ 0 ∷ 1 ∷ 1 ∷ []
   pub P4-none : touched (region 0 1 3 5 1) pixel (0 ∷ 0 ∷ 0 ∷ []) ≡ 0 ∷ 0 ∷ 0 ∷ []
@@ -135,19 +139,23 @@ pub record Bench : Type 0 where
   pub P11-run : u16Out (frame 2 2) 1 false room (listOf (entry 5 (words (0 ∷ 0 ∷ 1 ∷ 0 ∷ 0 ∷ 1 ∷ 1 ∷ [])) ∷ []))
       (3 ∷ 5 ∷ 7 ∷ 9 ∷ []) [] ≡ out (Ans.Done 0 1 0) (7 ∷ 5 ∷ 7 ∷ 9 ∷ []) []
   pub P12 : readingOf (listOf (polynomial 8 72 ∷ [])) ≡ R.Whole 1
-  pub P12-over : readingOf (listOf (polynomial 9 80 ∷ [])) ≡ R.Malformed 0
+  pub P12-over : readingOf (listOf (polynomial 9 80 ∷ [])) ≡ R.Malformed 0 (refusal Why.Degree 52)
+  pub P12-number : readingNumbersOf (readingOf (listOf (polynomial 9 80 ∷ []))) .number ≡ 25
 
 pub bench : Bench
-unfolding big each selects onColumns roundHeld readingOf itemsOf counted readFrom stepAt nextAt parsedAt warpAt
-    polynomialAt countedAt gainAt badListAt onRegion onWindow inWindow active wholePixel mapTable mapTable16 anyBelow
-    countBelow complete pointAt rectAt listed badValue marksOf moved sound tallyOn repairAt soundOn markedIn repairedIn
-    leftIn keptOf namesOf takes16On takes16From takesRows repairOn performAll rowOn inRange rowInRange ranOn runOut rowOut
-    ofInt round units odd size span climb mul div add eq
+unfolding big extent firstCut headerWhy insideWhy fieldWhy whyFrom whyOf each selects onColumns roundHeld readingOf
+    itemsOf counted readFrom stepAt nextAt parsedAt vignetteAt constantAt trimAt warpAt polynomialAt countedAt gainAt
+    badListAt onRegion onWindow inWindow active wholePixel mapTable mapTable16 anyBelow countBelow complete pointAt
+    rectAt listed badValue marksOf moved sound tallyOn repairAt soundOn markedIn repairedIn leftIn keptOf namesOf
+    takes16On takes16From takesRows repairOn performAll rowOn inRange rowInRange ranOn runOut rowOut ofInt round units
+    odd size span climb mul div add eq
 bench =
     record {
       P1 = refl;
+      P1-number = refl;
       P2 = refl;
       P2-over = refl;
+      P2-number = refl;
       P3 = refl;
       P4 = refl;
       P4-none = refl;
@@ -165,4 +173,5 @@ bench =
       P11-run = refl;
       P12 = refl;
       P12-over = refl;
+      P12-number = refl;
     }

@@ -8,7 +8,7 @@ use mathlib.Core.List.{List, [], _∷_, _++_, map}
 use lib.Ieee.{Float, binary32, binary64, fin, nan, inf, ofInt, ofBits, ofFields, round, mul, div, add, sub, neg, sum, eq, lt, units, odd, size, span, climb, toUnsigned}
 use lib.Count.{trailingZeros}
 use lib.IntN.{pos, negsuc}
-use lib.ListN.{length}
+use lib.ListN.{length, replicate}
 use Rattle.num_words.specs.Words.{big}
 use Rattle.pointwise.specs.Points.{each}
 use Rattle.pointwise.specs.Select.{selects, onColumns}
@@ -21,9 +21,13 @@ use Rattle.dng.specs.declared.Opcode.{Opcode}
 use Rattle.dng.specs.declared.Opcode.the-variants.{WarpRectilinear, FixVignetteRadial, FixBadPixelsConstant, FixBadPixelsList, TrimBounds, MapTable, MapPolynomial, GainMap, DeltaPerRow, DeltaPerColumn, ScalePerRow, ScalePerColumn, Other}
 use Rattle.dng.specs.declared.Entry.{Entry}
 use Rattle.dng.specs.declared.Answer.the-variants as Ans
+use Rattle.dng.specs.declared.Reading.{Reading}
+use Rattle.dng.specs.declared.Reading.the-variants as R
+use Rattle.dng.specs.declared.Reason.{Reason}
+use Rattle.dng.specs.declared.Reason.the-variants as Why
 use Rattle.dng.specs.declared.Parsed.{Parsed}
 use Rattle.dng.specs.declared.Parsed.the-variants as P
-use Rattle.dng.specs.List.{Item, itemsOf, readingOf, counted, readFrom, stepAt, nextAt, parsedAt, warpAt, badListAt, countedAt, polynomialAt, gainAt}
+use Rattle.dng.specs.List.{Item, reasonNumber, refusal, extent, firstCut, headerFields, vignetteFields, constantFields, badListFields, trimFields, countedFields, gainFields, headerWhy, insideWhy, fieldWhy, whyFrom, whyOf, itemsOf, readingOf, counted, readFrom, stepAt, nextAt, parsedAt, warpAt, vignetteAt, constantAt, trimAt, badListAt, countedAt, polynomialAt, gainAt}
 use Rattle.dng.specs.Select.{onRegion, inWindow, active}
 use Rattle.dng.specs.Value.{Frame, mapTable, mapPolynomial, horner, nth, delta, scaled, position, mix, lineAt, gainOf, gained, ruleOf}
 use Rattle.dng.specs.Repair.{countBelow, complete, pointAt, rectAt, badValue, marksOf, moved, sound, tallyOn, tallyAt, repairAt, soundOn, markedIn, repairedIn, leftIn}
@@ -44,6 +48,13 @@ double n = ofInt binary64 (pos n)
 -- the body b as the opcode with this id
 abbrev read : ℕ → List ℕ → Parsed
 read id b = parsedAt b id 0 (length b)
+
+-- 23 and 24 of a body that starts with the list
+abbrev cut : ℕ → Parsed
+cut k = P.Malformed (refusal Why.Inside k)
+
+abbrev miscounted : ℕ → Parsed
+miscounted k = P.Malformed (refusal Why.Count k)
 
 abbrev area : List ℕ
 area = words (1 ∷ 2 ∷ 3 ∷ 4 ∷ 5 ∷ 6 ∷ 7 ∷ 8 ∷ [])
@@ -66,13 +77,13 @@ pub record Layouts : Type 0 where
       }))
   -- bytes left over in a body are ignored
   pub constant : read 4 (words (8 ∷ 9 ∷ []) ++ (1 ∷ [])) ≡ P.Read (FixBadPixelsConstant 8 9)
-  pub constant-short : read 4 (words (8 ∷ []) ++ (0 ∷ 0 ∷ 0 ∷ [])) ≡ P.Malformed
+  pub constant-short : read 4 (words (8 ∷ []) ++ (0 ∷ 0 ∷ 0 ∷ [])) ≡ cut 4
   pub bad-list : read 5 (words (9 ∷ 1 ∷ 2 ∷ 0 ∷ 0 ∷ 0 ∷ 0 ∷ 0 ∷ 0 ∷ 0 ∷ 0 ∷ 0 ∷ 0 ∷ []))
       ≡ P.Read (FixBadPixelsList 9 1 2)
-  pub bad-list-short : read 5 (words (9 ∷ 2 ∷ 1 ∷ 0 ∷ 0 ∷ 0 ∷ 0 ∷ 0 ∷ 0 ∷ 0 ∷ [])) ≡ P.Malformed
+  pub bad-list-short : read 5 (words (9 ∷ 2 ∷ 1 ∷ 0 ∷ 0 ∷ 0 ∷ 0 ∷ 0 ∷ 0 ∷ 0 ∷ [])) ≡ miscounted 4
   pub trim : read 6 (words (1 ∷ 2 ∷ 3 ∷ 4 ∷ [])) ≡ P.Read (TrimBounds 1 2 3 4)
   pub table : read 7 (area ++ (words (2 ∷ []) ++ (0 ∷ 1 ∷ 0 ∷ 2 ∷ []))) ≡ P.Read (MapTable areaIs 2)
-  pub table-short : read 7 (area ++ (words (2 ∷ []) ++ (0 ∷ 1 ∷ 0 ∷ []))) ≡ P.Malformed
+  pub table-short : read 7 (area ++ (words (2 ∷ []) ++ (0 ∷ 1 ∷ 0 ∷ []))) ≡ miscounted 32
   pub polynomial : read 8 (area ++ (words (3 ∷ []) ++ doubles)) ≡ P.Read (MapPolynomial areaIs 3)
   pub gain : read 9 (area ++ (words (2 ∷ 1 ∷ []) ++ (doubles ++ (words (2 ∷ []) ++ singles))))
       ≡ P.Read (GainMap areaIs 2 1 (record {
@@ -90,8 +101,8 @@ pub record Layouts : Type 0 where
         «origin_h» = double 4;
       }) 0)
   pub gain-no-planes-short : read 9 (area ++ (words (5 ∷ 1 ∷ []) ++ (doubles ++ (words (0 ∷ []) ++ singles))))
-      ≡ P.Malformed
-  pub gain-none : read 9 (area ++ (words (0 ∷ 1 ∷ []) ++ (doubles ++ (words (2 ∷ []) ++ singles)))) ≡ P.Malformed
+      ≡ miscounted 32
+  pub gain-none : read 9 (area ++ (words (0 ∷ 1 ∷ []) ++ (doubles ++ (words (2 ∷ []) ++ singles)))) ≡ miscounted 32
   pub delta-row : read 10 (area ++ words (1 ∷ 0 ∷ [])) ≡ P.Read (DeltaPerRow areaIs 1)
   pub delta-column : read 11 (area ++ words (1 ∷ 0 ∷ [])) ≡ P.Read (DeltaPerColumn areaIs 1)
   pub scale-row : read 12 (area ++ words (1 ∷ 0 ∷ [])) ≡ P.Read (ScalePerRow areaIs 1)
@@ -99,8 +110,8 @@ pub record Layouts : Type 0 where
   pub other : read 14 [] ≡ P.Read (Other 14)
 
 pub layouts : Layouts
-unfolding big parsedAt warpAt badListAt countedAt polynomialAt gainAt ofBits ofFields odd trailingZeros ofInt round
-    units size span climb
+unfolding big extent firstCut insideWhy fieldWhy parsedAt vignetteAt constantAt trimAt warpAt badListAt countedAt
+    polynomialAt gainAt ofBits ofFields odd trailingZeros ofInt round units size span climb
 layouts =
     record {
       warp = refl;
@@ -303,8 +314,194 @@ pub record Entries : Type 0 where
       ≡ flaggedAt 1 20 ∷ flaggedAt 2 36 ∷ flaggedAt 3 52 ∷ []
 
 pub entries : Entries
-unfolding big itemsOf counted readFrom stepAt nextAt parsedAt
+unfolding big itemsOf counted readFrom stepAt nextAt parsedAt vignetteAt constantAt trimAt
 entries = record { flags = refl }
+
+-- ---- refusals: document 02, M-100
+
+-- what the accepting tests ask of a body's length is the extent of its fields
+pub record Extents : Type 0 where
+  pub header : extent headerFields ≡ 16
+  pub vignette : extent vignetteFields ≡ 56
+  pub constant : extent constantFields ≡ 8
+  pub bad-list : extent badListFields ≡ 12
+  pub trim : extent trimFields ≡ 16
+  pub counted : extent countedFields ≡ 36
+  pub gain : extent gainFields ≡ 76
+
+pub extents : Extents
+unfolding extent
+extents =
+    record {
+      header = refl;
+      vignette = refl;
+      constant = refl;
+      bad-list = refl;
+      trim = refl;
+      counted = refl;
+      gain = refl;
+    }
+
+-- a body of n zeros
+abbrev zeros : (id n : ℕ) → Parsed
+zeros id n = read id (replicate n 0)
+
+-- each body's first and last field, a byte short; where that byte is there, the body is read, or its counts are refused
+pub record Cuts : Type 0 where
+  pub vignette-first : zeros 3 7 ≡ cut 0
+  -- fields of eight bytes are cut by eights
+  pub vignette-second : zeros 3 12 ≡ cut 8
+  pub vignette-last : zeros 3 55 ≡ cut 48
+  pub constant-first : zeros 4 3 ≡ cut 0
+  pub constant-last : zeros 4 7 ≡ cut 4
+  pub bad-list-first : zeros 5 3 ≡ cut 0
+  -- np is 9, and nr is not there: the sum is met when its last count has been read
+  pub bad-list-last : read 5 (words (0 ∷ 9 ∷ [])) ≡ cut 8
+  pub trim-first : zeros 6 3 ≡ cut 0
+  pub trim-last : zeros 6 15 ≡ cut 12
+  -- a region is eight fields
+  pub table-first : zeros 7 3 ≡ cut 0
+  pub table-pitch : zeros 7 31 ≡ cut 28
+  pub table-last : zeros 7 35 ≡ cut 32
+  pub polynomial-first : zeros 8 3 ≡ cut 0
+  pub polynomial-last : zeros 8 35 ≡ cut 32
+  pub gain-first : zeros 9 3 ≡ cut 0
+  -- points v are 0, which is met when the map planes have been read
+  pub gain-spacing : zeros 9 40 ≡ cut 40
+  pub gain-spacing-part : zeros 9 44 ≡ cut 40
+  pub gain-origin : zeros 9 71 ≡ cut 64
+  pub gain-last : zeros 9 75 ≡ cut 72
+  pub gain-none : zeros 9 76 ≡ miscounted 32
+  pub delta-row-first : zeros 10 3 ≡ cut 0
+  pub delta-row-last : zeros 10 35 ≡ cut 32
+  pub delta-column-first : zeros 11 3 ≡ cut 0
+  pub delta-column-last : zeros 11 35 ≡ cut 32
+  pub scale-row-first : zeros 12 3 ≡ cut 0
+  pub scale-row-last : zeros 12 35 ≡ cut 32
+  pub scale-column-first : zeros 13 3 ≡ cut 0
+  pub scale-column-last : zeros 13 35 ≡ cut 32
+
+pub cuts : Cuts
+unfolding big extent firstCut insideWhy fieldWhy parsedAt vignetteAt constantAt trimAt badListAt countedAt polynomialAt
+    gainAt
+cuts =
+    record {
+      vignette-first = refl;
+      vignette-second = refl;
+      vignette-last = refl;
+      constant-first = refl;
+      constant-last = refl;
+      bad-list-first = refl;
+      bad-list-last = refl;
+      trim-first = refl;
+      trim-last = refl;
+      table-first = refl;
+      table-pitch = refl;
+      table-last = refl;
+      polynomial-first = refl;
+      polynomial-last = refl;
+      gain-first = refl;
+      gain-spacing = refl;
+      gain-spacing-part = refl;
+      gain-origin = refl;
+      gain-last = refl;
+      gain-none = refl;
+      delta-row-first = refl;
+      delta-row-last = refl;
+      delta-column-first = refl;
+      delta-column-last = refl;
+      scale-row-first = refl;
+      scale-row-last = refl;
+      scale-column-first = refl;
+      scale-column-last = refl;
+    }
+
+-- counts at their limits, in bodies that end behind the fixed fields
+pub record Counts : Type 0 where
+  -- at the first of the two counts, whichever is too large
+  pub points : read 5 (words (0 ∷ 1 ∷ 0 ∷ [])) ≡ miscounted 4
+  pub rects : read 5 (words (0 ∷ 0 ∷ 1 ∷ [])) ≡ miscounted 4
+  pub table : read 7 (area ++ words (1 ∷ [])) ≡ miscounted 32
+  pub line : read 10 (area ++ words (16777217 ∷ [])) ≡ miscounted 32
+  -- one field can give both 24 and 25: 25 comes first
+  pub degree : read 8 (area ++ words (8 ∷ [])) ≡ miscounted 32
+  pub degree-over : read 8 (area ++ words (9 ∷ [])) ≡ P.Malformed (refusal Why.Degree 32)
+  -- at points v, though the map planes are too many, or the gains are missing
+  pub gain-planes : read 9 (area ++ (words (1 ∷ 1 ∷ []) ++ (doubles ++ words (16777217 ∷ [])))) ≡ miscounted 32
+  pub gain-missing : read 9 (area ++ (words (1 ∷ 1 ∷ []) ++ (doubles ++ words (1 ∷ [])))) ≡ miscounted 32
+
+pub counts : Counts
+unfolding big extent firstCut insideWhy fieldWhy parsedAt vignetteAt constantAt trimAt badListAt countedAt polynomialAt
+    gainAt
+counts =
+    record {
+      points = refl;
+      rects = refl;
+      table = refl;
+      line = refl;
+      degree = refl;
+      degree-over = refl;
+      gain-planes = refl;
+      gain-missing = refl;
+    }
+
+-- refused after k entries, for the reason, at the byte
+abbrev refused : ℕ → Reason → ℕ → Reading
+refused k r at = R.Malformed k (refusal r at)
+
+-- a header and no body, whatever its length says
+abbrev header : (id len : ℕ) → List ℕ
+header id len = words (id ∷ 16973824 ∷ 0 ∷ len ∷ [])
+
+-- whole lists: offsets count from the list's first byte
+pub record Refusals : Type 0 where
+  pub numbers : map reasonNumber (Why.Ends ∷ Why.TooMany ∷ Why.TooLong ∷ Why.Inside ∷ Why.Count ∷ Why.Degree ∷ [])
+      ≡ 20 ∷ 21 ∷ 22 ∷ 23 ∷ 24 ∷ 25 ∷ []
+  -- 20: the count is cut, then each word of a header; the first is cut where the list ends
+  pub count-cut : readingOf (0 ∷ 0 ∷ 0 ∷ []) ≡ refused 0 Why.Ends 0
+  pub id-cut : readingOf (words (1 ∷ [])) ≡ refused 0 Why.Ends 4
+  pub version-cut : readingOf (words (1 ∷ 5 ∷ [])) ≡ refused 0 Why.Ends 8
+  pub flags-cut : readingOf (words (1 ∷ 5 ∷ 0 ∷ []) ++ (0 ∷ 0 ∷ 0 ∷ [])) ≡ refused 0 Why.Ends 12
+  pub length-cut : readingOf (words (1 ∷ 5 ∷ 0 ∷ 0 ∷ []) ++ (0 ∷ 0 ∷ 0 ∷ [])) ≡ refused 0 Why.Ends 16
+  pub second-cut : readingOf (words (2 ∷ []) ++ entry 2 []) ≡ refused 1 Why.Ends 20
+  -- 21: 4,096 are read for, 4,097 are not
+  pub limit : readingOf (words (4096 ∷ [])) ≡ refused 0 Why.Ends 4
+  pub over : readingOf (words (4097 ∷ [])) ≡ refused 0 Why.TooMany 0
+  -- 22: at the length, before the body is looked at; a warp's length too, though its body is never refused
+  pub long : readingOf (words (1 ∷ []) ++ header 4 1) ≡ refused 0 Why.TooLong 16
+  pub long-second : readingOf (words (2 ∷ []) ++ (entry 2 [] ++ header 1 1)) ≡ refused 1 Why.TooLong 32
+  pub warp : readingOf (listOf (entry 1 [] ∷ [])) ≡ R.Whole 1
+  -- 23
+  pub inside : readingOf (listOf (entry 4 [] ∷ [])) ≡ refused 0 Why.Inside 20
+  pub inside-second : readingOf (listOf (entry 2 [] ∷ entry 4 (words (8 ∷ [])) ∷ [])) ≡ refused 1 Why.Inside 40
+  -- 24 and 25 by reading order: the first entry's, whatever the second's is
+  pub count-first : readingOf (listOf (entry 10 (area ++ words (1 ∷ [])) ∷ entry 8 (area ++ words (9 ∷ [])) ∷ []))
+      ≡ refused 0 Why.Count 52
+  pub degree-first : readingOf (listOf (entry 8 (area ++ words (9 ∷ [])) ∷ entry 10 (area ++ words (1 ∷ [])) ∷ []))
+      ≡ refused 0 Why.Degree 52
+
+pub refusals : Refusals
+unfolding big extent firstCut headerWhy insideWhy fieldWhy whyFrom whyOf readingOf itemsOf counted readFrom stepAt
+    nextAt parsedAt vignetteAt constantAt trimAt warpAt countedAt polynomialAt
+refusals =
+    record {
+      numbers = refl;
+      count-cut = refl;
+      id-cut = refl;
+      version-cut = refl;
+      flags-cut = refl;
+      length-cut = refl;
+      second-cut = refl;
+      limit = refl;
+      over = refl;
+      long = refl;
+      long-second = refl;
+      warp = refl;
+      inside = refl;
+      inside-second = refl;
+      count-first = refl;
+      degree-first = refl;
+    }
 
 -- ---- runs
 
@@ -320,6 +517,10 @@ pub record Runs : Type 0 where
   -- a marked neighbour is not in the mean: 10 and 19 alone
   pub side-by-side : u16Out (frame 4 1) 1 false room (listOf (constant 0 ∷ [])) pair []
       ≡ out (Ans.Done 0 2 0) (10 ∷ 10 ∷ 19 ∷ 19 ∷ []) []
+  -- a malformed list after the ranges: nothing changes
+  pub malformed : u16Out (frame 2 1) 1 room (listOf (entry 4 [] ∷ [])) (1 ∷ 2 ∷ []) (9 ∷ [])
+      ≡ out (Ans.Malformed 0 (refusal Why.Inside 20)) (1 ∷ 2 ∷ []) (9 ∷ [])
+  pub range-first : u16Out (frame 65537 1) 1 room [] (1 ∷ 2 ∷ []) (9 ∷ []) ≡ out Ans.Range (1 ∷ 2 ∷ []) (9 ∷ [])
   -- a period of 0 counts as 1
   pub period-none : u16Out (frame 3 1) 0 false room (listOf (constant 0 ∷ [])) (10 ∷ 0 ∷ 19 ∷ []) []
       ≡ out (Ans.Done 0 1 0) (10 ∷ 15 ∷ 19 ∷ []) []
@@ -330,10 +531,18 @@ pub record Runs : Type 0 where
       ≡ out (Ans.Marks 1) pair (9 ∷ [])
 
 pub runs : Runs
-unfolding big each roundHeld readingOf itemsOf counted readFrom stepAt nextAt parsedAt inWindow active countBelow
-    complete badValue marksOf moved sound tallyOn repairAt soundOn markedIn repairedIn leftIn keptOf namesOf takes16On
-    takes16From repairOn performAll inRange ranOn runOut ofInt round units odd trailingZeros size span climb add sum div
-runs = record { side-by-side = refl; period-none = refl; marks-tight = refl; marks-short = refl }
+unfolding big firstCut insideWhy whyFrom whyOf each roundHeld readingOf itemsOf counted readFrom stepAt nextAt parsedAt
+    vignetteAt constantAt trimAt inWindow active countBelow complete badValue marksOf moved sound tallyOn repairAt
+    soundOn markedIn repairedIn leftIn keptOf namesOf takes16On takes16From repairOn performAll inRange ranOn runOut
+    ofInt round units odd trailingZeros size span climb add sum div
+runs = record {
+  side-by-side = refl;
+  malformed = refl;
+  range-first = refl;
+  period-none = refl;
+  marks-tight = refl;
+  marks-short = refl;
+}
 
 -- ---- previews: what is flagged by bit 1 is left out, after the whole list is read
 
@@ -365,12 +574,13 @@ pub record Previews : Type 0 where
   -- nothing is left
   pub none : shown true 0 (constantWith 2 0 ∷ []) ≡ out (Ans.Done 0 0 0) three (9 ∷ [])
   -- an entry that would be left out is read all the same
-  pub malformed : shown true 8 (words (4 ∷ 16973824 ∷ 2 ∷ 0 ∷ []) ∷ []) ≡ out (Ans.Malformed 0) three (9 ∷ [])
+  pub malformed : shown true 8 (words (4 ∷ 16973824 ∷ 2 ∷ 0 ∷ []) ∷ []) ≡ out (Ans.Malformed 0 (refusal Why.Inside 20)) three (9 ∷ [])
 
 pub previews : Previews
-unfolding big each roundHeld readingOf itemsOf counted readFrom stepAt nextAt parsedAt inWindow active countBelow
-    complete badValue marksOf moved sound tallyOn repairAt soundOn markedIn repairedIn leftIn keptOf namesOf takes16On
-    takes16From repairOn performAll inRange ranOn runOut ofInt round units odd trailingZeros size span climb add sum div
+unfolding big firstCut insideWhy whyFrom whyOf each roundHeld readingOf itemsOf counted readFrom stepAt nextAt parsedAt
+    vignetteAt constantAt trimAt inWindow active countBelow complete badValue marksOf moved sound tallyOn repairAt
+    soundOn markedIn repairedIn leftIn keptOf namesOf takes16On takes16From repairOn performAll inRange ranOn runOut
+    ofInt round units odd trailingZeros size span climb add sum div
 previews =
     record {
       all = refl;

@@ -134,11 +134,11 @@ impl Opcode {
 
 // An entry of a list: its header words as they stand, and where its body lies in the list.
 pub struct Entry {
+    pub at: usize,
+    pub len: usize,
     pub id: u32,
     pub version: u32,
     pub flags: u32,
-    pub at: usize,
-    pub len: usize,
 }
 
 // A position in the lent list.
@@ -146,16 +146,38 @@ pub struct Cursor {
     pub at: usize,
 }
 
+// Why a list is refused. The paper's number of each: specs/List, reasonNumber.
+pub enum Reason {
+    // the list ends in its count or in an entry's header
+    Ends,
+    // more than 4,096 entries
+    TooMany,
+    // a body is longer than the rest of the list
+    TooLong,
+    // a body ends inside a field of fixed size
+    Inside,
+    // a count or dimension breaks its limit, or the body
+    Count,
+    // a degree is above 8
+    Degree,
+}
+
+// Why, and the offset of the field that could not be read or accepted, from the list's first byte.
+pub struct Refusal {
+    pub reason: Reason,
+    pub at: usize,
+}
+
 // What stands at a cursor: an entry's header, with the cursor past its body, or nothing that can be read.
 pub enum Next {
     Found { entry: Entry, next: Cursor },
-    Malformed,
+    Malformed { why: Refusal },
 }
 
 // What an entry's body is read as.
 pub enum Parsed {
     Read { op: Opcode },
-    Malformed,
+    Malformed { why: Refusal },
 }
 
 // An entry read whole, header and body, with the cursor past it; or a malformed one.
@@ -165,13 +187,15 @@ pub enum Step {
         op: Opcode,
         next: Cursor,
     },
-    Malformed,
+    Malformed {
+        why: Refusal,
+    },
 }
 
 // What reading a whole list answers.
 pub enum Reading {
     Whole { opcodes: usize },
-    Malformed { after: usize },
+    Malformed { after: usize, why: Refusal },
 }
 
 // The window of a frame that a run changes: `width` by `height` pixels of `planes` samples, rows `stride` pixels apart,
@@ -233,6 +257,7 @@ pub enum Answer {
     Range,
     Malformed {
         entry: usize,
+        why: Refusal,
     },
     NotTaken,
     Names,
@@ -245,15 +270,16 @@ pub enum Answer {
 pub enum RowAnswer {
     Done { skipped: usize },
     Range,
-    Malformed { entry: usize },
+    Malformed { entry: usize, why: Refusal },
     NotTaken,
 }
 
-// Document 01's table, 'What comes back', as numbers.
+// Document 01's table, 'What comes back', as numbers, with document 02's offset.
 #[repr(C)]
 pub struct Numbers {
     pub number: u32,
     pub entry: usize,
+    pub offset: usize,
     pub opcode: usize,
     pub names: usize,
     pub repaired: u64,

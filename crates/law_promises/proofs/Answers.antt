@@ -1,22 +1,26 @@
 -- What a run answers, test by test in the table's order, and what it keeps; the same of a row. Assumes nothing.
-use Prim.Native.Nat.{ℕ, _≤_, _<_}
+use Prim.Native.Nat.{ℕ, _≤_, _<_, zero-le}
 use mathlib.Core.Bool.{Bool, true, false, cond}
 use mathlib.Core.List.{List}
+use mathlib.Core.Logic.{_⊎_, inl, inr}
 use mathlib.Core.Path.{_≡_, refl, sym, ap, ap₂, subst, _∙_}
 use native.Mathlib.Omega.{arith}
 use borrow.Author.Tests.{leb-true, leb-false, le-leb, lt-leb}
-use lib.Dec.{leb}
+use lib.Dec.{leb, lit≤}
 use lib.Ieee.{Float}
 use lib.ListN.{length, take, drop}
 use lib.Seq.{take-at, drop-at}
 use Rattle.dng.specs.declared.RowWindow.{RowWindow}
+use Rattle.dng.specs.declared.Reason.{Reason}
+use Rattle.dng.specs.declared.Reason.the-variants as Why
+use Rattle.dng.specs.declared.Refusal.{Refusal}
 use Rattle.dng.specs.declared.Answer.{Answer}
 use Rattle.dng.specs.declared.Answer.the-variants as Ans
 use Rattle.dng.specs.declared.RowAnswer.{RowAnswer}
 use Rattle.dng.specs.declared.RowAnswer.the-variants as Row
 use Rattle.dng.specs.declared.Reading.{Reading}
 use Rattle.dng.specs.declared.Reading.the-variants as R
-use Rattle.dng.specs.List.{readingOf, itemsOf}
+use Rattle.dng.specs.List.{reasonNumber, readingOf, itemsOf}
 use Rattle.dng.specs.Run.{Progress, going, marksFull, skipped, takesRows, namesOf, rowOn}
 use Rattle.dng.specs.Answer.{inRange, rowInRange, numbersOf, rowNumbersOf, readingNumbersOf, Out, unchanged, finished, ranOn, readOut, runOut, RowOut, rowFrameOf, rowRead, rowOut}
 use Rattle.law_promises.specs.Promises.{Call, End, outOf, Meets, Whole, skips, performed, Goes, When, RowWhen, Kept, Numbered}
@@ -42,7 +46,8 @@ module _ {A : Type 0} (c : Call A) where
   -- what is said of every outcome of the tests holds of the run
   module _ (P : Out A → Type 0)
       (range : inRange (c .window) (c .period) ≡ false → P (refused Ans.Range))
-      (malformed : (k : ℕ) → inRange (c .window) (c .period) ≡ true → readingOf (c .list) ≡ R.Malformed k → P (refused (Ans.Malformed k)))
+      (malformed : (k : ℕ) (why : Refusal) → inRange (c .window) (c .period) ≡ true → readingOf (c .list) ≡ R.Malformed k why
+      → P (refused (Ans.Malformed k why)))
       (goes : inRange (c .window) (c .period) ≡ true → Whole (c .list) → (t f : Bool) → c .takes (itemsOf (c .list)) ≡ t
       → leb (skips c) (length (c .names)) ≡ f → (p : Progress A) → all ≡ p → P (tested t f p)) where
     pub tests : P (outOf c)
@@ -51,10 +56,10 @@ module _ {A : Type 0} (c : Call A) where
       where
         go : (i : Bool) (r : Reading) → inRange (c .window) (c .period) ≡ i → readingOf (c .list) ≡ r → P (cond i (reads r) (refused Ans.Range))
         go true (R.Whole n) i r = goes i (n, r) (c .takes (itemsOf (c .list))) (leb (skips c) (length (c .names))) refl refl all refl
-        go true (R.Malformed k) i r = malformed k i r
+        go true (R.Malformed k why) i r = malformed k why i r
         go false q i r = range i
 
-  -- none of 1 to 4: all opcodes, then the names
+  -- none of 1, 20 to 25, 3, 4: all opcodes, then the names
   pub goes-on : Goes c → outOf c ≡ finished named (c .names) all
   unfolding runOut ranOn
   goes-on g =
@@ -65,7 +70,7 @@ module _ {A : Type 0} (c : Call A) where
 
   pub when : When c (outOf c .answer)
   when =
-      tests (λ (o : Out A). When c (o .answer)) (λ i. i) (λ k i r. (i, r)) go
+      tests (λ (o : Out A). When c (o .answer)) (λ i. i) (λ k why i r. (i, r)) go
     where
       go : inRange (c .window) (c .period) ≡ true → Whole (c .list) → (t f : Bool) → c .takes (itemsOf (c .list)) ≡ t
           → leb (skips c) (length (c .names)) ≡ f → (p : Progress A) → all ≡ p → When c (tested t f p .answer)
@@ -81,7 +86,7 @@ module _ {A : Type 0} (c : Call A) where
   unfolding runOut ranOn
   only (Ans.Done n r l) h = ran-on (h .0) (going (h .2 .0) r l) (h .2 .1) ∙ ap (λ (m : ℕ). Ans.Done m r l) (sym (h .1))
   only Ans.Range h = ap (λ (z : Bool). cond z (reads (readingOf (c .list))) (refused Ans.Range) .answer) h
-  only (Ans.Malformed k) h = ap₂ (λ (z : Bool) (r : Reading). cond z (reads r) (refused Ans.Range) .answer) (h .0) (h .1)
+  only (Ans.Malformed k why) h = ap₂ (λ (z : Bool) (r : Reading). cond z (reads r) (refused Ans.Range) .answer) (h .0) (h .1)
   only Ans.NotTaken h =
       ap₂ (λ (z : Bool) (r : Reading). cond z (reads r) (refused Ans.Range) .answer) (h .0) (h .1 .1)
       ∙ ap (λ (z : Bool). tested z (leb (skips c) (length (c .names))) all .answer) (h .2)
@@ -93,12 +98,12 @@ module _ {A : Type 0} (c : Call A) where
   -- ---- kept
 
   record Holds (o : Out A) : Type 0 where
-    first : 1 ≤ numbersOf (o .answer) .number → numbersOf (o .answer) .number ≤ 4 → o .samples ≡ c .samples
+    first : 1 ≤ numbersOf (o .answer) .number → (numbersOf (o .answer) .number ≡ 5 → ⊥) → o .samples ≡ c .samples
     any : 1 ≤ numbersOf (o .answer) .number → o .names ≡ c .names
     front : (n r l : ℕ) → o .answer ≡ Ans.Done n r l → take n (o .names) ≡ named
     back : (n r l : ℕ) → o .answer ≡ Ans.Done n r l → drop n (o .names) ≡ drop n (c .names)
 
-  -- 1 to 4
+  -- any refusal before the run
   refused-holds : (a : Answer) → ((n r l : ℕ) → a ≡ Ans.Done n r l → ⊥) → Holds (refused a)
   refused-holds a h =
       record { first = λ p q. refl; any = λ p. refl; front = λ n r l e. absurd (h n r l e); back = λ n r l e. absurd (h n r l e) }
@@ -106,7 +111,7 @@ module _ {A : Type 0} (c : Call A) where
   holds : Holds (outOf c)
   holds =
       tests Holds (λ i. refused-holds Ans.Range (λ n r l e. let z : _≡_ {A = ℕ} 0 1 = cc in omega arith))
-      (λ k i q. refused-holds (Ans.Malformed k) (λ n r l e. let z : _≡_ {A = ℕ} 0 1 = cc in omega arith)) go
+      (λ k why i q. refused-holds (Ans.Malformed k why) (λ n r l e. let z : _≡_ {A = ℕ} 0 1 = cc in omega arith)) go
     where
       go : inRange (c .window) (c .period) ≡ true → Whole (c .list) → (t f : Bool) → c .takes (itemsOf (c .list)) ≡ t
           → leb (skips c) (length (c .names)) ≡ f → (p : Progress A) → all ≡ p → Holds (tested t f p)
@@ -120,7 +125,7 @@ module _ {A : Type 0} (c : Call A) where
           }
       go i w true true t f (marksFull s k) e =
           record {
-            first = λ p q. absurd (omega arith);
+            first = λ p q. absurd (q refl);
             any = λ p. refl;
             front = λ n r l h. absurd (let z : _≡_ {A = ℕ} 0 1 = cc in omega arith);
             back = λ n r l h. absurd (let z : _≡_ {A = ℕ} 0 1 = cc in omega arith);
@@ -132,7 +137,7 @@ module _ {A : Type 0} (c : Call A) where
   kept e m =
       record {
         samples = λ p q. m .left ∙ holds .first (subst (λ (a : Answer). 1 ≤ numbersOf a .number) (m .answered) p)
-            (subst (λ (a : Answer). numbersOf a .number ≤ 4) (m .answered) q);
+            (λ h. q (ap (λ (a : Answer). numbersOf a .number) (m .answered) ∙ h));
         names = λ p. m .named ∙ holds .any (subst (λ (a : Answer). 1 ≤ numbersOf a .number) (m .answered) p);
         written = λ n r l p. ap (take n) (m .named) ∙ holds .front n r l (sym (m .answered) ∙ p);
         after = λ n r l p. ap (drop n) (m .named) ∙ holds .back n r l (sym (m .answered) ∙ p);
@@ -144,23 +149,40 @@ module _ {A : Type 0} (c : Call A) where
 no-totals : (a : Answer) → 1 ≤ numbersOf a .number → (numbersOf a .names ≡ 0) × (numbersOf a .repaired ≡ 0) × (numbersOf a .left ≡ 0)
 no-totals (Ans.Done n r l) h = absurd (omega arith)
 no-totals Ans.Range h = (refl, refl, refl)
-no-totals (Ans.Malformed k) h = (refl, refl, refl)
+no-totals (Ans.Malformed k why) h = (refl, refl, refl)
 no-totals Ans.NotTaken h = (refl, refl, refl)
 no-totals Ans.Names h = (refl, refl, refl)
 no-totals (Ans.Marks k) h = (refl, refl, refl)
 
-no-entry : (a : Answer) → (numbersOf a .number ≡ 2 → ⊥) → numbersOf a .entry ≡ 0
-no-entry (Ans.Done n r l) h = refl
-no-entry Ans.Range h = refl
-no-entry (Ans.Malformed k) h = absurd (h refl)
-no-entry Ans.NotTaken h = refl
-no-entry Ans.Names h = refl
-no-entry (Ans.Marks k) h = refl
+-- 20 to 25
+pub reason-least : (q : Reason) → 20 ≤ reasonNumber q
+reason-least Why.Ends = lit≤ tt
+reason-least Why.TooMany = lit≤ tt
+reason-least Why.TooLong = lit≤ tt
+reason-least Why.Inside = lit≤ tt
+reason-least Why.Count = lit≤ tt
+reason-least Why.Degree = lit≤ tt
+
+reason-most : (q : Reason) → reasonNumber q ≤ 25
+reason-most Why.Ends = lit≤ tt
+reason-most Why.TooMany = lit≤ tt
+reason-most Why.TooLong = lit≤ tt
+reason-most Why.Inside = lit≤ tt
+reason-most Why.Count = lit≤ tt
+reason-most Why.Degree = lit≤ tt
+
+no-entry : (a : Answer) → numbersOf a .number < 20 → (numbersOf a .entry ≡ 0) × (numbersOf a .offset ≡ 0)
+no-entry (Ans.Done n r l) h = (refl, refl)
+no-entry Ans.Range h = (refl, refl)
+no-entry (Ans.Malformed k why) h = absurd (omega (arith, reason-least (why .reason)))
+no-entry Ans.NotTaken h = (refl, refl)
+no-entry Ans.Names h = (refl, refl)
+no-entry (Ans.Marks k) h = (refl, refl)
 
 no-opcode : (a : Answer) → (numbersOf a .number ≡ 5 → ⊥) → numbersOf a .opcode ≡ 0
 no-opcode (Ans.Done n r l) h = refl
 no-opcode Ans.Range h = refl
-no-opcode (Ans.Malformed k) h = refl
+no-opcode (Ans.Malformed k why) h = refl
 no-opcode Ans.NotTaken h = refl
 no-opcode Ans.Names h = refl
 no-opcode (Ans.Marks k) h = absurd (h refl)
@@ -168,37 +190,56 @@ no-opcode (Ans.Marks k) h = absurd (h refl)
 no-six : (a : Answer) → numbersOf a .number ≡ 6 → ⊥
 no-six (Ans.Done n r l) h = omega arith
 no-six Ans.Range h = omega arith
-no-six (Ans.Malformed k) h = omega arith
+no-six (Ans.Malformed k why) h = omega (arith, reason-least (why .reason))
 no-six Ans.NotTaken h = omega arith
 no-six Ans.Names h = omega arith
 no-six (Ans.Marks k) h = omega arith
 
-row-number : (a : RowAnswer) → rowNumbersOf a .number ≤ 3
-row-number (Row.Done n) = omega arith
-row-number Row.Range = omega arith
-row-number (Row.Malformed k) = omega arith
-row-number Row.NotTaken = omega arith
+no-two : (a : Answer) → numbersOf a .number ≡ 2 → ⊥
+no-two (Ans.Done n r l) h = omega arith
+no-two Ans.Range h = omega arith
+no-two (Ans.Malformed k why) h = omega (arith, reason-least (why .reason))
+no-two Ans.NotTaken h = omega arith
+no-two Ans.Names h = omega arith
+no-two (Ans.Marks k) h = omega arith
 
-row-entry : (a : RowAnswer) → (rowNumbersOf a .number ≡ 2 → ⊥) → rowNumbersOf a .entry ≡ 0
-row-entry (Row.Done n) h = refl
-row-entry Row.Range h = refl
-row-entry (Row.Malformed k) h = absurd (h refl)
-row-entry Row.NotTaken h = refl
+row-number : (a : RowAnswer) → (rowNumbersOf a .number ≤ 3) ⊎ ((20 ≤ rowNumbersOf a .number) × (rowNumbersOf a .number ≤ 25))
+row-number (Row.Done n) = inl (omega arith)
+row-number Row.Range = inl (omega arith)
+row-number (Row.Malformed k why) = inr (reason-least (why .reason), reason-most (why .reason))
+row-number Row.NotTaken = inl (omega arith)
+
+row-no-two : (a : RowAnswer) → rowNumbersOf a .number ≡ 2 → ⊥
+row-no-two (Row.Done n) h = omega arith
+row-no-two Row.Range h = omega arith
+row-no-two (Row.Malformed k why) h = omega (arith, reason-least (why .reason))
+row-no-two Row.NotTaken h = omega arith
+
+row-entry : (a : RowAnswer) → rowNumbersOf a .number < 20 → (rowNumbersOf a .entry ≡ 0) × (rowNumbersOf a .offset ≡ 0)
+row-entry (Row.Done n) h = (refl, refl)
+row-entry Row.Range h = (refl, refl)
+row-entry (Row.Malformed k why) h = absurd (omega (arith, reason-least (why .reason)))
+row-entry Row.NotTaken h = (refl, refl)
 
 row-rest : (a : RowAnswer) → (rowNumbersOf a .opcode ≡ 0) × (rowNumbersOf a .names ≡ 0) × (rowNumbersOf a .repaired ≡ 0) × (rowNumbersOf a .left ≡ 0)
 row-rest (Row.Done n) = (refl, refl, refl, refl)
 row-rest Row.Range = (refl, refl, refl, refl)
-row-rest (Row.Malformed k) = (refl, refl, refl, refl)
+row-rest (Row.Malformed k why) = (refl, refl, refl, refl)
 row-rest Row.NotTaken = (refl, refl, refl, refl)
 
-reading-number : (a : Reading) → (readingNumbersOf a .number ≡ 2 → ⊥) → (readingNumbersOf a .number ≡ 0) × (readingNumbersOf a .entry ≡ 0)
-reading-number (R.Whole n) h = (refl, refl)
-reading-number (R.Malformed k) h = absurd (h refl)
+reading-number : (a : Reading) → readingNumbersOf a .number < 20
+    → (readingNumbersOf a .number ≡ 0) × (readingNumbersOf a .entry ≡ 0) × (readingNumbersOf a .offset ≡ 0)
+reading-number (R.Whole n) h = (refl, refl, refl)
+reading-number (R.Malformed k why) h = absurd (omega (arith, reason-least (why .reason)))
+
+reading-most : (a : Reading) → readingNumbersOf a .number ≤ 25
+reading-most (R.Whole n) = zero-le
+reading-most (R.Malformed k why) = reason-most (why .reason)
 
 reading-rest : (a : Reading) → (readingNumbersOf a .opcode ≡ 0) × (readingNumbersOf a .names ≡ 0) × (readingNumbersOf a .repaired ≡ 0)
     × (readingNumbersOf a .left ≡ 0)
 reading-rest (R.Whole n) = (refl, refl, refl, refl)
-reading-rest (R.Malformed k) = (refl, refl, refl, refl)
+reading-rest (R.Malformed k why) = (refl, refl, refl, refl)
 
 pub numbered : Numbered
 numbered =
@@ -207,10 +248,13 @@ numbered =
       entry = no-entry;
       opcode = no-opcode;
       withdrawn = no-six;
+      divided = no-two;
       row = row-number;
+      rowDivided = row-no-two;
       rowEntry = row-entry;
       rowRest = row-rest;
       reading = reading-number;
+      readingMost = reading-most;
       readingRest = reading-rest;
     }
 
@@ -235,7 +279,7 @@ module _ (w : RowWindow) (scale : Float) (y : ℕ) (list : List ℕ) (row : List
       go : (i : Bool) (r : Reading) → rowInRange w y (length row) ≡ i → readingOf list ≡ r
           → RowWhen w y (length row) list (cond i (rowRead w scale y list row r) (record { answer = Row.Range; row = row }) .answer)
       go true (R.Whole n) i r = taken (takesRows (itemsOf list)) i (n, r) refl
-      go true (R.Malformed k) i r = (i, r)
+      go true (R.Malformed k why) i r = (i, r)
       go false r i q = i
 
   pub row-only : (a : RowAnswer) → RowWhen w y (length row) list a → rowOut w scale y list row .answer ≡ a
@@ -244,7 +288,7 @@ module _ (w : RowWindow) (scale : Float) (y : ℕ) (list : List ℕ) (row : List
       ap₂ (λ (i : Bool) (r : Reading). cond i (rowRead w scale y list row r) (record { answer = Row.Range; row = row }) .answer) (h .0) (h .1 .1)
       ∙ ap (λ (t : Bool). rowDone t .answer) (h .2) ∙ ap Row.Done (sym (h .3))
   row-only Row.Range h = ap (λ (i : Bool). cond i (rowRead w scale y list row (readingOf list)) (record { answer = Row.Range; row = row }) .answer) h
-  row-only (Row.Malformed k) h =
+  row-only (Row.Malformed k why) h =
       ap₂ (λ (i : Bool) (r : Reading). cond i (rowRead w scale y list row r) (record { answer = Row.Range; row = row }) .answer) (h .0) (h .1)
   row-only Row.NotTaken h =
       ap₂ (λ (i : Bool) (r : Reading). cond i (rowRead w scale y list row r) (record { answer = Row.Range; row = row }) .answer) (h .0) (h .1 .1)

@@ -1,7 +1,9 @@
 -- The promises of specs/Promises, proved. Assumes nothing.
 use Prim.Native.Nat.{ℕ}
-use mathlib.Core.Bool.{true, false≢true}
+use mathlib.Core.Bool.{true, cond, false≢true}
 use mathlib.Core.List.{List}
+use lib.Dec.{eqb}
+use lib.Ieee.{Float}
 use lib.ListN.{length}
 use mathlib.Core.Logic.{_↔_}
 use mathlib.Core.Path.{_≡_, refl, sym, ap, subst, _∙_}
@@ -9,14 +11,23 @@ use native.Mathlib.Omega.{arith}
 use borrow.Author.Tests.{eqb-true, eq-eqb}
 use Rattle.dng.specs.declared.Answer.{Answer}
 use Rattle.dng.specs.declared.Answer.the-variants as Ans
-use Rattle.dng.specs.List.{itemsOf}
+use Rattle.dng.specs.declared.RowWindow.{RowWindow}
+use Rattle.dng.specs.declared.Reason.{Reason}
+use Rattle.dng.specs.declared.Reason.the-variants as Why
+use Rattle.dng.specs.declared.Refusal.{Refusal}
+use Rattle.dng.specs.declared.Reading.{Reading}
+use Rattle.dng.specs.declared.Reading.the-variants as R
+use Rattle.dng.specs.List.{reasonNumber, refusal, itemsOf, readingOf}
+use Rattle.list_read.proofs.Fold.{refused}
+use Rattle.list_read.proofs.Offsets.{offset-held}
 use Rattle.dng.specs.Run.{Progress, going, marksFull, skipped, namesOf}
 use Rattle.dng.specs.declared.RowAnswer.{RowAnswer}
 use Rattle.dng.specs.declared.RowAnswer.the-variants as Row
-use Rattle.dng.specs.Answer.{Out, finished, numbersOf, rowNumbersOf, wholeFrame, wholeRow}
+use Rattle.dng.specs.Answer.{inRange, rowInRange, Out, finished, numbersOf, rowNumbersOf, readingNumbersOf, rowOut, wholeFrame, wholeRow}
+use Rattle.run_row.specs.Rows.{RowRan}
 use Rattle.run_row.proofs.Laws.{determined as rows-determined, kept as rows-kept}
-use Rattle.law_promises.specs.Promises.{Forms, Determined, Call, End, outOf, Meets, skips, performed, Goes, When, RowWhen, MarksOver, Exactly-when, Row-exactly-when, Keeps, Row-keeps, Numbered, Adds-up, Scratch, Row-calls, Whole-calls, Whole-calls-alike, Verdict, Row-verdict}
-use Rattle.law_promises.proofs.Answers.{named, goes-on, when, only, kept, row-when, row-only}
+use Rattle.law_promises.specs.Promises.{Forms, Determined, Call, End, outOf, Meets, skips, performed, Goes, When, RowWhen, MarksOver, Exactly-when, Row-exactly-when, Keeps, Row-keeps, Numbered, Locates, RefusedFor, By-reason, Adds-up, Scratch, Row-calls, Whole-calls, Whole-calls-alike, Verdict, Row-verdict}
+use Rattle.law_promises.proofs.Answers.{named, goes-on, when, only, kept, reason-least, row-when, row-only}
 use Rattle.law_promises.proofs.Stops.{shown, marks-stop}
 use Rattle.law_promises.proofs.Answers as Answers
 use Rattle.law_promises.proofs.Sums as Sums
@@ -90,6 +101,79 @@ numbered = Answers.numbered
 pub row-keeps : Row-keeps
 row-keeps w scale y list row r t ran not = rows-kept w scale y list row ran not
 
+-- a malformed list
+
+pub locates : Locates
+locates list k why h = record { entries = sym (refused list h .0); offset = offset-held list h }
+
+-- a number tells its reason
+reasonOf : ℕ → Reason
+reasonOf n =
+    cond (eqb n 20) Why.Ends
+    (cond (eqb n 21) Why.TooMany (cond (eqb n 22) Why.TooLong (cond (eqb n 23) Why.Inside (cond (eqb n 24) Why.Count Why.Degree))))
+
+reason-of : (q : Reason) → reasonOf (reasonNumber q) ≡ q
+unfolding reasonOf
+reason-of Why.Ends = refl
+reason-of Why.TooMany = refl
+reason-of Why.TooLong = refl
+reason-of Why.Inside = refl
+reason-of Why.Count = refl
+reason-of Why.Degree = refl
+
+reason-same : (p q : Reason) → reasonNumber p ≡ reasonNumber q → p ≡ q
+reason-same p q h = sym (reason-of p) ∙ ap reasonOf h ∙ reason-of q
+
+-- a refusal by its reason
+refused-for :
+    (list : List ℕ) (k : ℕ) (why : Refusal) (q : Reason) → readingOf list ≡ R.Malformed k why
+    → reasonNumber (why .reason) ≡ reasonNumber q → RefusedFor list q
+refused-for list k why q e h =
+    (k, (why .at, e ∙ ap (λ (p : Reason). R.Malformed k (refusal p (why .at))) (reason-same (why .reason) q h)))
+
+pub by-reason : By-reason
+by-reason =
+    record {
+      run = λ A c e m q. (
+        λ h. there c e m q (e .answer) refl h,
+        λ g. ap (λ (a : Answer). numbersOf a .number)
+            (answers c e m (Ans.Malformed (g .1 .0) (refusal q (g .1 .1 .0))) .1 (g .0, g .1 .1 .1)),
+      );
+      row = λ w scale y list row r t ran q. (
+        λ h. row-there w scale y list row r t ran q r refl h,
+        λ g. ap (λ (a : RowAnswer). rowNumbersOf a .number)
+            (row-exactly-when w scale y list row r t ran (Row.Malformed (g .1 .0) (refusal q (g .1 .1 .0))) .1 (g .0, g .1 .1 .1)),
+      );
+      reading = λ list q. (λ h. read-there list q (readingOf list) refl h, λ g. ap (λ (a : Reading). readingNumbersOf a .number) (g .1 .1));
+    }
+  where
+    there :
+        {A : Type 0} (c : Call A) (e : End A) → Meets (outOf c) (c .room) e → (q : Reason) (a : Answer) → e .answer ≡ a
+        → numbersOf a .number ≡ reasonNumber q → (inRange (c .window) (c .period) ≡ true) × RefusedFor (c .list) q
+    there c e m q (Ans.Done n r l) p h = absurd (omega (arith, h, reason-least q))
+    there c e m q Ans.Range p h = absurd (omega (arith, h, reason-least q))
+    there c e m q (Ans.Malformed k why) p h =
+        let g : When c (Ans.Malformed k why) = answers c e m (Ans.Malformed k why) .0 p in
+        (g .0, refused-for (c .list) k why q (g .1) h)
+    there c e m q Ans.NotTaken p h = absurd (omega (arith, h, reason-least q))
+    there c e m q Ans.Names p h = absurd (omega (arith, h, reason-least q))
+    there c e m q (Ans.Marks k) p h = absurd (omega (arith, h, reason-least q))
+
+    row-there :
+        (w : RowWindow) (scale : Float) (y : ℕ) (list : List ℕ) (row : List Float) (r : RowAnswer) (t : List Float)
+        → RowRan (rowOut w scale y list row) r t → (q : Reason) (a : RowAnswer) → r ≡ a
+        → rowNumbersOf a .number ≡ reasonNumber q → (rowInRange w y (length row) ≡ true) × RefusedFor list q
+    row-there w scale y list row r t ran q (Row.Done n) p h = absurd (omega (arith, h, reason-least q))
+    row-there w scale y list row r t ran q Row.Range p h = absurd (omega (arith, h, reason-least q))
+    row-there w scale y list row r t ran q (Row.Malformed k why) p h =
+        let g : RowWhen w y (length row) list (Row.Malformed k why) = row-exactly-when w scale y list row r t ran (Row.Malformed k why) .0 p in
+        (g .0, refused-for list k why q (g .1) h)
+    row-there w scale y list row r t ran q Row.NotTaken p h = absurd (omega (arith, h, reason-least q))
+
+    read-there : (list : List ℕ) (q : Reason) (a : Reading) → readingOf list ≡ a → readingNumbersOf a .number ≡ reasonNumber q → RefusedFor list q
+    read-there list q (R.Whole n) p h = absurd (omega (arith, h, reason-least q))
+    read-there list q (R.Malformed k why) p h = refused-for list k why q p h
+
 -- ---- 4
 
 pub adds-up : Adds-up
@@ -123,7 +207,7 @@ verdict A c e m = (there (e .answer) (λ n r l. settled n r l), back (e .answer)
     there : (a : Answer) → ((n r l : ℕ) → a ≡ Ans.Done n r l → n ≡ skips c) → wholeFrame a ≡ true → (numbersOf a .number ≡ 0) × (skips c ≡ 0)
     there (Ans.Done n r l) f h = (refl, sym (f n r l refl) ∙ eqb-true n 0 h)
     there Ans.Range f h = absurd (false≢true h)
-    there (Ans.Malformed k) f h = absurd (false≢true h)
+    there (Ans.Malformed k why) f h = absurd (false≢true h)
     there Ans.NotTaken f h = absurd (false≢true h)
     there Ans.Names f h = absurd (false≢true h)
     there (Ans.Marks k) f h = absurd (false≢true h)
@@ -131,7 +215,7 @@ verdict A c e m = (there (e .answer) (λ n r l. settled n r l), back (e .answer)
     back : (a : Answer) → ((n r l : ℕ) → a ≡ Ans.Done n r l → n ≡ skips c) → (numbersOf a .number ≡ 0) × (skips c ≡ 0) → wholeFrame a ≡ true
     back (Ans.Done n r l) f h = eq-eqb n 0 (f n r l refl ∙ h .1)
     back Ans.Range f h = absurd (omega (arith, h .0))
-    back (Ans.Malformed k) f h = absurd (omega (arith, h .0))
+    back (Ans.Malformed k why) f h = absurd (omega (arith, h .0, reason-least (why .reason)))
     back Ans.NotTaken f h = absurd (omega (arith, h .0))
     back Ans.Names f h = absurd (omega (arith, h .0))
     back (Ans.Marks k) f h = absurd (omega (arith, h .0))
@@ -146,12 +230,12 @@ row-verdict w scale y list row r t ran = (there r counted, back r counted)
         × (length (namesOf skipped (itemsOf list)) ≡ 0)
     there (Row.Done n) f h = (refl, sym (f n refl) ∙ eqb-true n 0 h)
     there Row.Range f h = absurd (false≢true h)
-    there (Row.Malformed k) f h = absurd (false≢true h)
+    there (Row.Malformed k why) f h = absurd (false≢true h)
     there Row.NotTaken f h = absurd (false≢true h)
 
     back : (a : RowAnswer) → ((n : ℕ) → a ≡ Row.Done n → n ≡ length (namesOf skipped (itemsOf list))) → (rowNumbersOf a .number ≡ 0)
         × (length (namesOf skipped (itemsOf list)) ≡ 0) → wholeRow a ≡ true
     back (Row.Done n) f h = eq-eqb n 0 (f n refl ∙ h .1)
     back Row.Range f h = absurd (omega (arith, h .0))
-    back (Row.Malformed k) f h = absurd (omega (arith, h .0))
+    back (Row.Malformed k why) f h = absurd (omega (arith, h .0, reason-least (why .reason)))
     back Row.NotTaken f h = absurd (omega (arith, h .0))

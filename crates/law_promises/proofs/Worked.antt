@@ -12,7 +12,7 @@ use Rattle.pointwise.specs.Points.{each}
 use Rattle.num_round.specs.Whole.{roundHeld}
 use Rattle.dng.specs.declared.Window.{Window}
 use Rattle.dng.specs.declared.Answer.the-variants as Ans
-use Rattle.dng.specs.List.{readingOf, itemsOf, counted, readFrom, stepAt, nextAt, parsedAt, badListAt}
+use Rattle.dng.specs.List.{readingOf, itemsOf, counted, readFrom, stepAt, nextAt, parsedAt, constantAt, trimAt, badListAt}
 use Rattle.dng.specs.Select.{inWindow, active, wholePixel}
 use Rattle.dng.specs.Repair.{anyBelow, countBelow, complete, pointAt, rectAt, listed, badValue, marksOf, markedIn, repairedIn, leftIn, moved, sound, tallyOn, repairAt, soundOn}
 use Rattle.dng.specs.Run.{Room, namesOf, takes16On, takes16From, repairOn, performAll}
@@ -58,9 +58,9 @@ record Computed : Type 0 where
   not-taken-first : u16Out window 1 (room 1) (listOf (constant 0 ∷ constant 0 ∷ trim ∷ [])) samples [] ≡ out Ans.NotTaken samples []
 
 computed : Computed
-unfolding big each roundHeld readingOf itemsOf counted readFrom stepAt nextAt parsedAt badListAt inWindow active wholePixel anyBelow countBelow complete
-    pointAt rectAt listed badValue marksOf moved sound tallyOn repairAt soundOn markedIn repairedIn leftIn namesOf takes16On takes16From repairOn performAll
-    inRange ranOn runOut ofInt round units odd size span climb mul div add eq
+unfolding big each roundHeld readingOf itemsOf counted readFrom stepAt nextAt parsedAt constantAt trimAt badListAt inWindow active wholePixel anyBelow
+    countBelow complete pointAt rectAt listed badValue marksOf moved sound tallyOn repairAt soundOn markedIn repairedIn leftIn namesOf takes16On takes16From
+    repairOn performAll inRange ranOn runOut ofInt round units odd size span climb mul div add eq
 computed = record { enough = refl; marks = refl; planes = refl; later = refl; range-first = refl; not-taken-first = refl }
 
 -- whatever meets the contract has this answer and these samples, and the totals of the definition

@@ -2,25 +2,27 @@
 -- equation of reading.
 -- Document 01, 'What comes back' and 'How a promise is judged'. Over any sample kind; proofs/Theorems proves each
 -- statement under its name in lower case:
---     1 Determined   2 Exactly-when, Row-exactly-when   3 Keeps, Row-keeps, Numbered   4 Adds-up, Scratch
---     5 Row-calls, Whole-calls, Whole-calls-alike   6 Verdict, Row-verdict
+--     1 Determined   2 Exactly-when, Row-exactly-when   3 Keeps, Row-keeps, Numbered, Locates, By-reason
+--     4 Adds-up, Scratch   5 Row-calls, Whole-calls, Whole-calls-alike   6 Verdict, Row-verdict
 use Prim.Native.Nat.{ℕ, suc, _+_, _≤_, _<_}
 use mathlib.Core.Bool.{Bool, true, false}
 use mathlib.Core.List.{List, [], _∷_}
-use mathlib.Core.Logic.{_↔_}
+use mathlib.Core.Logic.{_↔_, _⊎_}
 use mathlib.Core.Path.{_≡_}
 use lib.Ieee.{Float}
 use lib.ListN.{length, take, drop, replicate}
 use Rattle.dng.specs.declared.Window.{Window}
 use Rattle.dng.specs.declared.RowWindow.{RowWindow}
 use Rattle.dng.specs.declared.Settings.{Settings}
+use Rattle.dng.specs.declared.Reason.{Reason}
+use Rattle.dng.specs.declared.Refusal.{Refusal}
 use Rattle.dng.specs.declared.Answer.{Answer}
 use Rattle.dng.specs.declared.Answer.the-variants as Ans
 use Rattle.dng.specs.declared.RowAnswer.{RowAnswer}
 use Rattle.dng.specs.declared.RowAnswer.the-variants as Row
 use Rattle.dng.specs.declared.Reading.{Reading}
 use Rattle.dng.specs.declared.Reading.the-variants as R
-use Rattle.dng.specs.List.{Item, readingOf, itemsOf, bodyOf}
+use Rattle.dng.specs.List.{Item, reasonNumber, refusal, readingOf, itemsOf, bodyOf}
 use Rattle.dng.specs.Repair.{marksOf, markedIn, repairedIn, leftIn}
 use Rattle.dng.specs.Run.{Class, table, empty, local, repair, unapplied, classOf, Kind, f32Kind, u16Kind, skipped, skipped16, takes16, takesRows, namesOf, Progress, going, marksFull, Room, perform, performAll}
 use Rattle.dng.specs.Answer.{inRange, rowInRange, numbersOf, rowNumbersOf, readingNumbersOf, Out, runOut, takesAll, frameOf, f32Out, u16Out, Ran, RowOut, rowOut, wholeFrame, wholeRow}
@@ -120,7 +122,7 @@ module _ {A : Type 0} (c : Call A) where
   abbrev pub performed : List Item → Progress A
   performed is = performAll (c .kind) (c .window) (c .period) (c .room) (c .list) 0 is (going (c .samples) 0 0)
 
-  -- none of 1 to 4
+  -- none of 1, 20 to 25, 3 and 4
   pub record Goes : Type 0 where
     pub ranges : inRange (c .window) (c .period) ≡ true
     pub whole : Whole (c .list)
@@ -130,7 +132,7 @@ module _ {A : Type 0} (c : Call A) where
   abbrev pub When : Answer → Type 0
   When (Ans.Done n r l) = Goes × (n ≡ skips) × ((t : List A) × (performed (itemsOf (c .list)) ≡ going t r l))
   When Ans.Range = inRange (c .window) (c .period) ≡ false
-  When (Ans.Malformed k) = (inRange (c .window) (c .period) ≡ true) × (readingOf (c .list) ≡ R.Malformed k)
+  When (Ans.Malformed k why) = (inRange (c .window) (c .period) ≡ true) × (readingOf (c .list) ≡ R.Malformed k why)
   When Ans.NotTaken = (inRange (c .window) (c .period) ≡ true) × Whole (c .list)
       × (c .takes (itemsOf (c .list)) ≡ false)
   When Ans.Names =
@@ -168,13 +170,13 @@ pub record Exactly {A : Type 0} (c : Call A) (e : End A) : Type 0 where
 abbrev pub Exactly-when : Type 1
 Exactly-when = (A : Type 0) (c : Call A) (e : End A) → Meets (outOf c) (c .room) e → Exactly c e
 
--- a row of n samples: 0, 1, 2 or 3
+-- a row of n samples: 0, 1, 20 to 25 or 3
 abbrev pub RowWhen : RowWindow → (y n : ℕ) → List ℕ → RowAnswer → Type 0
 RowWhen w y n list (Row.Done m) =
     (rowInRange w y n ≡ true) × Whole list × (takesRows (itemsOf list) ≡ true)
     × (m ≡ length (namesOf skipped (itemsOf list)))
 RowWhen w y n list Row.Range = rowInRange w y n ≡ false
-RowWhen w y n list (Row.Malformed k) = (rowInRange w y n ≡ true) × (readingOf list ≡ R.Malformed k)
+RowWhen w y n list (Row.Malformed k why) = (rowInRange w y n ≡ true) × (readingOf list ≡ R.Malformed k why)
 RowWhen w y n list Row.NotTaken = (rowInRange w y n ≡ true) × Whole list × (takesRows (itemsOf list) ≡ false)
 
 abbrev pub Row-exactly-when : Type 0
@@ -185,8 +187,8 @@ Row-exactly-when =
 -- ---- 3. kept: what is unchanged, and what is 0, by the answer's number
 
 pub record Kept {A : Type 0} (c : Call A) (e : End A) : Type 0 where
-  -- 1 to 4
-  pub samples : 1 ≤ numbersOf (e .answer) .number → numbersOf (e .answer) .number ≤ 4 → e .samples ≡ c .samples
+  -- any refusal but 5: 1, 20 to 25, 3 and 4
+  pub samples : 1 ≤ numbersOf (e .answer) .number → (numbersOf (e .answer) .number ≡ 5 → ⊥) → e .samples ≡ c .samples
   -- any refusal
   pub names : 1 ≤ numbersOf (e .answer) .number → e .names ≡ c .names
   -- 0: one byte for each skipped opcode in front, and what stood after them
@@ -203,25 +205,54 @@ Row-keeps =
     (w : RowWindow) (scale : Float) (y : ℕ) (list : List ℕ) (row : List Float) (r : RowAnswer) (t : List Float)
     → RowRan (rowOut w scale y list row) r t → ((n : ℕ) → r ≡ Row.Done n → ⊥) → t ≡ row
 
--- the paper's numbers of every answer: names and totals 0 on a refusal, the entry's number 0 but in 2, the opcode's 0
--- but in 5
+-- the papers' numbers of every answer: names and totals 0 on a refusal, the entry's number and the offset 0 but in 20
+-- to 25, the opcode's 0 but in 5
 pub record Numbered : Type 0 where
   pub refused : (a : Answer) → 1 ≤ numbersOf a .number → (numbersOf a .names ≡ 0) × (numbersOf a .repaired ≡ 0)
       × (numbersOf a .left ≡ 0)
-  pub entry : (a : Answer) → (numbersOf a .number ≡ 2 → ⊥) → numbersOf a .entry ≡ 0
+  pub entry : (a : Answer) → numbersOf a .number < 20 → (numbersOf a .entry ≡ 0) × (numbersOf a .offset ≡ 0)
   pub opcode : (a : Answer) → (numbersOf a .number ≡ 5 → ⊥) → numbersOf a .opcode ≡ 0
-  -- 6 is withdrawn (M-104), and given to nothing else
+  -- M-104: no answer has the number 6; M-100: none has 2
   pub withdrawn : (a : Answer) → numbersOf a .number ≡ 6 → ⊥
-  -- a row gives 0, 1, 2 or 3
-  pub row : (a : RowAnswer) → rowNumbersOf a .number ≤ 3
-  pub rowEntry : (a : RowAnswer) → (rowNumbersOf a .number ≡ 2 → ⊥) → rowNumbersOf a .entry ≡ 0
+  pub divided : (a : Answer) → numbersOf a .number ≡ 2 → ⊥
+  -- a row gives 0, 1, 3 or 20 to 25
+  pub row : (a : RowAnswer) → (rowNumbersOf a .number ≤ 3)
+      ⊎ ((20 ≤ rowNumbersOf a .number) × (rowNumbersOf a .number ≤ 25))
+  pub rowDivided : (a : RowAnswer) → rowNumbersOf a .number ≡ 2 → ⊥
+  pub rowEntry : (a : RowAnswer) → rowNumbersOf a .number < 20
+      → (rowNumbersOf a .entry ≡ 0) × (rowNumbersOf a .offset ≡ 0)
   pub rowRest : (a : RowAnswer) → (rowNumbersOf a .opcode ≡ 0) × (rowNumbersOf a .names ≡ 0)
       × (rowNumbersOf a .repaired ≡ 0) × (rowNumbersOf a .left ≡ 0)
-  -- reading alone gives 0 or 2
-  pub reading : (a : Reading) → (readingNumbersOf a .number ≡ 2 → ⊥) → (readingNumbersOf a .number ≡ 0)
-      × (readingNumbersOf a .entry ≡ 0)
+  -- reading alone gives 0 or 20 to 25
+  pub reading : (a : Reading) → readingNumbersOf a .number < 20
+      → (readingNumbersOf a .number ≡ 0) × (readingNumbersOf a .entry ≡ 0) × (readingNumbersOf a .offset ≡ 0)
+  pub readingMost : (a : Reading) → readingNumbersOf a .number ≤ 25
   pub readingRest : (a : Reading) → (readingNumbersOf a .opcode ≡ 0) × (readingNumbersOf a .names ≡ 0)
       × (readingNumbersOf a .repaired ≡ 0) × (readingNumbersOf a .left ≡ 0)
+
+-- a malformed list (document 02, M-100): the entries before it are those read whole, and the byte lies in the list or
+-- is its end
+pub record Located (list : List ℕ) (k : ℕ) (why : Refusal) : Type 0 where
+  pub entries : k ≡ length (itemsOf list)
+  pub offset : why .at ≤ length list
+
+abbrev pub Locates : Type 0
+Locates = (list : List ℕ) (k : ℕ) (why : Refusal) → readingOf list ≡ R.Malformed k why → Located list k why
+
+-- the list is refused for the reason q, after k entries, at a byte
+abbrev pub RefusedFor : List ℕ → Reason → Type 0
+RefusedFor list q = (k : ℕ) × ((at : ℕ) × (readingOf list ≡ R.Malformed k (refusal q at)))
+
+-- each of 20 to 25 exactly when: of a run, of a row, of reading alone
+pub record By-reason : Type 1 where
+  pub run : (A : Type 0) (c : Call A) (e : End A) → Meets (outOf c) (c .room) e → (q : Reason)
+      → (numbersOf (e .answer) .number ≡ reasonNumber q)
+      ↔ ((inRange (c .window) (c .period) ≡ true) × RefusedFor (c .list) q)
+  pub row : (w : RowWindow) (scale : Float) (y : ℕ) (list : List ℕ) (row : List Float) (r : RowAnswer) (t : List Float)
+      → RowRan (rowOut w scale y list row) r t → (q : Reason)
+      → (rowNumbersOf r .number ≡ reasonNumber q) ↔ ((rowInRange w y (length row) ≡ true) × RefusedFor list q)
+  pub reading : (list : List ℕ) (q : Reason)
+      → (readingNumbersOf (readingOf list) .number ≡ reasonNumber q) ↔ RefusedFor list q
 
 -- ---- 4. totals: over a run that answers 0 they are sums over its repairs, and add up to the distinct marked positions
 -- of all of them

@@ -130,7 +130,7 @@ module _ (w : Window) (period : ℕ) (preview : Bool) (room : Room) (list s name
           → Alike (cond i (readOut u16Kind takes16 skipped16 w period preview room list s names r) (unchanged Ans.Range s names))
           (cond i (readOut (kind32 w) takesAll skipped w period preview room list (widened s) names′ r) (unchanged Ans.Range (widened s) names′))
       go true (R.Whole n) i = alike-ran i
-      go true (R.Malformed k) i = (refl, untouched s (h .words))
+      go true (R.Malformed k why) i = (refl, untouched s (h .words))
       go false r i = (refl, untouched s (h .words))
 
 pub same-scratch : Same-scratch

@@ -10,7 +10,7 @@ use lib.Ieee.Fits.{and-l, and-r}
 use lib.ListN.{length, replicate}
 use Rattle.num_words.specs.Words.{big}
 use Rattle.dng.specs.declared.Window.{Window}
-use Rattle.dng.specs.List.{readingOf, itemsOf, counted, readFrom, stepAt, nextAt, parsedAt, countedAt}
+use Rattle.dng.specs.List.{readingOf, itemsOf, counted, readFrom, stepAt, nextAt, parsedAt, constantAt, trimAt, countedAt}
 use Rattle.dng.specs.Run.{keptOf, Room, namesOf, takes16From, takes16On}
 use Rattle.dng.specs.Answer.{inRange}
 use Rattle.law_wholes.specs.WholeForm.{Below, WholeForm, WholeForm·if}
@@ -53,7 +53,7 @@ abbrev samples : List ℕ
 samples = 10 ∷ 0 ∷ 19 ∷ []
 
 pub met : WholeForm·if window 1 false room room list samples (0 ∷ []) (0 ∷ 0 ∷ [])
-unfolding inRange big readingOf itemsOf counted readFrom stepAt nextAt parsedAt countedAt takes16From takes16On keptOf namesOf
+unfolding inRange big readingOf itemsOf counted readFrom stepAt nextAt parsedAt constantAt trimAt countedAt takes16From takes16On keptOf namesOf
 met =
     record {
       bytes = all-below 256 list tt;

@@ -16,7 +16,7 @@ use Rattle.law_wholes.specs.WholeForm.{Below, widened, narrowed, atOne}
 abbrev pub renamed : (m : ℕ) → Answer → Answer
 renamed m (Ans.Done n r l) = Ans.Done m r l
 renamed m Ans.Range = Ans.Range
-renamed m (Ans.Malformed k) = Ans.Malformed k
+renamed m (Ans.Malformed k why) = Ans.Malformed k why
 renamed m Ans.NotTaken = Ans.NotTaken
 renamed m Ans.Names = Ans.Names
 renamed m (Ans.Marks k) = Ans.Marks k

@@ -1,25 +1,20 @@
--- The bodies that dng/specs/List writes out in `parsedAt`, by name: the contracts inside this crate cite them. Document
--- 01, 'The list'.
+-- What the contracts inside this crate cite beside the layout in dng/specs/List. Document 01, 'The list'; document 02,
+-- M-100.
 use Prim.Native.Nat.{ℕ, _+_}
 use mathlib.Core.Bool.{cond}
 use mathlib.Core.List.{List}
 use lib.Dec.{leb, eqb}
 use Rattle.dng.specs.declared.Region.{Region}
 use Rattle.dng.specs.declared.Opcode.{Opcode}
-use Rattle.dng.specs.declared.Opcode.the-variants.{FixVignetteRadial, FixBadPixelsConstant, TrimBounds, DeltaPerRow, DeltaPerColumn, ScalePerRow, ScalePerColumn}
-use Rattle.dng.specs.declared.Parsed.{Parsed}
-use Rattle.dng.specs.List.{given, u32At, radialAt}
+use Rattle.dng.specs.declared.Opcode.the-variants.{DeltaPerRow, DeltaPerColumn, ScalePerRow, ScalePerColumn}
+use Rattle.dng.specs.List.{u32At, regionAt, offsetIn, firstCut, countedFields}
+use Rattle.list_bodies.specs.declared.Counted.{Counted}
+use Rattle.list_bodies.specs.declared.Counted.the-variants as C
 
--- 3, 4 and 6
-unfoldable pub vignetteAt : List ℕ → ℕ → ℕ → Parsed
-vignetteAt s at len = given (leb 56 len) (FixVignetteRadial (radialAt s at))
-
-unfoldable pub constantAt : List ℕ → ℕ → ℕ → Parsed
-constantAt s at len = given (leb 8 len) (FixBadPixelsConstant (u32At s at) (u32At s (at + 4)))
-
-unfoldable pub trimAt : List ℕ → ℕ → ℕ → Parsed
-trimAt s at len =
-    given (leb 16 len) (TrimBounds (u32At s at) (u32At s (at + 4)) (u32At s (at + 8)) (u32At s (at + 12)))
+-- a region and n, or the degree; or the first of these fields that is not whole
+unfoldable pub countedIn : List ℕ → (at len : ℕ) → Counted
+countedIn s at len =
+    cond (leb 36 len) (C.Is (regionAt s at) (u32At s (at + 32))) (C.Cut (offsetIn s at (firstCut countedFields len)))
 
 -- 10 to 12, and 13 for what is left
 abbrev pub lineOf : ℕ → Region → ℕ → Opcode

@@ -1,7 +1,7 @@
 -- The cases of an entry and of its body: one law for each way in which the readers return. Assumes nothing.
 use mathlib.Core.Path.{_≡_, sym, _∙_}
 use mathlib.Core.List.{List}
-use Prim.Native.Nat.{ℕ, _+_, _-_, _≤_, _<_}
+use Prim.Native.Nat.{ℕ, _+_, _-_, _*_, _/_, _≤_, _<_}
 use native.Mathlib.Nat.{add-sub-cancel-left}
 use native.Mathlib.Omega.{arith}
 use borrow.Author.Tests.{le-leb, lt-leb}
@@ -9,20 +9,25 @@ use lib.ListN.{length, take, drop, length-drop, drop-of-length-le}
 use lib.Seq.{take-all, drop-length}
 use Rattle.dng.specs.declared.Cursor.{Cursor}
 use Rattle.dng.specs.declared.Entry.{Entry}
+use Rattle.dng.specs.declared.Reason.the-variants as Why
 use Rattle.dng.specs.declared.Next.the-variants as N
-use Rattle.dng.specs.List.{headerAt, nextAt}
+use Rattle.dng.specs.List.{refusal, headerWhy, headerAt, nextAt}
+use Rattle.dng.proofs.Cuts.{cut-same}
 
 -- ---- an entry
 
 module _ (s : List ℕ) (c : Cursor) where
-  -- fewer than 16 bytes are left
-  pub cut : length s < c .at + 16 → N.Malformed ≡ nextAt s c
-  unfolding nextAt
-  cut h = simp (lt-leb _ _ h)
+  -- fewer than 16 bytes are left: the word that is not whole starts at the last multiple of four
+  pub cut :
+      length s < c .at + 16 → N.Malformed (refusal Why.Ends (c .at + (length s - c .at) / 4 * 4)) ≡ nextAt s c
+  unfolding nextAt headerWhy
+  cut h = simp (lt-leb _ _ h, cut-same 4 4 (length s - c .at) (omega arith) (omega arith))
 
   -- the body ends past the list
-  pub long : {e : Entry} → e ≡ headerAt s (c .at) → c .at + 16 ≤ length s → length s < c .at + 16 + e .len → N.Malformed ≡ nextAt s c
-  unfolding nextAt
+  pub long :
+      {e : Entry} → e ≡ headerAt s (c .at) → c .at + 16 ≤ length s → length s < c .at + 16 + e .len
+      → N.Malformed (refusal Why.TooLong (c .at + 12)) ≡ nextAt s c
+  unfolding nextAt headerWhy
   long p h l = simp (le-leb _ _ h, lt-leb _ _ (rw p at l))
 
   pub found : {e : Entry} → e ≡ headerAt s (c .at) → c .at + 16 ≤ length s → c .at + 16 + e .len ≤ length s → N.Found e (record { at = c .at + 16 + e .len })

@@ -3,11 +3,14 @@
 use dng::Cursor;
 use dng::Entry;
 use dng::Next;
+use dng::Reason;
+use dng::Refusal;
 ghost use mathlib.Core.Path.{_≡_};
-ghost use Prim.Native.Nat.{_+_, _≤_};
+ghost use Prim.Native.Nat.{_+_, _-_, _*_, _/_, _≤_};
 ghost use lib.ListN.{length};
 ghost use mathlib.Core.Bool.{_&&_};
-ghost use Rattle.dng.specs.List.{headerAt, nextAt, bodyOf, optionalOf, previewOf};
+ghost use Rattle.dng.specs.declared.Reason.the-variants.{Ends};
+ghost use Rattle.dng.specs.List.{refusal, headerAt, nextAt, bodyOf, optionalOf, previewOf};
 
 // The four words of a header, as they stand, with where the body lies.
 fn header(list: &[u8], at: usize) -> Entry
@@ -23,22 +26,40 @@ fn header(list: &[u8], at: usize) -> Entry
     }
 }
 
-// The entry at a cursor. Its body is compared with what the list has left, so that no sum can wrap.
+// 20, of a list of n bytes: at the first word after `at` that is not whole.
+fn ends(n: usize, at: usize) -> Next
+    ensures { λ r. ⌜ r ≡ Next.Malformed (refusal Ends (at + (n - at) / 4 * 4)) ⌝ }
+{
+    Next::Malformed {
+        why: Refusal {
+            reason: Reason::Ends,
+            at: at + num_words::less(n, at) / 4 * 4,
+        },
+    }
+}
+
+// The entry at a cursor; or 20, at the word of its header that is not whole; or 22, at its length. The body is compared
+// with what the list has left, so that no sum can wrap.
 pub fn next(list: &[u8], c: Cursor) -> Next
     ensures { λ r. ⌜ r ≡ nextAt (now (list .entry)) c ⌝ }
 {
     let at = c.at;
     let n = list.len();
     if n < 16 {
-        return Next::Malformed;
+        return ends(n, at);
     }
     if n - 16 < at {
-        return Next::Malformed;
+        return ends(n, at);
     }
     let e = header(list, at);
     let len = e.len;
     if n - 16 - at < len {
-        return Next::Malformed;
+        return Next::Malformed {
+            why: Refusal {
+                reason: Reason::TooLong,
+                at: at + 12,
+            },
+        };
     }
     Next::Found {
         entry: e,

@@ -57,7 +57,7 @@ fn put_all(list: &[u8], names: &mut [u8], whole: bool, preview: bool)
                 c = next;
                 k += 1;
             }
-            Step::Malformed => {
+            Step::Malformed { why: _ } => {
                 return;
             }
         }

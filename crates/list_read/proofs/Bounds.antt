@@ -13,13 +13,14 @@ use Rattle.dng.specs.declared.Entry.{Entry}
 use Rattle.dng.specs.declared.Region.{Region}
 use Rattle.dng.specs.declared.Opcode.{Opcode}
 use Rattle.dng.specs.declared.Opcode.the-variants.{WarpRectilinear, WarpFisheye, FixVignetteRadial, FixBadPixelsConstant, FixBadPixelsList, TrimBounds, MapTable, MapPolynomial, GainMap, DeltaPerRow, DeltaPerColumn, ScalePerRow, ScalePerColumn, Other}
+use Rattle.dng.specs.declared.Refusal.{Refusal}
 use Rattle.dng.specs.declared.Next.{Next}
 use Rattle.dng.specs.declared.Next.the-variants as N
 use Rattle.dng.specs.declared.Parsed.{Parsed}
 use Rattle.dng.specs.declared.Parsed.the-variants as P
 use Rattle.dng.specs.declared.Step.{Step}
 use Rattle.dng.specs.declared.Step.the-variants as S
-use Rattle.dng.specs.List.{u32At, regionAt, gridAt, given, headerAt, nextAt, warpAt, badListAt, countedAt, polynomialAt, gainAt, parsedAt, stepOn, stepOf, stepAt, itemsOf, Item}
+use Rattle.dng.specs.List.{u32At, regionAt, gridAt, given, headerAt, headerWhy, nextAt, warpAt, vignetteAt, constantAt, badListAt, trimAt, countedAt, polynomialAt, gainAt, parsedAt, stepOn, stepOf, stepAt, itemsOf, Item}
 use Rattle.dng.specs.Bounds.{bounded}
 use Rattle.list_read.proofs.Fold.{All, every-item}
 
@@ -27,7 +28,7 @@ use Rattle.list_read.proofs.Fold.{All, every-item}
 
 abbrev pub boundedIn : Parsed → Bool
 boundedIn (P.Read op) = bounded op
-boundedIn P.Malformed = true
+boundedIn (P.Malformed why) = true
 
 pub record Bounded (p : Parsed) : Type 0 where
   pub holds : boundedIn p ≡ true
@@ -40,22 +41,22 @@ either false h i = i
 plain : (op : Opcode) → bounded op ≡ true → Bounded (P.Read op)
 plain op h = record { holds = h }
 
-nothing : Bounded P.Malformed
+nothing : {why : Refusal} → Bounded (P.Malformed why)
 nothing = record { holds = refl }
 
 -- of a test in three parts the second bounds the count, of one in four the second and the third
-three : (a b c : Bool) (o : Opcode) → bounded o ≡ b → Bounded (given (a && (b && c)) o)
-three true true true o h = plain o h
-three true true false o h = nothing
-three true false c o h = nothing
-three false b c o h = nothing
+three : (a b c : Bool) (o : Opcode) (why : Refusal) → bounded o ≡ b → Bounded (given (a && (b && c)) o why)
+three true true true o why h = plain o h
+three true true false o why h = nothing
+three true false c o why h = nothing
+three false b c o why h = nothing
 
-four : (a b c d : Bool) (o : Opcode) → bounded o ≡ (b && c) → Bounded (given (a && (b && (c && d))) o)
-four true true true true o h = plain o h
-four true true true false o h = nothing
-four true true false d o h = nothing
-four true false c d o h = nothing
-four false b c d o h = nothing
+four : (a b c d : Bool) (o : Opcode) (why : Refusal) → bounded o ≡ (b && c) → Bounded (given (a && (b && (c && d))) o why)
+four true true true true o why h = plain o h
+four true true true false o why h = nothing
+four true true false d o why h = nothing
+four true false c d o why h = nothing
+four false b c d o why h = nothing
 
 either-warp : (b : Bool) (x y : Opcode) → bounded x ≡ true → bounded y ≡ true → Bounded (P.Read (cond b x y))
 either-warp true x y h i = plain x h
@@ -68,13 +69,13 @@ module _ (s : List ℕ) (at len : ℕ) where
   unfolding countedAt
   counted-bounded size op h =
       let n = u32At s (at + 32) in
-      three (leb 36 len) (leb n 16777216) (leb (36 + size * n) len) (op (regionAt s at) n) (h (regionAt s at) n)
+      three (leb 36 len) (leb n 16777216) (leb (36 + size * n) len) (op (regionAt s at) n) _ (h (regionAt s at) n)
 
   polynomial-bounded : Bounded (polynomialAt s at len)
   unfolding polynomialAt
   polynomial-bounded =
       let d = u32At s (at + 32) in
-      three (leb 36 len) (leb d 8) (leb (36 + 8 * (d + 1)) len) (MapPolynomial (regionAt s at) d) refl
+      three (leb 36 len) (leb d 8) (leb (36 + 8 * (d + 1)) len) (MapPolynomial (regionAt s at) d) _ refl
 
   gain-bounded : Bounded (gainAt s at len)
   unfolding gainAt
@@ -84,7 +85,7 @@ module _ (s : List ℕ) (at len : ℕ) where
       let m = u32At s (at + 72) in
       let total = v * h * max m 1 in
       four (leb 76 len) (leb 1 total) (leb total 16777216) (leb (76 + 4 * total) len)
-      (GainMap (regionAt s at) v h (gridAt s (at + 40)) m) refl
+      (GainMap (regionAt s at) v h (gridAt s (at + 40)) m) _ refl
 
   warp-bounded : Bounded (P.Read (warpAt s at len))
   unfolding warpAt
@@ -97,7 +98,7 @@ module _ (s : List ℕ) (at len : ℕ) where
       either (leb 12 len && leb (12 + (8 * u32At s (at + 4) + 16 * u32At s (at + 8))) len) (plain (FixBadPixelsList _ _ _) refl) nothing
 
   pub parsed-bounded : (id : ℕ) → Bounded (parsedAt s id at len)
-  unfolding parsedAt
+  unfolding parsedAt vignetteAt constantAt trimAt
   parsed-bounded id =
       either (eqb id 1) warp-bounded
       (either (eqb id 2) (plain WarpFisheye refl)
@@ -123,7 +124,7 @@ pub record Inside (s : List ℕ) (e : Entry) (next : Cursor) : Type 0 where
 
 unfoldable InsideNext : List ℕ → Next → Type 0
 InsideNext s (N.Found e next) = Inside s e next
-InsideNext s N.Malformed = Unit
+InsideNext s (N.Malformed why) = Unit
 
 next-inside : (s : List ℕ) (c : Cursor) → InsideNext s (nextAt s c)
 unfolding nextAt InsideNext
@@ -131,7 +132,8 @@ next-inside s c = go (leb (c .at + 16) (length s)) (leb (c .at + 16 + u32At s (c
   where
     go :
         (a b : Bool) → (b ≡ true → c .at + 16 + u32At s (c .at + 12) ≤ length s)
-        → InsideNext s (cond (a && b) (N.Found (headerAt s (c .at)) (record { at = c .at + 16 + u32At s (c .at + 12) })) N.Malformed)
+        → InsideNext s (cond (a && b) (N.Found (headerAt s (c .at)) (record { at = c .at + 16 + u32At s (c .at + 12) }))
+        (N.Malformed (headerWhy s (c .at))))
     go true true h = record { ends = h refl; goes-on = refl }
     go true false h = tt
     go false b h = tt
@@ -145,17 +147,17 @@ pub record Sound (s : List ℕ) (e : Entry) (op : Opcode) (next : Cursor) : Type
 
 unfoldable SoundStep : List ℕ → Step → Type 0
 SoundStep s (S.Item e op next) = Sound s e op next
-SoundStep s S.Malformed = Unit
+SoundStep s (S.Malformed why) = Unit
 
 parsed-sound : (s : List ℕ) (e : Entry) (next : Cursor) (p : Parsed) → Inside s e next → Bounded p → SoundStep s (stepOn e next p)
 unfolding SoundStep
 parsed-sound s e next (P.Read op) h b = record { counts = b .holds; within = h .ends; goes-on = h .goes-on }
-parsed-sound s e next P.Malformed h b = tt
+parsed-sound s e next (P.Malformed why) h b = tt
 
 next-sound : (s : List ℕ) (n : Next) → InsideNext s n → SoundStep s (stepOf s n)
 unfolding SoundStep InsideNext
 next-sound s (N.Found e next) h = parsed-sound s e next (parsedAt s (e .id) (e .at) (e .len)) h (parsed-bounded s (e .at) (e .len) (e .id))
-next-sound s N.Malformed h = tt
+next-sound s (N.Malformed why) h = tt
 
 pub sound :
     (s : List ℕ) (c : Cursor) {r : Step} {e : Entry} {op : Opcode} {next : Cursor} → r ≡ stepAt s c → r ≡ S.Item e op next

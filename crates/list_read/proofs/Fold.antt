@@ -13,10 +13,11 @@ use lib.ListN.{length}
 use Rattle.dng.specs.declared.Cursor.{Cursor}
 use Rattle.dng.specs.declared.Entry.{Entry}
 use Rattle.dng.specs.declared.Opcode.{Opcode}
+use Rattle.dng.specs.declared.Refusal.{Refusal}
 use Rattle.dng.specs.declared.Step.{Step}
 use Rattle.dng.specs.declared.Step.the-variants as S
 use Rattle.dng.specs.declared.Reading.the-variants as R
-use Rattle.dng.specs.List.{Item, u32At, stepAt, readOn, readFrom, counted, itemsOf, readingOf}
+use Rattle.dng.specs.List.{Item, u32At, stepAt, readOn, readFrom, counted, itemsOf, whyFrom, whyOf, readingOf}
 use Rattle.list_read.specs.Count.{countOf}
 
 abbrev pub All : (Item → Type 0) → List Item → Type 0
@@ -26,6 +27,10 @@ All p (i ∷ is) = p i × All p is
 -- where a loop starts
 abbrev pub start : Cursor
 start = record { at = 4 }
+
+-- before the first turn
+pub none-yet : (n : ℕ) → n - 0 ≡ n
+none-yet n = omega arith
 
 module _ (s : List ℕ) where
   pub items-start : itemsOf s ≡ readFrom s (countOf s) start
@@ -38,7 +43,7 @@ module _ (s : List ℕ) where
 
   -- before the first turn, of as many as were counted
   pub begin : {n : ℕ} → n ≡ countOf s → readFrom s (n - 0) start ≡ itemsOf s
-  begin {n} e = ap (λ (m : ℕ). readFrom s m start) (let z : n - 0 ≡ n = omega arith in z ∙ e) ∙ sym items-start
+  begin {n} e = ap (λ (m : ℕ). readFrom s m start) (none-yet n ∙ e) ∙ sym items-start
 
   module _ (n k : ℕ) (c : Cursor) where
     -- one entry more
@@ -49,7 +54,7 @@ module _ (s : List ℕ) where
     item h p q = let m : n - k ≡ suc (n - (k + 1)) = omega arith in simp (m, sym p ∙ q)
 
     -- a malformed entry
-    pub stop : {r : Step} → k < n → r ≡ stepAt s c → r ≡ S.Malformed → readFrom s (n - k) c ≡ []
+    pub stop : {r : Step} {why : Refusal} → k < n → r ≡ stepAt s c → r ≡ S.Malformed why → readFrom s (n - k) c ≡ []
     unfolding readFrom
     stop h p q = let m : n - k ≡ suc (n - (k + 1)) = omega arith in simp (m, sym p ∙ q)
 
@@ -58,13 +63,25 @@ module _ (s : List ℕ) where
     unfolding readFrom
     end h = let m : n - k ≡ 0 = omega arith in simp m
 
+    -- why the first malformed entry is refused: another entry's, or this one's
+    pub why-item :
+        {r : Step} {e : Entry} {op : Opcode} {next : Cursor} → k < n → r ≡ stepAt s c → r ≡ S.Item e op next
+        → whyFrom s (n - k) c ≡ whyFrom s (n - (k + 1)) next
+    unfolding whyFrom
+    why-item h p q = let m : n - k ≡ suc (n - (k + 1)) = omega arith in simp (m, sym p ∙ q)
+
+    pub why-stop : {r : Step} {why : Refusal} → k < n → r ≡ stepAt s c → r ≡ S.Malformed why → whyFrom s (n - k) c ≡ why
+    unfolding whyFrom
+    why-stop h p q = let m : n - k ≡ suc (n - (k + 1)) = omega arith in simp (m, sym p ∙ q)
+
     -- How many were read stays the same total; so in an accepted list, where it is n, no step before the n-th is malformed.
     pub total :
         (t : ℕ) {r : Step} {e : Entry} {op : Opcode} {next : Cursor} → k < n → r ≡ stepAt s c → r ≡ S.Item e op next
         → k + length (readFrom s (n - k) c) ≡ t → k + 1 + length (readFrom s (n - (k + 1)) next) ≡ t
     total t h p q l = omega (arith, ap length (item h p q))
 
-    pub never : {r : Step} → k < n → r ≡ stepAt s c → r ≡ S.Malformed → k + length (readFrom s (n - k) c) ≡ n → ⊥
+    pub never :
+        {r : Step} {why : Refusal} → k < n → r ≡ stepAt s c → r ≡ S.Malformed why → k + length (readFrom s (n - k) c) ≡ n → ⊥
     never h p q l = omega (arith, ap length (stop h p q))
 
   -- ---- at most 4,096 turns, and no more items than turns
@@ -81,7 +98,7 @@ module _ (s : List ℕ) where
   read-on-bound :
       (n : ℕ) (rest : Cursor → List Item) → ((next : Cursor) → length (rest next) ≤ n) → (r : Step) → length (readOn rest r) ≤ suc n
   read-on-bound n rest h (S.Item e op next) = suc-le-suc (h next)
-  read-on-bound n rest h S.Malformed = zero-le
+  read-on-bound n rest h (S.Malformed why) = zero-le
 
   pub read-bound : (n : ℕ) (c : Cursor) → length (readFrom s n c) ≤ n
   unfolding readFrom
@@ -99,7 +116,7 @@ module _ (s : List ℕ) where
         (c : Cursor) (rest : Cursor → List Item) → ((next : Cursor) → All p (rest next)) → (r : Step) → stepAt s c ≡ r
         → All p (readOn rest r)
     every-on c rest h (S.Item e op next) q = (step c e op next q, h next)
-    every-on c rest h S.Malformed q = tt
+    every-on c rest h (S.Malformed why) q = tt
 
     pub every : (n : ℕ) (c : Cursor) → All p (readFrom s n c)
     unfolding readFrom
@@ -111,24 +128,28 @@ module _ (s : List ℕ) where
 
 -- ---- how many items an accepted list has, and a refused one
 
-whole-if : (a : Bool) (l m : ℕ) {n : ℕ} → cond (a && eqb l m) (R.Whole m) (R.Malformed l) ≡ R.Whole n → (l ≡ n) × (n ≡ cond a m 0)
-whole-if true l m e = go (eqb l m) refl e
+whole-if :
+    (a : Bool) (l m : ℕ) (why : Refusal) {n : ℕ} → cond (a && eqb l m) (R.Whole m) (R.Malformed l why) ≡ R.Whole n
+    → (l ≡ n) × (n ≡ cond a m 0)
+whole-if true l m why e = go (eqb l m) refl e
   where
-    go : (b : Bool) → eqb l m ≡ b → {n : ℕ} → cond b (R.Whole m) (R.Malformed l) ≡ R.Whole n → (l ≡ n) × (n ≡ m)
+    go : (b : Bool) → eqb l m ≡ b → {n : ℕ} → cond b (R.Whole m) (R.Malformed l why) ≡ R.Whole n → (l ≡ n) × (n ≡ m)
     go true h e = let p : l ≡ m = eqb-true l m h in (cc, cc)
     go false h e = (cc, cc)
-whole-if false l m e = (cc, cc)
+whole-if false l m why e = (cc, cc)
 
 -- as many as its count says
 pub accepted : (s : List ℕ) {n : ℕ} → readingOf s ≡ R.Whole n → (length (itemsOf s) ≡ n) × (n ≡ countOf s)
 unfolding readingOf countOf
-accepted s e = whole-if (counted s) (length (itemsOf s)) (u32At s 0) e
+accepted s e = whole-if (counted s) (length (itemsOf s)) (u32At s 0) (whyOf s) e
 
--- as many as the answer says
-pub refused : (s : List ℕ) {k : ℕ} → readingOf s ≡ R.Malformed k → length (itemsOf s) ≡ k
+-- as many as the answer says, and the reason of the first that could not be read
+pub refused : (s : List ℕ) {k : ℕ} {why : Refusal} → readingOf s ≡ R.Malformed k why → (length (itemsOf s) ≡ k) × (whyOf s ≡ why)
 unfolding readingOf
-refused s e = go (counted s && eqb (length (itemsOf s)) (u32At s 0)) e
+refused s {k} {why} e = go (counted s && eqb (length (itemsOf s)) (u32At s 0)) e
   where
-    go : (b : Bool) {k : ℕ} → cond b (R.Whole (u32At s 0)) (R.Malformed (length (itemsOf s))) ≡ R.Malformed k → length (itemsOf s) ≡ k
-    go true e = cc
-    go false e = cc
+    go :
+        (b : Bool) → cond b (R.Whole (u32At s 0)) (R.Malformed (length (itemsOf s)) (whyOf s)) ≡ R.Malformed k why
+        → (length (itemsOf s) ≡ k) × (whyOf s ≡ why)
+    go true e = (cc, cc)
+    go false e = (cc, cc)

@@ -1,3 +1,4 @@
 pub mod Fold
 pub mod Bounds
+pub mod Offsets
 pub mod Laws

@@ -9,19 +9,22 @@ use native.Mathlib.Omega.{arith}
 use lib.ListN.{length}
 use Rattle.dng.specs.declared.Entry.{Entry}
 use Rattle.dng.specs.declared.Opcode.{Opcode}
+use Rattle.dng.specs.declared.Cursor.{Cursor}
+use Rattle.dng.specs.declared.Refusal.{Refusal}
 use Rattle.dng.specs.declared.Reading.{Reading}
 use Rattle.dng.specs.declared.Reading.the-variants as R
-use Rattle.dng.specs.List.{Item, previewOf, itemsOf, readingOf}
+use Rattle.dng.specs.List.{Item, previewOf, readFrom, itemsOf, readingOf}
 use Rattle.dng.specs.Run.{drops, keptOf, keptIn, Class, table, empty, local, repair, unapplied, classOf, nameOf, skipped, skipped16, takes16On, takes16From, takes16, rowTakes, takesRows, namesOf}
 use Rattle.list_classes.specs.declared.Facts.{Facts}
 use Rattle.list_classes.specs.Classes.{isLocal, isRepair, factsOf}
-use Rattle.list_read.proofs.Fold.{items-bound, refused}
+use Rattle.list_read.specs.declared.Entries.{Entries}
+use Rattle.list_read.specs.declared.Entries.the-variants as E
+use Rattle.list_read.specs.Count.{countOf, entriesOf, readingFrom}
+use Rattle.list_read.proofs.Fold.{start, items-start, read-bound, count-bound, refused}
+use Rattle.list_read.proofs.Laws.{count-is, reading-is, reading-none}
 use Rattle.list_survey.specs.declared.Surveyed.{Surveyed}
 use Rattle.list_survey.specs.declared.Tally.{Tally}
-use Rattle.list_survey.specs.Survey.{turnOn, surveyOn, surveyOf, surveyedBy}
-
-abbrev pub begun : Tally
-begun = record { free = true; takes16 = true; «takes_rows» = true; skips = 0; skips16 = 0 }
+use Rattle.list_survey.specs.Survey.{begun, turnOn, surveyOn, surveyFrom, surveyOf, surveyedBy}
 
 -- one turn, from what was asked of the opcode
 pub turned :
@@ -139,14 +142,15 @@ names-bound skip (i ∷ is) = go (skip (classOf (i .op))) (names-bound skip is)
     go false h = omega arith
 
 pub small :
-    (preview : Bool) (s : List ℕ) (t : Tally) (is : List Item) → tallyFrom t is ≡ tallyFrom begun (keptIn preview s)
-    → (t .skips ≤ 4096) × (t .skips16 ≤ 4096)
-small preview s t is e =
-    let a = ap (λ (u : Tally). u .skips) e ∙ skips-all begun (keptIn preview s) in
-    let b = ap (λ (u : Tally). u .skips16) e ∙ skips16-all begun (keptIn preview s) in
-    let few = kept-bound preview (itemsOf s) in (
-      omega (arith, a, skips-all t is, names-bound skipped (keptIn preview s), few, items-bound s),
-      omega (arith, b, skips16-all t is, names-bound skipped16 (keptIn preview s), few, items-bound s),
+    (preview : Bool) (s : List ℕ) (n : ℕ) (t : Tally) (is : List Item) → n ≤ 4096
+    → tallyFrom t is ≡ tallyFrom begun (keptOf preview (readFrom s n start)) → (t .skips ≤ 4096) × (t .skips16 ≤ 4096)
+small preview s n t is h e =
+    let all = keptOf preview (readFrom s n start) in
+    let few = kept-bound preview (readFrom s n start) in
+    let a = ap (λ (u : Tally). u .skips) e ∙ skips-all begun all in
+    let b = ap (λ (u : Tally). u .skips16) e ∙ skips16-all begun all in (
+      omega (arith, a, skips-all t is, names-bound skipped all, few, read-bound s n start),
+      omega (arith, b, skips16-all t is, names-bound skipped16 all, few, read-bound s n start),
     )
 
 -- ---- the ways out
@@ -154,28 +158,50 @@ small preview s t is e =
 zero-plus : (n : ℕ) → 0 + n ≡ n
 zero-plus n = omega arith
 
-pub known :
-    (preview : Bool) (s : List ℕ) (t : Tally) {v : Surveyed} {r : Reading} {n : ℕ} → v ≡ surveyedBy r n t → r ≡ readingOf s
-    → n ≡ length (itemsOf s) → t ≡ tallyFrom begun (keptIn preview s) → v ≡ surveyOf preview s
-unfolding surveyOf surveyOn
-known preview s t {r = r} {n = n} h p q e =
+found :
+    (m : ℕ) (is : List Item) (t : Tally) {v : Surveyed} {r : Reading} {n : ℕ} → v ≡ surveyedBy r n t → n ≡ m → t ≡ tallyFrom begun is
+    → v ≡ record { reading = r; survey = surveyOn m is }
+unfolding surveyOn
+found m is t {r = r} {n = n} h q e =
     h
     ∙ ap (λ (u : Tally). surveyedBy r n u) e
     ∙ simp (
-      p,
       q,
-      takes-all begun (keptIn preview s),
-      rows-all begun (keptIn preview s),
-      skips-all begun (keptIn preview s) ∙ zero-plus _,
-      skips16-all begun (keptIn preview s) ∙ zero-plus _,
+      takes-all begun is,
+      rows-all begun is,
+      skips-all begun is ∙ zero-plus _,
+      skips16-all begun is ∙ zero-plus _,
     )
 
-pub no-entries : (s : List ℕ) → R.Malformed 0 ≡ readingOf s → 0 ≡ length (itemsOf s)
-no-entries s e = sym (refused s (sym e))
+pub known :
+    (preview : Bool) (s : List ℕ) (n : ℕ) (t : Tally) {v : Surveyed} {r : Reading} {m : ℕ} → v ≡ surveyedBy r m t → r ≡ readingFrom s n
+    → m ≡ length (readFrom s n start) → t ≡ tallyFrom begun (keptOf preview (readFrom s n start)) → v ≡ surveyFrom preview s n
+unfolding surveyFrom
+known preview s n t h p q e =
+    found (length (readFrom s n start)) (keptOf preview (readFrom s n start)) t h q e
+    ∙ ap (λ (r : Reading). record { reading = r; survey = surveyOn (length (readFrom s n start)) (keptOf preview (readFrom s n start)) }) p
 
-pub none : (preview : Bool) (s : List ℕ) → R.Malformed 0 ≡ readingOf s → begun ≡ tallyFrom begun (keptIn preview s)
-none preview s e = no-more preview begun (empty-list (itemsOf s) (refused s (sym e)))
-  where
-    empty-list : (is : List Item) → length is ≡ 0 → is ≡ []
-    empty-list [] h = refl
-    empty-list (i ∷ is) h = absurd (omega (arith, h))
+empty-list : (is : List Item) → length is ≡ 0 → is ≡ []
+empty-list [] h = refl
+empty-list (i ∷ is) h = absurd (omega (arith, h))
+
+pub few : (s : List ℕ) {x : Entries} {n : ℕ} → x ≡ entriesOf s → x ≡ E.Are n → n ≤ 4096
+few s e f = omega (arith, count-is s e f, count-bound s)
+
+module _ (preview : Bool) (s : List ℕ) {x : Entries} (e : x ≡ entriesOf s) where
+  pub none :
+      {why : Refusal} {t : Tally} {v : Surveyed} → x ≡ E.Refused why → t ≡ begun → v ≡ surveyedBy (R.Malformed 0 why) 0 t
+      → v ≡ surveyOf preview s
+  unfolding surveyOf
+  none f b h =
+      let bad = reading-none s e f in
+      let z = refused s (sym bad) .0 in
+      found (length (itemsOf s)) (keptIn preview s) _ h (sym z) (b ∙ no-more preview begun (empty-list (itemsOf s) z))
+      ∙ ap (λ (r : Reading). record { reading = r; survey = surveyOn (length (itemsOf s)) (keptIn preview s) }) bad
+
+  module _ {n : ℕ} (f : x ≡ E.Are n) where
+    pub all : surveyFrom preview s n ≡ surveyOf preview s
+    unfolding surveyFrom surveyOf
+    all =
+        ap₂ (λ (r : Reading) (is : List Item). record { reading = r; survey = surveyOn (length is) (keptOf preview is) }) (reading-is s e f)
+        (ap (λ (m : ℕ). readFrom s m start) (count-is s e f) ∙ sym (items-start s))

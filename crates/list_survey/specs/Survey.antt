@@ -6,9 +6,10 @@ use mathlib.Core.Bool.{Bool, true, not, _&&_, _||_, cond}
 use mathlib.Core.List.{List, [], _∷_}
 use lib.ListN.{length}
 use Rattle.dng.specs.declared.Reading.{Reading}
-use Rattle.dng.specs.List.{Item, itemsOf, readingOf}
-use Rattle.dng.specs.Run.{keptIn, takes16, takesRows, skipped, skipped16, namesOf}
+use Rattle.dng.specs.List.{Item, itemsOf, readFrom, readingOf}
+use Rattle.dng.specs.Run.{keptOf, keptIn, takes16, takesRows, skipped, skipped16, namesOf}
 use Rattle.list_classes.specs.declared.Facts.{Facts}
+use Rattle.list_read.specs.Count.{readingFrom}
 use Rattle.list_survey.specs.declared.Survey.{Survey}
 use Rattle.list_survey.specs.declared.Surveyed.{Surveyed}
 use Rattle.list_survey.specs.declared.Tally.{Tally}
@@ -27,7 +28,16 @@ surveyOn n is =
 unfoldable pub surveyOf : (preview : Bool) → List ℕ → Surveyed
 surveyOf preview s = record { reading = readingOf s; survey = surveyOn (length (itemsOf s)) (keptIn preview s) }
 
--- ---- how the pass comes to it: one entry more, and the end
+-- the same of n entries after the count
+unfoldable pub surveyFrom : (preview : Bool) → List ℕ → ℕ → Surveyed
+surveyFrom preview s n =
+    let is = readFrom s n (record { at = 4 }) in
+    record { reading = readingFrom s n; survey = surveyOn (length is) (keptOf preview is) }
+
+-- ---- how the pass comes to it: no entry yet, one entry more, and the end
+
+abbrev pub begun : Tally
+begun = record { free = true; takes16 = true; «takes_rows» = true; skips = 0; skips16 = 0 }
 
 unfoldable pub turnOn : Facts → Tally → Tally
 turnOn f t =

@@ -5,12 +5,13 @@ use dng::Cursor;
 use dng::Opcode;
 use dng::Reading;
 use dng::Step;
+use list_read::Entries;
 ghost use mathlib.Core.Path.{_≡_};
 ghost use mathlib.Core.Bool.{cond};
 ghost use Prim.Native.Nat.{_≤_};
 ghost use Rattle.dng.specs.Run.{classOf};
 ghost use Rattle.list_classes.specs.Classes.{factsOf};
-ghost use Rattle.list_survey.specs.Survey.{turnOn, surveyedBy, surveyOf};
+ghost use Rattle.list_survey.specs.Survey.{begun, turnOn, surveyedBy, surveyFrom, surveyOf};
 
 // How many entries are read whole, whether the whole-number form and the row form take them, and how many opcodes the
 // f32 run and the whole-number run skip.
@@ -34,6 +35,18 @@ struct Tally {
     takes_rows: bool,
     skips: usize,
     skips16: usize,
+}
+
+fn begin() -> Tally
+    ensures { λ r. ⌜ r ≡ begun ⌝ }
+{
+    Tally {
+        free: true,
+        takes16: true,
+        takes_rows: true,
+        skips: 0,
+        skips16: 0,
+    }
 }
 
 // One entry more; one that is dropped counts for nothing.
@@ -69,21 +82,12 @@ fn made_of(reading: Reading, opcodes: usize, t: Tally) -> Surveyed
     Surveyed { reading, survey }
 }
 
-// Reads a list to its end or to its first malformed entry.
-pub fn read(list: &[u8], preview: bool) -> Surveyed
-    ensures { λ r. ⌜ r ≡ surveyOf preview (now (list .entry)) ⌝ }
+// n entries after the count, to the last or to the first malformed one.
+fn read_entries(list: &[u8], n: usize, preview: bool) -> Surveyed
+    requires { ⌜ n ≤ 4096 ⌝ }
+    ensures { λ r. ⌜ r ≡ surveyFrom preview (now (list .entry)) n ⌝ }
 {
-    let mut t = Tally {
-        free: true,
-        takes16: true,
-        takes_rows: true,
-        skips: 0,
-        skips16: 0,
-    };
-    if !list_read::is_counted(list) {
-        return made_of(Reading::Malformed { after: 0 }, 0, t);
-    }
-    let n = list_read::count(list);
+    let mut t = begin();
     let mut k: usize = 0;
     let mut c = Cursor { at: 4 };
     while k < n {
@@ -93,10 +97,20 @@ pub fn read(list: &[u8], preview: bool) -> Surveyed
                 c = next;
                 k += 1;
             }
-            Step::Malformed => {
-                return made_of(Reading::Malformed { after: k }, k, t);
+            Step::Malformed { why } => {
+                return made_of(Reading::Malformed { after: k, why }, k, t);
             }
         }
     }
     made_of(Reading::Whole { opcodes: n }, n, t)
+}
+
+// Reads a list to its end or to its first malformed entry.
+pub fn read(list: &[u8], preview: bool) -> Surveyed
+    ensures { λ r. ⌜ r ≡ surveyOf preview (now (list .entry)) ⌝ }
+{
+    match list_read::entries_in(list) {
+        Entries::Refused { why } => made_of(Reading::Malformed { after: 0, why }, 0, begin()),
+        Entries::Are { n } => read_entries(list, n, preview),
+    }
 }

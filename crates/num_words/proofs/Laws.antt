@@ -2,14 +2,14 @@
 -- it depends on its own bytes only; what was put is read, and nothing else changes; one comparison tells a NaN's pattern.
 -- Assumes nothing.
 use mathlib.Core.Path.{_≡_, refl, sym, ap, ap₂, _∙_, subst}
-use mathlib.Core.Bool.{Bool, true, false, not}
+use mathlib.Core.Bool.{Bool, true, false, not, cond}
 use mathlib.Core.List.{List, []}
 use mathlib.Core.Logic.{_⊎_, inl, inr}
 use Prim.Native.Nat.{ℕ, zero, suc, _+_, _-_, _*_, _/_, _%_, _^_, _≤_, _<_}
 use native.Mathlib.Nat.{add-zero, zero-add, add-suc, add-assoc, add-comm, mul-one, zero-mul, mul-comm, mul-assoc, add-mul, mul-pos}
 use native.Mathlib.Nat.{pow-zero, pow-suc, one-le-pow, mul-div-cancel, mul-mod-left, div-one, mod-one, mod-eq-of-lt, zero-lt-suc}
 use native.Mathlib.Omega.{arith}
-use lib.Dec.{T}
+use lib.Dec.{T, leb}
 use lib.ListN.{length, getD, set, take, drop, length-set, length-drop, List·getD-eq-default}
 use lib.Seq.{take-all, getD-take, getD-drop, getD-set-same, getD-set-other, set-out}
 use lib.Arith.{digits-lt, digits-div, digits-mod, mod-mul}
@@ -17,8 +17,10 @@ use lib.Pow.{pow-add, pow-pos}
 use lib.Ieee.{Float, nan, inf, fin, Format, binary32, binary64, prec, ones, hid, top, fits, ofBits, toBits, nanBits, isNan, div, ne}
 use lib.Ieee.Bits.{nanBits-is, nanBits-above, ofBits-toBits, toBits-lt}
 use lib.Ieee.Compare.{differs-from-itself, nan-differs}
-use borrow.Author.Tests.{lt-ltb, le-ltb}
-use Rattle.num_words.specs.Words.{big, little, put}
+use borrow.Author.Tests.{lt-ltb, le-ltb, le-leb, lt-leb, leb-true, leb-false}
+use Rattle.num_words.specs.declared.Word.{Word}
+use Rattle.num_words.specs.declared.Word.the-variants as W
+use Rattle.num_words.specs.Words.{big, little, put, wordIn}
 
 -- ---- a word is its parts
 
@@ -254,3 +256,31 @@ unfolding isNan
 own-bits nan e = subst (λ (b : Bool). T (not b)) (sym (sym nan-differs ∙ e)) tt
 own-bits (inf s) e = tt
 own-bits (fin s m k) e = tt
+
+-- ---- a word of a part that may end inside it
+
+module _ (s : List ℕ) (at : ℕ) {left : ℕ} where
+  pub word-cut : left < 4 → W.Cut at ≡ wordIn s at left
+  unfolding wordIn
+  word-cut h = simp (lt-leb _ _ h)
+
+  pub word-is : {x : ℕ} → 4 ≤ left → x ≡ big 4 s at → W.Is x ≡ wordIn s at left
+  unfolding wordIn
+  word-is h e = simp (le-leb _ _ h, e)
+
+  -- back from what was read
+  pub cut-word : {r : Word} {p : ℕ} → r ≡ wordIn s at left → r ≡ W.Cut p → (left < 4) × (p ≡ at)
+  unfolding wordIn
+  cut-word {r} {p} e f = go (leb 4 left) refl (sym e ∙ f)
+    where
+      go : (b : Bool) → leb 4 left ≡ b → cond b (W.Is (big 4 s at)) (W.Cut at) ≡ W.Cut p → (left < 4) × (p ≡ at)
+      go true t q = absurd (let z : _≡_ {A = ℕ} 0 1 = cc in omega arith)
+      go false t q = (leb-false _ _ t, cc)
+
+  pub is-word : {r : Word} {x : ℕ} → r ≡ wordIn s at left → r ≡ W.Is x → (4 ≤ left) × (x ≡ big 4 s at)
+  unfolding wordIn
+  is-word {r} {x} e f = go (leb 4 left) refl (sym e ∙ f)
+    where
+      go : (b : Bool) → leb 4 left ≡ b → cond b (W.Is (big 4 s at)) (W.Cut at) ≡ W.Is x → (4 ≤ left) × (x ≡ big 4 s at)
+      go true t q = (leb-true _ _ t, cc)
+      go false t q = absurd (let z : _≡_ {A = ℕ} 0 1 = cc in omega arith)

@@ -4,7 +4,8 @@ use mathlib.Core.Bool.{true, false}
 use mathlib.Core.List.{[], _∷_}
 use lib.IntN.{pos, negsuc}
 use lib.Ieee.{nan, inf, fin, binary32, binary64, ofBits, toBits}
-use Rattle.num_words.specs.Words.{big, little, put}
+use Rattle.num_words.specs.declared.Word.the-variants as W
+use Rattle.num_words.specs.Words.{big, little, put, wordIn}
 
 -- ---- words
 
@@ -45,6 +46,15 @@ little-across = refl
 pub big-past : big 4 (1 ∷ 2 ∷ []) 9 ≡ 0
 unfolding big
 big-past = refl
+
+-- of a part that ends with the word it is read, of one that is a byte shorter it is cut at its first byte
+pub word-whole : wordIn (9 ∷ 1 ∷ 2 ∷ 3 ∷ 4 ∷ []) 1 4 ≡ W.Is 0x01020304
+unfolding big wordIn
+word-whole = refl
+
+pub word-cut : wordIn (9 ∷ 1 ∷ 2 ∷ 3 ∷ 4 ∷ []) 1 3 ≡ W.Cut 1
+unfolding wordIn
+word-cut = refl
 
 -- ---- what is put
 

@@ -6,7 +6,7 @@ ghost use mathlib.Core.Path.{_≡_};
 ghost use Prim.Native.Nat.{_+_, _-_, _*_, _/_, _%_, _≤_, _<_};
 ghost use lib.ListN.{length, getD, set};
 ghost use lib.Ieee.{binary32, binary64, ofBits, toBits};
-ghost use Rattle.num_words.specs.Words.{big, little, put};
+ghost use Rattle.num_words.specs.Words.{big, little, put, wordIn};
 
 // x, with its bound for the sums below.
 fn wide(x: u8) -> u64
@@ -15,9 +15,9 @@ fn wide(x: u8) -> u64
     x as u64
 }
 
-// How many positions have k more bytes behind them: one comparison with it is the whole range test, and it moves out of
-// a loop.
-fn less(n: usize, k: usize) -> usize
+// n less k, or 0. Of a length it says how many positions have k more bytes behind them: one comparison with it is the
+// whole range test, and it moves out of a loop.
+pub fn less(n: usize, k: usize) -> usize
     ensures { λ r. ⌜ r ≡ n - k ⌝ }
 {
     if k < n { n - k } else { 0 }
@@ -126,6 +126,25 @@ pub fn u64_at(s: &[u8], at: usize) -> u64
         eight(s, at)
     } else {
         edge(&s[..], at)
+    }
+}
+
+// ---- big-endian, in a part that has `left` bytes from `at` on: the value, or where the word that is not whole begins
+
+pub enum Word {
+    Is { value: u32 },
+    Cut { at: usize },
+}
+
+pub fn u32_in(s: &[u8], at: usize, left: usize) -> Word
+    ensures { λ r. ⌜ r ≡ wordIn (now (s .entry)) at left ⌝ }
+{
+    if left < 4 {
+        Word::Cut { at }
+    } else {
+        Word::Is {
+            value: u32_at(s, at),
+        }
     }
 }
 

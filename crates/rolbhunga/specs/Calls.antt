@@ -12,6 +12,7 @@ use Rattle.dng.specs.declared.Answer.the-variants as Ans
 use Rattle.dng.specs.declared.Numbers.{Numbers}
 use Rattle.dng.specs.declared.RowAnswer.{RowAnswer}
 use Rattle.dng.specs.declared.RowAnswer.the-variants as Row
+use Rattle.dng.specs.List.{reasonNumber}
 use Rattle.dng.specs.Value.{nought}
 use Rattle.dng.specs.Run.{Room}
 use Rattle.dng.specs.Answer.{RowOut, Out, Ran, numbersOf}
@@ -22,19 +23,24 @@ use Rattle.rolbhunga.specs.declared.RowNumbers.{RowNumbers}
 
 -- the paper's number and values, with the names that the f32 run would write
 abbrev pub rowNumbersFor : RowAnswer → RowNumbers
-rowNumbersFor (Row.Done n) = record { number = 0; entry = 0; skipped = n }
-rowNumbersFor Row.Range = record { number = 1; entry = 0; skipped = 0 }
-rowNumbersFor (Row.Malformed k) = record { number = 2; entry = k; skipped = 0 }
-rowNumbersFor Row.NotTaken = record { number = 3; entry = 0; skipped = 0 }
+rowNumbersFor (Row.Done n) = record { number = 0; entry = 0; offset = 0; skipped = n }
+rowNumbersFor Row.Range = record { number = 1; entry = 0; offset = 0; skipped = 0 }
+rowNumbersFor (Row.Malformed k why) = record {
+  number = reasonNumber (why .reason);
+  entry = k;
+  offset = why .at;
+  skipped = 0;
+}
+rowNumbersFor Row.NotTaken = record { number = 3; entry = 0; offset = 0; skipped = 0 }
 
 -- too little work room: 100, which no other answer has
 abbrev pub rowShort : RowNumbers
-rowShort = record { number = 100; entry = 0; skipped = 0 }
+rowShort = record { number = 100; entry = 0; offset = 0; skipped = 0 }
 
 abbrev pub rowDone : RowAnswer → Bool
 rowDone (Row.Done n) = true
 rowDone Row.Range = false
-rowDone (Row.Malformed k) = false
+rowDone (Row.Malformed k why) = false
 rowDone Row.NotTaken = false
 
 -- a typed row
@@ -66,13 +72,13 @@ pub record RowBytes (o : RowOut) (old : List ℕ) (work : ℕ) (r : RowNumbers) 
 
 -- too little work room, of a run
 abbrev pub short : Numbers
-short = record { number = 100; entry = 0; opcode = 0; names = 0; repaired = 0; left = 0 }
+short = record { number = 100; entry = 0; offset = 0; opcode = 0; names = 0; repaired = 0; left = 0 }
 
 -- the answers after which the samples are a run's: 0 and 5
 abbrev pub reached : Answer → Bool
 reached (Ans.Done n r l) = true
 reached Ans.Range = false
-reached (Ans.Malformed k) = false
+reached (Ans.Malformed k why) = false
 reached Ans.NotTaken = false
 reached Ans.Names = false
 reached (Ans.Marks k) = true

@@ -1,13 +1,16 @@
-// The ranges of document 01, its number for each answer, and the verdict.
+// The ranges of document 01, the papers' number for each answer, and the verdict.
 use dng::Answer;
 use dng::Numbers;
 use dng::Reading;
+use dng::Reason;
+use dng::Refusal;
 use dng::RowAnswer;
 use dng::RowWindow;
 use dng::Settings;
 use dng::Window;
 ghost use mathlib.Core.Path.{_≡_};
-ghost use Rattle.dng.specs.Answer.{inRange, rowInRange, numbersOf, readingNumbersOf, rowNumbersOf, wholeFrame, wholeRow};
+ghost use Rattle.dng.specs.List.{reasonNumber};
+ghost use Rattle.dng.specs.Answer.{inRange, rowInRange, malformedNumbers, numbersOf, readingNumbersOf, rowNumbersOf, wholeFrame, wholeRow};
 
 // Whether every number of a window and a period is in its range: refusal 1 where not.
 pub fn in_range(w: Window, period: usize) -> bool
@@ -46,10 +49,41 @@ pub fn row_in_range(w: RowWindow, y: usize, n: usize) -> bool
                 & ((y <= RowWindow::MAX_ROW) & (n <= width * planes))))
 }
 
-fn refused(number: u32, entry: usize, opcode: usize) -> Numbers
+// The paper's number of a reason.
+pub fn reason_number(r: Reason) -> u32
+    ensures { λ n. ⌜ n ≡ reasonNumber r ⌝ }
+{
+    match r {
+        Reason::Ends => 20,
+        Reason::TooMany => 21,
+        Reason::TooLong => 22,
+        Reason::Inside => 23,
+        Reason::Count => 24,
+        Reason::Degree => 25,
+    }
+}
+
+// A malformed list, after so many entries.
+pub fn malformed_numbers(entry: usize, why: Refusal) -> Numbers
+    ensures { λ r. ⌜ r ≡ malformedNumbers entry why ⌝ }
+{
+    let reason = why.reason;
+    Numbers {
+        number: reason_number(reason),
+        entry: entry,
+        offset: why.at,
+        opcode: 0,
+        names: 0,
+        repaired: 0,
+        left: 0,
+    }
+}
+
+fn refused(number: u32, opcode: usize) -> Numbers
     ensures { λ r. ⌜ r ≡ record {
       number = number;
-      entry = entry;
+      entry = 0;
+      offset = 0;
       opcode = opcode;
       names = 0;
       repaired = 0;
@@ -58,7 +92,8 @@ fn refused(number: u32, entry: usize, opcode: usize) -> Numbers
 {
     Numbers {
         number: number,
-        entry: entry,
+        entry: 0,
+        offset: 0,
         opcode: opcode,
         names: 0,
         repaired: 0,
@@ -78,16 +113,17 @@ pub fn numbers(a: Answer) -> Numbers
         } => Numbers {
             number: 0,
             entry: 0,
+            offset: 0,
             opcode: 0,
             names: names,
             repaired: repaired,
             left: left,
         },
-        Answer::Range => refused(1, 0, 0),
-        Answer::Malformed { entry } => refused(2, entry, 0),
-        Answer::NotTaken => refused(3, 0, 0),
-        Answer::Names => refused(4, 0, 0),
-        Answer::Marks { opcode } => refused(5, 0, opcode),
+        Answer::Range => refused(1, 0),
+        Answer::Malformed { entry, why } => malformed_numbers(entry, why),
+        Answer::NotTaken => refused(3, 0),
+        Answer::Names => refused(4, 0),
+        Answer::Marks { opcode } => refused(5, opcode),
     }
 }
 
@@ -96,8 +132,8 @@ pub fn reading_numbers(a: Reading) -> Numbers
     ensures { λ r. ⌜ r ≡ readingNumbersOf a ⌝ }
 {
     match a {
-        Reading::Whole { opcodes: _ } => refused(0, 0, 0),
-        Reading::Malformed { after } => refused(2, after, 0),
+        Reading::Whole { opcodes: _ } => refused(0, 0),
+        Reading::Malformed { after, why } => malformed_numbers(after, why),
     }
 }
 
@@ -105,10 +141,10 @@ pub fn row_numbers(a: RowAnswer) -> Numbers
     ensures { λ r. ⌜ r ≡ rowNumbersOf a ⌝ }
 {
     match a {
-        RowAnswer::Done { skipped: _ } => refused(0, 0, 0),
-        RowAnswer::Range => refused(1, 0, 0),
-        RowAnswer::Malformed { entry } => refused(2, entry, 0),
-        RowAnswer::NotTaken => refused(3, 0, 0),
+        RowAnswer::Done { skipped: _ } => refused(0, 0),
+        RowAnswer::Range => refused(1, 0),
+        RowAnswer::Malformed { entry, why } => malformed_numbers(entry, why),
+        RowAnswer::NotTaken => refused(3, 0),
     }
 }
 
@@ -123,7 +159,7 @@ pub fn whole_frame(a: Answer) -> bool
             left: _,
         } => names == 0,
         Answer::Range => false,
-        Answer::Malformed { entry: _ } => false,
+        Answer::Malformed { entry: _, why: _ } => false,
         Answer::NotTaken => false,
         Answer::Names => false,
         Answer::Marks { opcode: _ } => false,
@@ -136,7 +172,7 @@ pub fn whole_row(a: RowAnswer) -> bool
     match a {
         RowAnswer::Done { skipped } => skipped == 0,
         RowAnswer::Range => false,
-        RowAnswer::Malformed { entry: _ } => false,
+        RowAnswer::Malformed { entry: _, why: _ } => false,
         RowAnswer::NotTaken => false,
     }
 }

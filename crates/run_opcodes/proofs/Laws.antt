@@ -8,6 +8,7 @@ use native.Mathlib.Numerals.{add-one}
 use native.Mathlib.Omega.{arith}
 use lib.ListN.{length}
 use Rattle.pointwise.specs.Points.{each}
+use Rattle.dng.specs.declared.Refusal.{Refusal}
 use Rattle.dng.specs.declared.Cursor.{Cursor}
 use Rattle.dng.specs.declared.Window.{Window}
 use Rattle.dng.specs.declared.Entry.{Entry}
@@ -168,7 +169,8 @@ module _ {A : Type 0} (kind : Kind A) (w : Window) (period : ℕ) (room : Room) 
     ends h = sym (none (end list n k c h) k (going s repaired left)) ∙ d .rest
 
     module _ {r : Step} (h : k < n) (p : r ≡ stepAt list c) where
-      pub stops : r ≡ S.Malformed → progressOf (P.All repaired left) s ≡ performAll kind w period room preview list 0 (itemsOf list) (going s₀ 0 0)
+      pub stops : {why : Refusal} → r ≡ S.Malformed why → progressOf (P.All repaired left) s
+          ≡ performAll kind w period room preview list 0 (itemsOf list) (going s₀ 0 0)
       stops q = sym (none (stop list n k c h p q) k (going s repaired left)) ∙ d .rest
 
       -- an opcode more

@@ -122,7 +122,7 @@ pub fn perform_f32(
                 }
             }
             // Not of a list that was read whole.
-            Step::Malformed => {
+            Step::Malformed { why: _ } => {
                 return Performed::All { repaired, left };
             }
         }
@@ -224,7 +224,7 @@ pub fn perform_u16(
                 }
             }
             // Not of a list that was read whole.
-            Step::Malformed => {
+            Step::Malformed { why: _ } => {
                 return Performed::All { repaired, left };
             }
         }

@@ -8,6 +8,7 @@ use Rattle.dng.specs.declared.Window.{Window}
 use Rattle.dng.specs.declared.RowWindow.{RowWindow}
 use Rattle.dng.specs.declared.Answer.the-variants as Ans
 use Rattle.dng.specs.declared.RowAnswer.the-variants as Row
+use Rattle.dng.specs.declared.Refusal.{Refusal}
 use Rattle.dng.specs.declared.Reading.{Reading}
 use Rattle.dng.specs.declared.Reading.the-variants as R
 use Rattle.dng.specs.List.{Item, readingOf, itemsOf}
@@ -78,7 +79,8 @@ module _ (takes : List Item → Bool) (skip : Class → Bool) (list : List ℕ) 
   out-of-range f = simp (sym h ∙ f)
 
   module _ (t : b ≡ true) {r : Reading} (e : r ≡ readingOf list) where
-    pub malformed : {k : ℕ} → r ≡ R.Malformed k → P.Refuse (Ans.Malformed k) ≡ planOf takes skip list w period preview room
+    pub malformed :
+        {k : ℕ} {why : Refusal} → r ≡ R.Malformed k why → P.Refuse (Ans.Malformed k why) ≡ planOf takes skip list w period preview room
     unfolding planOf
     malformed q = simp (sym h ∙ t, sym e ∙ q)
 
@@ -103,7 +105,8 @@ module _ (list : List ℕ) (w : RowWindow) (preview : Bool) (y n : ℕ) {b : Boo
   row-out-of-range f = simp (sym h ∙ f)
 
   module _ (t : b ≡ true) {r : Reading} (e : r ≡ readingOf list) where
-    pub row-malformed : {k : ℕ} → r ≡ R.Malformed k → RP.Refuse (Row.Malformed k) ≡ rowPlanOf list w preview y n
+    pub row-malformed :
+        {k : ℕ} {why : Refusal} → r ≡ R.Malformed k why → RP.Refuse (Row.Malformed k why) ≡ rowPlanOf list w preview y n
     unfolding rowPlanOf
     row-malformed q = simp (sym h ∙ t, sym e ∙ q)
 

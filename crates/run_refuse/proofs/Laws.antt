@@ -63,7 +63,7 @@ module _ {A : Type 0} (kind : Kind A) (takes : List Item → Bool) (skip : Class
           → cond a (readOut kind takes skip w period preview room list s names r) (unchanged Ans.Range s names)
           ≡ planned (cond a (planRead takes skip list preview (length names) r) (P.Refuse Ans.Range))
       go true (R.Whole n) = ran-planned
-      go true (R.Malformed k) = refl
+      go true (R.Malformed k why) = refl
       go false r = refl
 
   -- a refusal leaves everything
@@ -116,7 +116,7 @@ module _ (takes : List Item → Bool) (skip : Class → Bool) (list : List ℕ) 
           (a : Bool) (r : Reading) → inRange w period ≡ a → readingOf list ≡ r
           → cond a (planRead takes skip list preview room r) (P.Refuse Ans.Range) ≡ P.Go n → Settled takes skip list w period preview room n
       go true (R.Whole k) i r e = settled-on i (counted-whole list r) e
-      go true (R.Malformed k) i r e = absurd (refused e)
+      go true (R.Malformed k why) i r e = absurd (refused e)
       go false q i r e = absurd (refused e)
 
 -- ---- a row
@@ -148,7 +148,7 @@ module _ (w : RowWindow) (scale : Float) (preview : Bool) (y : ℕ) (list : List
           → cond a (rowRead w scale preview y list row r) (record { answer = Row.Range; row = row })
           ≡ rowPlanned (cond a (rowPlanRead list preview r) (RP.Refuse Row.Range))
       go true (R.Whole n) = taken (takesRows (keptIn preview list))
-      go true (R.Malformed k) = refl
+      go true (R.Malformed k why) = refl
       go false r = refl
 
   pub row-refuses :
@@ -191,5 +191,5 @@ module _ (list : List ℕ) (w : RowWindow) (preview : Bool) (y m : ℕ) {n : ℕ
           (a : Bool) (r : Reading) → rowInRange w y m ≡ a → readingOf list ≡ r
           → cond a (rowPlanRead list preview r) (RP.Refuse Row.Range) ≡ RP.Go n → RowSettled list w preview y m n
       go true (R.Whole k) i r e = row-settled-on i (counted-whole list r) e
-      go true (R.Malformed k) i r e = absurd (row-refused e)
+      go true (R.Malformed k why) i r e = absurd (row-refused e)
       go false q i r e = absurd (row-refused e)

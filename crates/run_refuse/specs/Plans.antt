@@ -1,5 +1,5 @@
--- The refusals 1 to 4 as one value: which of them a call is given, or how many names a run that goes on will write.
--- Document 01, 'What comes back'.
+-- The refusals 1, 20 to 25, 3 and 4 as one value: which of them a call is given, or how many names a run that goes on
+-- will write. Document 01, 'What comes back'.
 -- Over which lists a form takes and which opcodes it skips. proofs/Laws says that it is what the definitions of a run
 -- and of a row answer.
 use Prim.Native.Nat.{ℕ}
@@ -45,14 +45,14 @@ module _ (takes : List Item → Bool) (skip : Class → Bool) where
 
   abbrev pub planRead : List ℕ → (preview : Bool) → (room : ℕ) → Reading → Plan
   planRead list preview room (R.Whole n) = planOn list preview room
-  planRead list preview room (R.Malformed k) = P.Refuse (Ans.Malformed k)
+  planRead list preview room (R.Malformed k why) = P.Refuse (Ans.Malformed k why)
 
-  -- 1 before 2; room is the length of the skip buffer
+  -- 1 before 20 to 25; room is the length of the skip buffer
   unfoldable pub planOf : List ℕ → Window → (period : ℕ) → (preview : Bool) → (room : ℕ) → Plan
   planOf list w period preview room =
       cond (inRange w period) (planRead list preview room (readingOf list)) (P.Refuse Ans.Range)
 
--- a row: 1, 2, 3
+-- a row: 1, 20 to 25, 3
 unfoldable pub rowPlanFor : (taken : Bool) → (names : ℕ) → RowPlan
 rowPlanFor taken names = cond taken (RP.Go names) (RP.Refuse Row.NotTaken)
 
@@ -62,7 +62,7 @@ rowPlanOn list preview =
 
 abbrev pub rowPlanRead : List ℕ → (preview : Bool) → Reading → RowPlan
 rowPlanRead list preview (R.Whole n) = rowPlanOn list preview
-rowPlanRead list preview (R.Malformed k) = RP.Refuse (Row.Malformed k)
+rowPlanRead list preview (R.Malformed k why) = RP.Refuse (Row.Malformed k why)
 
 unfoldable pub rowPlanOf : List ℕ → RowWindow → (preview : Bool) → (y n : ℕ) → RowPlan
 rowPlanOf list w preview y n =

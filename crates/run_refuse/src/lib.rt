@@ -1,5 +1,5 @@
-// The refusals 1 to 4 of a run and 1 to 3 of a row, in order, before a sample is looked at: a run that may go on cannot
-// be refused by them any more.
+// The refusals 1, 20 to 25, 3 and 4 of a run, and 1, 20 to 25 and 3 of a row, in order, before a sample is looked at: a
+// run that may go on cannot be refused by them any more.
 use dng::Answer;
 use dng::Reading;
 use dng::RowAnswer;
@@ -66,8 +66,8 @@ fn settle(list: &[u8], w: Window, period: usize, preview: bool, room: usize, who
     let reading = found.reading;
     match reading {
         Reading::Whole { opcodes: _ } => settle_form(survey, room, whole),
-        Reading::Malformed { after } => Plan::Refuse {
-            answer: Answer::Malformed { entry: after },
+        Reading::Malformed { after, why } => Plan::Refuse {
+            answer: Answer::Malformed { entry: after, why },
         },
     }
 }
@@ -112,8 +112,8 @@ pub fn settle_row(list: &[u8], w: RowWindow, preview: bool, y: usize, n: usize) 
     let reading = found.reading;
     match reading {
         Reading::Whole { opcodes: _ } => settle_row_read(survey),
-        Reading::Malformed { after } => RowPlan::Refuse {
-            answer: RowAnswer::Malformed { entry: after },
+        Reading::Malformed { after, why } => RowPlan::Refuse {
+            answer: RowAnswer::Malformed { entry: after, why },
         },
     }
 }

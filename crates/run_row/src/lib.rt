@@ -211,7 +211,7 @@ fn perform(list: &[u8], row: &mut [f32], g: Place, width: usize, scale: f32, pre
                 c = next;
                 k += 1;
             }
-            Step::Malformed => {
+            Step::Malformed { why: _ } => {
                 return;
             }
         }

@@ -120,7 +120,7 @@ module _ (m wide above : ℕ) where
 not-taken-early : (a : Answer) → notTaken a ≡ true → early a ≡ true
 not-taken-early (Ans.Done n r l) h = h
 not-taken-early Ans.Range h = refl
-not-taken-early (Ans.Malformed k) h = refl
+not-taken-early (Ans.Malformed k why) h = refl
 not-taken-early Ans.NotTaken h = refl
 not-taken-early Ans.Names h = refl
 not-taken-early (Ans.Marks k) h = h
@@ -158,7 +158,7 @@ module _ {A : Type 0} (s : List A) (names : List ℕ) where
 
     read-keeps : (g : Reading) → Keeps (readOut kind takes skip w period preview room list s names g)
     read-keeps (R.Whole n) = ran-keeps
-    read-keeps (R.Malformed k) = as-it-was (Ans.Malformed k)
+    read-keeps (R.Malformed k why) = as-it-was (Ans.Malformed k why)
 
     pub run-keeps : Keeps (runOut kind takes skip w period preview room list s names)
     unfolding runOut

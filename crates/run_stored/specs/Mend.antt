@@ -25,7 +25,7 @@ use Rattle.run_stored.specs.declared.Mended.the-variants.{Whole, Widened
 abbrev pub notTaken : Answer → Bool
 notTaken (Ans.Done n r l) = false
 notTaken Ans.Range = false
-notTaken (Ans.Malformed k) = false
+notTaken (Ans.Malformed k why) = false
 notTaken Ans.NotTaken = true
 notTaken Ans.Names = false
 notTaken (Ans.Marks k) = false
@@ -34,7 +34,7 @@ notTaken (Ans.Marks k) = false
 abbrev pub early : Answer → Bool
 early (Ans.Done n r l) = false
 early Ans.Range = true
-early (Ans.Malformed k) = true
+early (Ans.Malformed k why) = true
 early Ans.NotTaken = true
 early Ans.Names = true
 early (Ans.Marks k) = false
@@ -48,7 +48,7 @@ earlyMended NoRoom = true
 abbrev pub numbersOf : Mended → Numbers
 numbersOf (Whole a) = paper a
 numbersOf (Widened a n) = paper a
-numbersOf NoRoom = record { number = 80; entry = 0; opcode = 0; names = 0; repaired = 0; left = 0 }
+numbersOf NoRoom = record { number = 80; entry = 0; offset = 0; opcode = 0; names = 0; repaired = 0; left = 0 }
 
 -- the verdict: a frame is whole when a run answers 0 and skips nothing
 abbrev pub wholeMended : Mended → Bool

@@ -11,7 +11,8 @@ use Rattle.pointwise.specs.Select.{selects, onColumns}
 use Rattle.num_round.specs.Whole.{roundHeld}
 use Rattle.dng.specs.declared.Window.{Window}
 use Rattle.dng.specs.declared.Answer.the-variants as Ans
-use Rattle.dng.specs.List.{readingOf, itemsOf, counted, readFrom, stepAt, nextAt, parsedAt, countedAt}
+use Rattle.dng.specs.declared.Reason.the-variants as Why
+use Rattle.dng.specs.List.{refusal, readingOf, itemsOf, whyOf, counted, readFrom, stepAt, nextAt, parsedAt, constantAt, countedAt}
 use Rattle.dng.specs.Select.{onRegion, onWindow, inWindow, active, wholePixel}
 use Rattle.dng.specs.Value.{nth, scaled}
 use Rattle.dng.specs.Repair.{anyBelow, countBelow, complete, badValue, marksOf, moved, sound, tallyOn, repairAt, soundOn, markedIn, repairedIn, leftIn}
@@ -66,7 +67,8 @@ pub record Worked : Type 0 where
   -- room for two samples as f32, and three are lent
   pub no-room : mendOut (frame 3) 1 false room 2 (one-of halved) (1 ∷ 2 ∷ 3 ∷ []) [] ≡ out NoRoom (1 ∷ 2 ∷ 3 ∷ [])
   -- a list that no run reads, and no room either
-  pub malformed : mendOut (frame 3) 1 false room 0 [] (1 ∷ 2 ∷ 3 ∷ []) [] ≡ out (Whole (Ans.Malformed 0)) (1 ∷ 2 ∷ 3 ∷ [])
+  pub malformed : mendOut (frame 3) 1 false room 0 [] (1 ∷ 2 ∷ 3 ∷ []) []
+      ≡ out (Whole (Ans.Malformed 0 (refusal Why.Ends 0))) (1 ∷ 2 ∷ 3 ∷ [])
   -- a preview: of two repairs the second is left out, so that the whole-number run takes the list
   pub preview : mendOut (frame 3) 1 true room 0 (words (2 ∷ []) ++ (constant 0 ++ flagged 99)) (10 ∷ 0 ∷ 19 ∷ []) []
       ≡ out (Whole (Ans.Done 0 1 0)) (10 ∷ 15 ∷ 19 ∷ [])
@@ -81,11 +83,11 @@ pub record Worked : Type 0 where
       []) ≡ 2
 
 pub worked : Worked
-unfolding mendOut heldIn heldAbove big each selects onColumns roundHeld readingOf itemsOf counted readFrom stepAt
-    nextAt parsedAt countedAt onRegion onWindow inWindow active wholePixel nth scaled anyBelow countBelow complete
-    badValue marksOf moved sound tallyOn repairAt soundOn markedIn repairedIn leftIn keptOf namesOf takes16On
-    takes16From repairOn performAll inRange ranOn runOut ofBits ofFields odd trailingZeros ofInt round units size span climb mul
-    div add eq
+unfolding mendOut heldIn heldAbove big each selects onColumns roundHeld readingOf itemsOf whyOf counted readFrom stepAt
+    nextAt parsedAt constantAt countedAt onRegion onWindow inWindow active wholePixel nth scaled anyBelow countBelow
+    complete badValue marksOf moved sound tallyOn repairAt soundOn markedIn repairedIn leftIn keptOf namesOf takes16On
+    takes16From repairOn performAll inRange ranOn runOut ofBits ofFields odd trailingZeros ofInt round units size span
+    climb mul div add eq
 worked = record {
   whole = refl;
   twice = refl;

@@ -115,7 +115,7 @@ fn is_not_taken(a: Answer) -> bool
             left: _,
         } => false,
         Answer::Range => false,
-        Answer::Malformed { entry: _ } => false,
+        Answer::Malformed { entry: _, why: _ } => false,
         Answer::NotTaken => true,
         Answer::Names => false,
         Answer::Marks { opcode: _ } => false,
@@ -188,6 +188,7 @@ pub fn numbers(m: Mended) -> Numbers
         Mended::NoRoom => Numbers {
             number: Mended::NO_ROOM,
             entry: 0,
+            offset: 0,
             opcode: 0,
             names: 0,
             repaired: 0,

@@ -58,7 +58,7 @@ fn name(list: &[u8], names: &mut [u8], done: bool, whole: bool, preview: bool)
 
 // ---- f32
 
-// 1 to 4, then opcode by opcode 5, then the names. The scratch is left as it is then.
+// 1, 20 to 25, 3 and 4, then opcode by opcode 5, then the names. The scratch is left as it is then.
 fn attempt_f32(
     list: &[u8],
     samples: &mut [f32],

@@ -10,6 +10,7 @@ use lib.ListN.{length, length-append, take, drop}
 use Rattle.num_text.specs.Text.{text}
 use Rattle.num_text.specs.Appended.{Appended}
 use Rattle.num_text.proofs.Laws.{appended-as, appended-then, appended-whole}
+use Rattle.dng.specs.declared.Refusal.{Refusal}
 use Rattle.dng.specs.declared.Reading.{Reading}
 use Rattle.dng.specs.declared.Reading.the-variants as R
 use Rattle.dng.specs.List.{readingOf, itemsOf}
@@ -95,7 +96,7 @@ module _ (s : List ℕ) where
   short h = le-ltb 65535 (length s) h
 
   module _ (h : length s ≤ 65535) {g : Reading} (e : g ≡ readingOf s) {b o : List ℕ} {r : ℕ} where
-    pub note-malformed : {k : ℕ} → g ≡ R.Malformed k → Appended b 0 (malformedAfter k) r o → Appended b 0 (noteOf s) r o
+    pub note-malformed : {k : ℕ} {why : Refusal} → g ≡ R.Malformed k why → Appended b 0 (malformedAfter k) r o → Appended b 0 (noteOf s) r o
     unfolding noteOf noteOn
     note-malformed {k} q a = appended-as (sym (simp (short h) (ap (λ (x : Reading). noteOn x (itemsOf s)) (sym e ∙ q)))) a
 

@@ -10,6 +10,7 @@ use lib.Dec.{eqb, leb, ltb}
 use lib.ListN.{length, length-append, getD}
 use Rattle.num_text.specs.Text.{text, decimal}
 use Rattle.num_text.proofs.Digits.{decimal-short}
+use Rattle.dng.specs.declared.Refusal.{Refusal}
 use Rattle.dng.specs.declared.Opcode.{Opcode}
 use Rattle.dng.specs.declared.Opcode.the-variants.{WarpRectilinear, WarpFisheye, FixVignetteRadial, FixBadPixelsConstant, FixBadPixelsList, TrimBounds, MapTable, MapPolynomial, GainMap, DeltaPerRow, DeltaPerColumn, ScalePerRow, ScalePerColumn, Other}
 use Rattle.dng.specs.declared.Reading.{Reading}
@@ -205,15 +206,15 @@ lines-bound s =
         → length (about head (namesOf p (itemsOf s)) end) ≤ length head + 392 + length end
     part p head end = about-short head (namesOf p (itemsOf s)) end (names-bound p s) (names-below p (itemsOf s))
 
-pub malformed-bound : (s : List ℕ) {k : ℕ} → readingOf s ≡ R.Malformed k → length (malformedAfter k) ≤ 1024
+pub malformed-bound : (s : List ℕ) {k : ℕ} {why : Refusal} → readingOf s ≡ R.Malformed k why → length (malformedAfter k) ≤ 1024
 malformed-bound s {k} e =
-    let h : k ≤ 4096 = omega (arith, refused s e, items-bound s) in
+    let h : k ≤ 4096 = omega (arith, refused s e .0, items-bound s) in
     omega (arith, malformed-length k, decimal-short 3 k (omega arith))
 
 note-on-bound : (s : List ℕ) (g : Reading) → readingOf s ≡ g → length (noteOn g (itemsOf s)) ≤ 1024
 unfolding noteOn
 note-on-bound s (R.Whole n) e = lines-bound s
-note-on-bound s (R.Malformed k) e = malformed-bound s e
+note-on-bound s (R.Malformed k why) e = malformed-bound s e
 
 pub note-bound : (s : List ℕ) → length (noteOf s) ≤ 1024
 unfolding noteOf

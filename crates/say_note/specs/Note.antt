@@ -80,7 +80,7 @@ unfoldable pub malformedAfter : ℕ → List ℕ
 malformedAfter k = text "malformed after " ++ decimal k ++ text "\n"
 
 unfoldable pub noteOn : Reading → List Item → List ℕ
-noteOn (R.Malformed k) is = malformedAfter k
+noteOn (R.Malformed k why) is = malformedAfter k
 noteOn (R.Whole n) is = linesOf is
 
 unfoldable pub noteOf : List ℕ → List ℕ

@@ -4,7 +4,7 @@ use mathlib.Core.Path.{_≡_, refl}
 use mathlib.Core.List.{List, [], _∷_, _++_}
 use Rattle.num_words.specs.Words.{big}
 use Rattle.num_text.specs.Text.{text, decimal, digitsIn}
-use Rattle.dng.specs.List.{readingOf, itemsOf, counted, readFrom, stepAt, nextAt, parsedAt, warpAt, polynomialAt, countedAt, gainAt, badListAt}
+use Rattle.dng.specs.List.{readingOf, itemsOf, counted, readFrom, stepAt, nextAt, parsedAt, constantAt, warpAt, polynomialAt, countedAt, gainAt, badListAt}
 use Rattle.dng.specs.Run.{namesOf}
 use Rattle.dng.specs.Frames.{word, words, entry}
 use Rattle.say_name.specs.Name.{nameText}
@@ -38,8 +38,9 @@ pub record Notes : Type 0 where
       ≡ text "OpcodeList1: applied FixBadPixelsConstant x2, MapTable\nOpcodeList1: not applied WarpFisheye, MapTable\n"
 
 pub worked : Notes
-unfolding big readingOf itemsOf counted readFrom stepAt nextAt parsedAt warpAt polynomialAt countedAt gainAt badListAt
-    namesOf digitsIn decimal nameText occurs item firsts behind joined names about lines malformedAfter noteOn noteOf
+unfolding big readingOf itemsOf counted readFrom stepAt nextAt parsedAt constantAt warpAt polynomialAt countedAt gainAt
+    badListAt namesOf digitsIn decimal nameText occurs item firsts behind joined names about lines malformedAfter noteOn
+    noteOf
 worked = record {
   all-names = refl;
   example = refl;

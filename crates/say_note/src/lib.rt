@@ -79,7 +79,7 @@ fn collect(list: &[u8], part: Part, codes: &mut [u8]) -> usize
                 c = next;
                 k += 1;
             }
-            Step::Malformed => {
+            Step::Malformed { why: _ } => {
                 return j;
             }
         }
@@ -232,7 +232,7 @@ fn put_note(list: &[u8], out: &mut [u8]) -> usize
         return num_text::put(&mut *out, 0, b"too long\n");
     }
     match list_read::read(list) {
-        Reading::Malformed { after } => put_malformed(&mut *out, after),
+        Reading::Malformed { after, why: _ } => put_malformed(&mut *out, after),
         Reading::Whole { opcodes: _ } => put_lines(list, &mut *out),
     }
 }

@@ -1,6 +1,6 @@
 -- Texts put one behind the other, each in few bytes; and counting. Assumes nothing.
 use Prim.Native.Nat.{ℕ, _+_, _≤_, _<_}
-use mathlib.Core.Path.{_≡_, ap}
+use mathlib.Core.Path.{_≡_, sym, ap}
 use mathlib.Core.Bool.{cond}
 use mathlib.Core.List.{List, [], _∷_, _++_}
 use native.Mathlib.Numerals.{add-one}
@@ -13,7 +13,8 @@ use Rattle.num_text.specs.Text.{decimal}
 use Rattle.num_text.specs.Appended.{Appended}
 use Rattle.num_text.proofs.Laws.{appended-none, appended-as, appended-then}
 use Rattle.num_text.proofs.Digits.{decimal-short}
-use Rattle.say_report.specs.Report.{occurs, line, lineIf, Within}
+use Rattle.dng.specs.declared.Reason.{Reason}
+use Rattle.say_report.specs.Report.{occurs, line, lineIf, Within, whyText}
 
 -- no 64-bit number has more than 20 digits
 pub few : (n : ℕ) → n < 18446744073709551616 → length (decimal n) ≤ 20
@@ -50,6 +51,12 @@ a-line k n l h x = record { appended = appended-as (simp (ne-eqb n 0 h)) (x .app
 
 pub counted : {b o : List ℕ} {at r n : ℕ} (k : ℕ) (l : List ℕ) (m : ℕ) → n ≡ m → Within k b at (lineIf l n) r o → Within k b at (lineIf l m) r o
 counted k l m e x = record { appended = appended-as (ap (lineIf l) e) (x .appended); short = x .short }
+
+-- what was wrong with a list, by its reason
+pub said :
+    {b o : List ℕ} {p q : Reason} {j at r : ℕ} (n : ℕ) → p ≡ q → j ≤ 200 → Within j b at (line (whyText q) n) r o
+    → Within 200 b at (line (whyText p) n) r o
+said {j = j} n e h x = within-as j 200 h (ap (λ (k : Reason). line (whyText k) n) (sym e)) x
 
 -- ---- counting
 

@@ -1,4 +1,5 @@
--- What a run answered, as text. The number in front is document 01's, 'What comes back'.
+-- What a run answered, as text. The number in front is document 01's, 'What comes back', and for a malformed list
+-- document 02's, M-100.
 use Prim.Native.Nat.{ℕ, _+_, _≤_, min}
 use mathlib.Core.Bool.{Bool, true, false, cond}
 use mathlib.Core.List.{List, [], _∷_, _++_}
@@ -6,6 +7,9 @@ use lib.Dec.{eqb}
 use lib.ListN.{length, take}
 use Rattle.num_text.specs.Text.{text, decimal}
 use Rattle.num_text.specs.Appended.{Appended}
+use Rattle.dng.specs.declared.Reason.{Reason}
+use Rattle.dng.specs.declared.Reason.the-variants as Why
+use Rattle.dng.specs.declared.Refusal.{Refusal}
 use Rattle.dng.specs.declared.Answer.{Answer}
 use Rattle.dng.specs.declared.Answer.the-variants as Ans
 use Rattle.say_report.specs.declared.Form.{Form}
@@ -58,10 +62,24 @@ doneText form b n repaired left held =
     ((((formText form ++ skippedText (first n b)) ++ line (text "repaired: ") repaired) ++ line (text "left: ") left)
     ++ lineIf (text "held to the largest value: ") held) ++ verdictText (eqb n 0)
 
+-- what was wrong with a list: cut short, or a number in it that cannot be right; the byte follows. Document 02, M-100
+abbrev pub whyText : Reason → List ℕ
+whyText Why.Ends = text "20: the list is cut short: it ends inside its count or an entry's header, at byte "
+whyText Why.TooMany = text "21: the number of entries cannot be right: it is above 4096, at byte "
+whyText Why.TooLong =
+    text "22: the list is cut short, or a length cannot be right: a body is longer than the rest, at byte "
+whyText Why.Inside = text "23: an entry is cut short: its body ends inside a field, at byte "
+whyText Why.Count =
+    text "24: a count cannot be right: it breaks its limit, or the body is shorter than it says, at byte "
+whyText Why.Degree = text "25: a degree cannot be right: it is above 8, at byte "
+
+unfoldable pub malformedText : ℕ → Refusal → List ℕ
+malformedText k why = line (whyText (why .reason)) (why .at) ++ line (text "whole entries before: ") k
+
 abbrev pub textOf : Answer → Form → List ℕ → (held : ℕ) → List ℕ
 textOf (Ans.Done n r l) form b held = doneText form b n r l held
 textOf Ans.Range form b held = ended (text "1: a number is outside its range")
-textOf (Ans.Malformed k) form b held = line (text "2: the list is malformed; whole entries before: ") k
+textOf (Ans.Malformed k why) form b held = malformedText k why
 textOf Ans.NotTaken form b held = ended (text "3: the form does not take the list")
 textOf Ans.Names form b held = ended (text "4: more skipped opcodes than names fit")
 textOf (Ans.Marks k) form b held = line (text "5: more bad pixels than the scratch holds, at opcode ") k

@@ -3,8 +3,10 @@ use mathlib.Core.Path.{_≡_, refl}
 use mathlib.Core.List.{[], _∷_, _++_}
 use Rattle.num_text.specs.Text.{text, decimal, digitsIn}
 use Rattle.dng.specs.declared.Answer.the-variants as Ans
+use Rattle.dng.specs.declared.Reason.the-variants as Why
+use Rattle.dng.specs.List.{refusal}
 use Rattle.say_report.specs.declared.Form.the-variants.{Whole, Rounded, Float}
-use Rattle.say_report.specs.Report.{occurs, line, lineIf, skippedText, doneText, textOf}
+use Rattle.say_report.specs.Report.{occurs, line, lineIf, skippedText, doneText, malformedText, textOf}
 
 pub record Worked : Type 0 where
   pub whole :
@@ -19,11 +21,18 @@ pub record Worked : Type 0 where
       ++ (10 ∷ text "skipped unknown opcode: 1"
       ++ (10 ∷ text "repaired: 0" ++ (10 ∷ text "left: 0" ++
       (10 ∷ text "held to the largest value: 2" ++ (10 ∷ text "the frame is not whole" ++ (10 ∷ [])))))))
-  pub malformed : textOf (Ans.Malformed 7) Float [] 0 ≡ text "2: the list is malformed; whole entries before: 7" ++
-      (10 ∷ [])
-  pub full : textOf (Ans.Marks 4095) Float [] 0 ≡ text "5: more bad pixels than the scratch holds, at opcode 4095" ++
-      (10 ∷ [])
+  -- a transfer that was cut, and a count that was damaged
+  pub cut :
+      textOf (Ans.Malformed 7 (refusal Why.Ends 132)) Float [] 0
+      ≡ text "20: the list is cut short: it ends inside its count or an entry's header, at byte 132"
+      ++ (10 ∷ text "whole entries before: 7" ++ (10 ∷ []))
+  pub damaged :
+      textOf (Ans.Malformed 0 (refusal Why.Count 52)) Float [] 0
+      ≡ text "24: a count cannot be right: it breaks its limit, or the body is shorter than it says, at byte 52"
+      ++ (10 ∷ text "whole entries before: 0" ++ (10 ∷ []))
+  pub full : textOf (Ans.Marks 4095) Float [] 0
+      ≡ text "5: more bad pixels than the scratch holds, at opcode 4095" ++ (10 ∷ [])
 
 pub worked : Worked
-unfolding occurs line lineIf skippedText doneText decimal digitsIn
-worked = record { whole = refl; skipped = refl; malformed = refl; full = refl }
+unfolding occurs line lineIf skippedText doneText malformedText decimal digitsIn
+worked = record { whole = refl; skipped = refl; cut = refl; damaged = refl; full = refl }

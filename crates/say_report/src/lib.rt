@@ -1,12 +1,15 @@
-// What a run answered, as text: a refusal is one line, a result has a line each for the form, what was skipped, the
-// totals and the verdict.
+// What a run answered, as text: a refusal is one line, of a malformed list two; a result has a line each for the form,
+// what was skipped, the totals and the verdict.
 use dng::Answer;
+use dng::Reason;
+use dng::Refusal;
 ghost use mathlib.Core.Path.{_≡_};
 ghost use mathlib.Core.Bool.{cond};
 ghost use Prim.Native.Nat.{_+_, _≤_, min};
 ghost use lib.ListN.{length};
 ghost use Rattle.num_text.specs.Appended.{Appended};
-ghost use Rattle.say_report.specs.Report.{occurs, line, lineIf, Within, skippedText, formText, verdictText, doneText, textOf};
+ghost use Rattle.say_report.specs.Report.{occurs, line, lineIf, Within, skippedText, formText, verdictText};
+ghost use Rattle.say_report.specs.Report.{doneText, whyText, malformedText, textOf};
 
 // By which rules the samples were run.
 pub enum Form {
@@ -149,6 +152,61 @@ fn smaller(a: usize, b: usize) -> usize
     if a < b { a } else { b }
 }
 
+// The number, what a technician can make of it, and the byte.
+fn put_why(out: &mut [u8], reason: Reason, at: u64) -> usize
+    requires { ⌜ 200 ≤ length (now out) ⌝ }
+    ensures { λ r. ⌜ Within 200 (now (out .entry)) 0 (line (whyText reason) at) r (now (out .exit)) ⌝ }
+{
+    match reason {
+        Reason::Ends => put_line(
+            out,
+            0,
+            b"20: the list is cut short: it ends inside its count or an entry's header, at byte ",
+            at,
+        ),
+        Reason::TooMany => put_line(
+            out,
+            0,
+            b"21: the number of entries cannot be right: it is above 4096, at byte ",
+            at,
+        ),
+        Reason::TooLong => put_line(
+            out,
+            0,
+            b"22: the list is cut short, or a length cannot be right: a body is longer than the rest, at byte ",
+            at,
+        ),
+        Reason::Inside => put_line(
+            out,
+            0,
+            b"23: an entry is cut short: its body ends inside a field, at byte ",
+            at,
+        ),
+        Reason::Count => put_line(
+            out,
+            0,
+            b"24: a count cannot be right: it breaks its limit, or the body is shorter than it says, at byte ",
+            at,
+        ),
+        Reason::Degree => put_line(
+            out,
+            0,
+            b"25: a degree cannot be right: it is above 8, at byte ",
+            at,
+        ),
+    }
+}
+
+// A malformed list, after so many whole entries.
+fn put_malformed(out: &mut [u8], entry: u64, why: Refusal) -> usize
+    requires { ⌜ 512 ≤ length (now out) ⌝ }
+    ensures { λ r. ⌜ Within 512 (now (out .entry)) 0 (malformedText entry why) r (now (out .exit)) ⌝ }
+{
+    let reason = why.reason;
+    let a = put_why(&mut *out, reason, why.at as u64);
+    put_line(&mut *out, a, b"whole entries before: ", entry)
+}
+
 fn put_answer(out: &mut [u8], a: Answer, form: Form, names: &[u8], held: u64) -> usize
     requires { ⌜ 512 ≤ length (now out) ⌝ }
     ensures { λ r. ⌜ Within 512 (now (out .entry)) 0 (textOf a form (now (names .entry)) held) r (now (out .exit)) ⌝ }
@@ -160,14 +218,7 @@ fn put_answer(out: &mut [u8], a: Answer, form: Form, names: &[u8], held: u64) ->
             left,
         } => put_done(out, form, names, n, repaired, left, held),
         Answer::Range => put_text(out, b"1: a number is outside its range\n"),
-        Answer::Malformed { entry } => {
-            put_line(
-                out,
-                0,
-                b"2: the list is malformed; whole entries before: ",
-                entry as u64,
-            )
-        }
+        Answer::Malformed { entry, why } => put_malformed(out, entry as u64, why),
         Answer::NotTaken => put_text(out, b"3: the form does not take the list\n"),
         Answer::Names => put_text(out, b"4: more skipped opcodes than names fit\n"),
         Answer::Marks { opcode } => {

@@ -27,7 +27,7 @@ fn print_bytes(bytes: &[u8])
     io::write_all(STDOUT_FILENO, &text[0..n]);
 }
 
-// Nothing is a `-`, so that every line has its nine words.
+// Nothing is a `-`, so that every line has its ten words.
 fn print_field(bytes: &[u8])
     requires { ⌜ length (now bytes) ≤ 256 ⌝ }
 {
@@ -43,6 +43,7 @@ fn print_numbers(form: u32, n: Numbers) {
     io::print_decimal(STDOUT_FILENO, form as u64);
     print_number(n.number as u64);
     print_number(n.entry as u64);
+    print_number(n.offset as u64);
     print_number(n.opcode as u64);
     print_number(n.names as u64);
     print_number(n.repaired);
@@ -94,6 +95,7 @@ fn run_row(list: &[u8], bytes: &mut [u8], c: Call) -> Numbers {
     Numbers {
         number: r.number,
         entry: r.entry,
+        offset: r.offset,
         opcode: 0,
         names: r.skipped,
         repaired: 0,

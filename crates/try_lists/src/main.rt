@@ -16,8 +16,11 @@ fn print_reading(r: Reading) {
         Reading::Whole { opcodes } => {
             number(b"0, opcodes ", opcodes);
         }
-        Reading::Malformed { after } => {
-            number(b"2, after ", after);
+        Reading::Malformed { after, why } => {
+            let reason = why.reason;
+            number(b"", run_answers::reason_number(reason) as usize);
+            number(b" at byte ", why.at);
+            number(b", after ", after);
         }
     }
 }

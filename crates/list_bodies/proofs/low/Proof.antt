@@ -1,7 +1,6 @@
 -- `list_bodies::low` meets its contract, by the id. Assumes nothing.
 use Rattle.list_bodies.proofs.Ids.{nought, none-0}
-use Rattle.list_bodies.specs.Bodies.{vignetteAt, constantAt, trimAt}
-use Rattle.dng.specs.List.{parsedAt}
+use Rattle.dng.specs.List.{vignetteAt, constantAt, trimAt, parsedAt}
 use borrow.Author.Needs.{needs}
 use Rattle.list_bodies.proofs.low.Statement.{statement}
 use Rattle.list_bodies.proofs.low.Tie as tie

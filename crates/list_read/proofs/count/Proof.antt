@@ -5,11 +5,13 @@ use Rattle.list_read.proofs.count.Statement.{statement}
 use Rattle.list_read.proofs.count.Tie as tie
 
 returns : tie.Need-returns
-returns c = count-is _ (c .before .before .is-counted .ensures) (c .before .if1 .taken) (c .u32-at .ensures)
+returns c = count-is _ (c .before .before .before .entries-in .ensures) (c .before .n .given .1)
 
 returns-2 : tie.Need-returns-2
-returns-2 c = count-none _ (c .before .is-counted .ensures) (c .if1 .left)
+returns-2 c = count-none _ (c .before .before .entries-in .ensures) (c .enum-told .given .1)
 
 pub count-spec : {M : Type 1} → statement M
-count-spec = tie.close (tie.spec
-    (λ c κs. search needs) (λ c κs. search needs) (λ c. search needs) returns returns-2)
+count-spec =
+    tie.close
+    (tie.spec
+    (λ c κs. search needs) (λ c. search needs) (λ c. search needs) returns returns-2)

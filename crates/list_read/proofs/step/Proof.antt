@@ -6,17 +6,18 @@ use Rattle.list_read.proofs.step.Tie as tie
 
 returns : tie.Need-returns
 returns c =
-    let b4 = c .before .before .before .before in
-    step-item _ _ (b4 .before .before .before .next .ensures) (b4 .before .e .given .1) (c .before .before .before .parse .ensures)
-    (c .before .op .given .1)
+    let read = c .before in
+    let entry = read .before .before .before .before in
+    step-item _ _ (entry .before .before .next .ensures) (entry .e .given .1) (read .before .before .parse .ensures) (read .op .given .1)
 
 returns-2 : tie.Need-returns-2
 returns-2 c =
-    let b4 = c .before .before .before .before in
-    step-body _ _ (b4 .before .before .next .ensures) (b4 .e .given .1) (c .before .before .parse .ensures) (c .enum-told .given .1)
+    let not = c .before in
+    let entry = not .before .before .before .before in
+    step-body _ _ (entry .before .before .next .ensures) (entry .e .given .1) (not .before .before .parse .ensures) (not .why .given .1)
 
 returns-3 : tie.Need-returns-3
-returns-3 c = step-cut _ _ (c .before .before .next .ensures) (c .enum-told2 .given .1)
+returns-3 c = step-cut _ _ (c .before .before .before .next .ensures) (c .before .why2 .given .1)
 
 pub step-spec : {M : Type 1} → statement M
 step-spec =

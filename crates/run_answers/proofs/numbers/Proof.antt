@@ -1,7 +1,12 @@
 -- `run_answers::numbers` meets its contract: the definition's case, by computing.
+use mathlib.Core.Path.{sym, ap, _∙_}
+use Rattle.dng.specs.Answer.{numbersOf}
 use borrow.Author.Needs.{needs}
 use Rattle.run_answers.proofs.numbers.Statement.{statement}
 use Rattle.run_answers.proofs.numbers.Tie as tie
+
+returns-3 : tie.Need-returns-3
+returns-3 c = c .malformed-numbers .ensures ∙ sym (ap numbersOf (c .before .before .a2 .given .1))
 
 pub numbers-spec : {M : Type 1} → statement M
 numbers-spec =
@@ -9,4 +14,4 @@ numbers-spec =
     (tie.spec
     (λ c. search needs) (λ c. search needs) (λ c κs. search needs) (λ c. search needs) (λ c κs. search needs)
     (λ c. search needs) (λ c κs. search needs) (λ c. search needs) (λ c κs. search needs) (λ c. search needs)
-    (λ c κs. search needs) (λ c. cc) (λ c. cc) (λ c. cc) (λ c. cc) (λ c. cc) (λ c. cc))
+    (λ c κs. search needs) (λ c. cc) (λ c. cc) returns-3 (λ c. cc) (λ c. cc) (λ c. cc))

@@ -23,9 +23,10 @@ returns-2 c =
 
 returns-3 : tie.Need-returns-3
 returns-3 c =
-    let g = c .before .before .before .before .before .before in
+    let g = c .before .before .before .before .before in
     let a = g .before .before .before .before .args in
-    within-as _ 512 (lit≤ tt) (ap (λ (x : Answer). textOf x (a .form) (a .names .now) (a .held)) (sym (g .a2 .given .1))) (c .before .before .put-line .ensures)
+    within-as _ 512 (lit≤ tt) (ap (λ (x : Answer). textOf x (a .form) (a .names .now) (a .held)) (sym (g .a2 .given .1)))
+    (c .before .before .put-malformed .ensures)
 
 returns-4 : tie.Need-returns-4
 returns-4 c =
@@ -45,16 +46,14 @@ returns-6 : tie.Need-returns-6
 returns-6 c =
     let g = c .before .before .before .before .before .before in
     let a = g .before .before .before .before .args in
-    within-as _ 512 (lit≤ tt) (ap (λ (x : Answer). textOf x (a .form) (a .names .now) (a .held)) (sym (g .a3 .given .1)))
-    (c .before .before .put-line2 .ensures)
+    within-as _ 512 (lit≤ tt) (ap (λ (x : Answer). textOf x (a .form) (a .names .now) (a .held)) (sym (g .a3 .given .1))) (c .before .before .put-line .ensures)
 
 pub put-answer-spec : {M : Type 1} → statement M
 put-answer-spec =
     tie.close
     (tie.spec
     (λ c. search needs) (λ c κs. search needs) (λ c. search needs) (λ c. search needs) (λ c κs. search needs)
+    (λ c. search needs) (λ c κs. search needs) (λ c. search needs) (λ c. search needs) (λ c κs. search needs)
     (λ c. search needs) (λ c. search needs) (λ c κs. search needs) (λ c. search needs) (λ c. search needs)
-    (λ c κs. search needs) (λ c. search needs) (λ c. search needs) (λ c κs. search needs) (λ c. search needs)
-    (λ c. search needs) (λ c κs. search needs) (λ c. search needs) returns (λ c. search needs) returns-2
-    (λ c. search needs) returns-3 (λ c. search needs) returns-4 (λ c. search needs) returns-5 (λ c. search needs)
-    returns-6)
+    (λ c κs. search needs) (λ c. search needs) returns (λ c. search needs) returns-2 (λ c. search needs) returns-3
+    (λ c. search needs) returns-4 (λ c. search needs) returns-5 (λ c. search needs) returns-6)
