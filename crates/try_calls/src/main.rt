@@ -181,7 +181,7 @@ fn show_all(s: &[u8]) -> bool {
 }
 
 fn main() {
-    let mut input = [0u8; 131072];
+    let mut input = [0u8; 262144];
     let n = io::read_full(STDIN_FILENO, &mut input);
     if !show_all(&input[..n]) {
         io::write_all(STDOUT_FILENO, b"broken input\n");
