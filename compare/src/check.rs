@@ -368,14 +368,17 @@ pub fn count(c: &Case, o: &Oracle, n: &mut Counts) {
     if let Read::Whole(ops) = &o.read {
         if c.frame.preview {
             let (_, numbers) = previews::left(&c.list);
-            let all = u32::from_be_bytes([c.list[0], c.list[1], c.list[2], c.list[3]]) as usize;
+            let all = previews::count(&c.list);
             add(n, "previews of lists with opcodes".into(), (all > 0) as u64);
             add(n, "previews that drop an opcode".into(), (numbers.len() < all) as u64);
             add(n, "previews that drop all".into(), (numbers.is_empty() && all > 0) as u64);
-            add(n, "previews that drop opcodes, the u16 run done".into(), (u.numbers.number == 0 && numbers.len() < all) as u64);
-            add(n, "previews that drop opcodes, the row done".into(), (row.number == 0 && numbers.len() < all) as u64);
-            let behind = |w: &ffi::Numbers| w.number == 5 && numbers.iter().position(|&k| k == w.opcode) != Some(w.opcode);
-            add(n, "previews stopped by 5 behind a dropped opcode".into(), behind(&f.numbers) as u64 + behind(&u.numbers) as u64);
+            let drops = numbers.len() < all;
+            add(n, "previews that drop opcodes, the u16 run done".into(), (drops && u.numbers.number == 0) as u64);
+            add(n, "previews that drop opcodes, the row done".into(), (drops && row.number == 0) as u64);
+            // the number in the whole list is not the number among what is left
+            let behind = |w: &Numbers| (w.number == 5 && numbers.get(w.opcode) != Some(&w.opcode)) as u64;
+            let stopped = behind(&f.numbers) + behind(&u.numbers);
+            add(n, "previews stopped by 5 behind a dropped opcode".into(), stopped);
         }
         if ops.iter().any(oracle::is_empty_table) {
             add(n, "allowed: an empty table named by f32".into(), (f.numbers.number == 0) as u64);

@@ -2,7 +2,7 @@
 // the Rust makes of them. compare/README.md has the format.
 use crate::cases::{Case, Lengths};
 use crate::check::{float_bytes, float_result, whole_bytes};
-use crate::oracle::{self, Oracle};
+use crate::oracle::{self, Oracle, Read};
 use crate::rng::Rng;
 use crate::{made, preview, previews};
 use rolbhunga::ffi::Numbers;
@@ -99,14 +99,14 @@ fn shows(c: &Case, r: &Replay) -> Vec<(String, usize)> {
     v
 }
 
-// Previews that drop something: what they answer, and which of them the whole list would answer otherwise.
-fn shows_left(c: &Case, r: &Replay) -> Vec<(String, usize)> {
+// Previews that drop something, or would if the list could be read.
+fn shows_left(c: &Case, o: &Oracle, r: &Replay) -> Vec<(String, usize)> {
     let (form, number) = (r.form, r.numbers.number);
-    if number >= 20 {
+    if matches!(o.read, Read::Malformed(_)) {
         return vec![(format!("{form} {number}"), 2)];
     }
     let (_, numbers) = previews::left(&c.list);
-    if crate::lists::starts(&c.list).len() == numbers.len() {
+    if previews::count(&c.list) == numbers.len() {
         return vec![];
     }
     let changed = if r.before == r.after { "" } else { " with a change" };
@@ -187,7 +187,7 @@ pub fn write(folder: &str, seed: u64) {
         let (c, o) = preview(&made(seed, number, true).0, &mut Rng::new(!seed, number));
         if fits(&c) {
             for r in replays(&c, &o) {
-                stored.offer(&c, &r, shows_left(&c, &r));
+                stored.offer(&c, &r, shows_left(&c, &o, &r));
             }
         }
     }

@@ -9,11 +9,16 @@ fn word_at(l: &[u8], at: usize) -> u32 {
     u32::from_be_bytes([l[at], l[at + 1], l[at + 2], l[at + 3]])
 }
 
+// How many entries a list that can be read has.
+pub fn count(list: &[u8]) -> usize {
+    word_at(list, 0) as usize
+}
+
 // The list without the entries whose flag bit 1 is set, and of each that is left its number in the whole list. Only of
 // a list that can be read.
 pub fn left(list: &[u8]) -> (Vec<u8>, Vec<usize>) {
     let (mut kept, mut numbers, mut at) = (vec![0; 4], Vec::new(), 4);
-    for k in 0..word_at(list, 0) as usize {
+    for k in 0..count(list) {
         let end = at + 16 + word_at(list, at + 12) as usize;
         if list[at + 11] & 2 == 0 {
             kept.extend_from_slice(&list[at..end]);
