@@ -180,7 +180,8 @@ macro_rules! tiled {
             if c.frame.preview {
                 let mut without = before.to_vec();
                 let a = c.frame.preview(false).$run(&previews::left(list).0, &mut without, &mut room.room());
-                if a != (Answer::Done { names, repaired: 0, left: 0 }) || !one.iter().zip(&without).all(|(a, b)| equal(a, b)) {
+                let alike = one.iter().zip(&without).all(|(a, b)| equal(a, b));
+                if a != (Answer::Done { names, repaired: 0, left: 0 }) || !alike {
                     return Some(Err(format!("a preview is not the run over what is left, which answers {a:?}")));
                 }
             }
