@@ -518,9 +518,10 @@ pub record Runs : Type 0 where
   pub side-by-side : u16Out (frame 4 1) 1 false room (listOf (constant 0 ∷ [])) pair []
       ≡ out (Ans.Done 0 2 0) (10 ∷ 10 ∷ 19 ∷ 19 ∷ []) []
   -- a malformed list after the ranges: nothing changes
-  pub malformed : u16Out (frame 2 1) 1 room (listOf (entry 4 [] ∷ [])) (1 ∷ 2 ∷ []) (9 ∷ [])
+  pub malformed : u16Out (frame 2 1) 1 false room (listOf (entry 4 [] ∷ [])) (1 ∷ 2 ∷ []) (9 ∷ [])
       ≡ out (Ans.Malformed 0 (refusal Why.Inside 20)) (1 ∷ 2 ∷ []) (9 ∷ [])
-  pub range-first : u16Out (frame 65537 1) 1 room [] (1 ∷ 2 ∷ []) (9 ∷ []) ≡ out Ans.Range (1 ∷ 2 ∷ []) (9 ∷ [])
+  pub range-first : u16Out (frame 65537 1) 1 false room [] (1 ∷ 2 ∷ []) (9 ∷ [])
+      ≡ out Ans.Range (1 ∷ 2 ∷ []) (9 ∷ [])
   -- a period of 0 counts as 1
   pub period-none : u16Out (frame 3 1) 0 false room (listOf (constant 0 ∷ [])) (10 ∷ 0 ∷ 19 ∷ []) []
       ≡ out (Ans.Done 0 1 0) (10 ∷ 15 ∷ 19 ∷ []) []

@@ -115,10 +115,15 @@ module _ {A : Type 0} (kind : Kind A) where
     perform-all [] k s r t h =
         ap (λ (u : List A). going u r t)
         (sym (each-none _ s (λ j v q. on-window-none w (length s) (appliedOf list []) j v (λ whole y x p u. refl))))
-    perform-all (i ∷ is) k s r t = one (drops preview i)
+    perform-all (i ∷ is) k s r t h = one (λ u q. perform-all is (suc k) u r t q) (drops preview i) h
       where
         kept : List Item
         kept = keptOf preview is
+
+        Rest : Type 0
+        Rest = (u : List A) → noRepair kept ≡ true
+            → performAll kind w period room preview list (suc k) is (going u r t) ≡ going (each (onWindow w (length u) (appliedOf list kept)) u) r t
+
         f : Rule A
         f = appliedOn (classOf (i .op)) (i .op) (bodyOf list (i .entry))
 
@@ -128,14 +133,14 @@ module _ {A : Type 0} (kind : Kind A) where
         G : Rule A
         G = appliedOf list kept
 
-        one : (d : Bool) → noRepair (cond d kept (i ∷ kept)) ≡ true
+        one : Rest → (d : Bool) → noRepair (cond d kept (i ∷ kept)) ≡ true
             → performAll kind w period room preview list (suc k) is (cond d (going s r t) (perform kind w period room list i k (going s r t)))
             ≡ going (each (onWindow w (length s) (appliedOf list (cond d kept (i ∷ kept)))) s) r t
-        one true h = perform-all is (suc k) s r t h
-        one false h =
+        one rest true h = rest s h
+        one rest false h =
             let taken = both-true (noRepairIn (classOf (i .op))) (noRepair kept) h in
             ap (performAll kind w period room preview list (suc k) is) (perform-one i k s r t (taken .0))
-            ∙ perform-all is (suc k) (each F s) r t (taken .1)
+            ∙ rest (each F s) (taken .1)
             ∙ ap (λ (n : ℕ). going (each (onWindow w n G) (each F s)) r t) (length-each F s)
             ∙ ap (λ (u : List A). going u r t)
             (each-each F (onWindow w (length s) G) s ∙ each-agree _ _ s (λ j v q. on-window-both w (length s) f G j v))

@@ -183,29 +183,31 @@ module _ (w : Window) (period : ℕ) (room room′ : Room) (planes : 0 < w .plan
       (performAll (kind32 w) w period room′ preview list k is (going t r l))
   unfolding performAll keptOf takes16From
   runs preview list bytes free [] k s t r l e p = ended (pairs-weaken (rel-kept free .to) p)
-  runs preview list bytes free (i ∷ is) k s t r l e p = one (drops preview i) e
+  runs preview list bytes free (i ∷ is) k s t r l e p = one (λ f s′ t′ r′ l′ h q. runs preview list bytes f is (suc k) s′ t′ r′ l′ h q) (drops preview i) e
     where
       kept : List Item
       kept = keptOf preview is
 
-      on : (g : Progress ℕ) (h : Progress Float) → Step w room (λ (f : Bool). takes16From f kept) g h
-          → ((f : Bool) (s′ : List ℕ) (t′ : List Float) (r′ l′ : ℕ) → takes16From f kept ≡ true → Pairs (Rel f) s′ t′
+      Rest : Type 0
+      Rest = (f : Bool) (s′ : List ℕ) (t′ : List Float) (r′ l′ : ℕ) → takes16From f kept ≡ true → Pairs (Rel f) s′ t′
           → Ends w room (performAll u16Kind w period room preview list (suc k) is (going s′ r′ l′))
-          (performAll (kind32 w) w period room′ preview list (suc k) is (going t′ r′ l′)))
-          → Ends w room (performAll u16Kind w period room preview list (suc k) is g)
+          (performAll (kind32 w) w period room′ preview list (suc k) is (going t′ r′ l′))
+
+      on : (g : Progress ℕ) (h : Progress Float) → Step w room (λ (f : Bool). takes16From f kept) g h
+          → Rest → Ends w room (performAll u16Kind w period room preview list (suc k) is g)
           (performAll (kind32 w) w period room′ preview list (suc k) is h)
       on g h (goes {s = s′} {t = t′} {r = r′} {l = l′} f q ps) more = more f s′ t′ r′ l′ q ps
       on g h (noMarks {s = s′} {t = t′} {k = o} short ps) more =
           rw (still-marks u16Kind w period room preview list (suc k) is s′ o, still-marks (kind32 w) w period room′ preview list (suc k) is t′ o)
           (endedMarks short (pairs-weaken (λ a v x. exact-near x) ps))
 
-      one : (d : Bool) → takes16From free (cond d kept (i ∷ kept)) ≡ true
+      one : Rest → (d : Bool) → takes16From free (cond d kept (i ∷ kept)) ≡ true
           → Ends w room
           (performAll u16Kind w period room preview list (suc k) is (cond d (going s r l) (perform u16Kind w period room list i k (going s r l))))
           (performAll (kind32 w) w period room′ preview list (suc k) is
           (cond d (going t r l) (perform (kind32 w) w period room′ list i k (going t r l))))
-      one true h = runs preview list bytes free is (suc k) s t r l h p
-      one false h =
+      one rest true h = rest free s t r l h p
+      one rest false h =
           on (perform u16Kind w period room list i k (going s r l)) (perform (kind32 w) w period room′ list i k (going t r l))
           (step free (λ (f : Bool). takes16From f kept) (i .op) (bodyOf list (i .entry)) (body-entry list bytes (i .entry .len) (i .entry .at)) k s t r l h p)
-          (λ f s′ t′ r′ l′ h q. runs preview list bytes f is (suc k) s′ t′ r′ l′ h q)
+          rest

@@ -1,6 +1,6 @@
 -- `run_opcodes::one_f32` meets its contract, by the class that was told. Assumes nothing.
-use mathlib.Core.Path.{refl}
-use mathlib.Core.Bool.{Bool, _&&_}
+use mathlib.Core.Path.{_≡_, refl, ap, _∙_}
+use mathlib.Core.Bool.{Bool, _&&_, cond}
 use mathlib.Core.List.{List}
 use Prim.Native.Nat.{ℕ}
 use borrow.Author.Needs.{needs}
@@ -10,6 +10,7 @@ use lib.ListN.{length}
 use Rattle.dng.specs.List.{previewOf, bodyOf}
 use Rattle.dng.specs.Run as Run
 use Rattle.dng.specs.Answer.{frameOf}
+use Rattle.list_classes.specs.Classes.{classIs}
 use Rattle.list_classes.proofs.Laws.{told}
 use Rattle.win_rows.proofs.Turns.{window-fits}
 use Rattle.run_opcodes.proofs.Laws.{passed, stepped, repaired}
@@ -32,6 +33,11 @@ dropped s = s .args .set .preview && previewOf (s .args .e)
 abbrev body : tie.Start → List ℕ
 body s = bodyOf (now (s .args .list)) (s .args .e)
 
+-- the class that was told is the opcode's, or that of one that is dropped
+classed :
+    (c : tie.After-class-in) → classIs (c .class-in .result) ≡ cond (dropped (start c)) Run.unapplied (Run.classOf (start c .args .op))
+classed c = c .class-in .ensures ∙ ap (λ (d : Bool). cond d Run.unapplied (Run.classOf (start c .args .op))) (c .before .dropped .ensures)
+
 step-f32-requires : tie.Need-step-f32-requires
 step-f32-requires c κs = let s = start (c .before .before .before) in (window-fits (s .args .w) (s .args .set .period) (s .pre .0), s .pre .1)
 
@@ -48,7 +54,7 @@ returns c =
     let asked = way .before .before in
     let s = start asked in
     stepped (kind s) (s .args .w) (s .args .set .period) (room s) (dropped s) (s .args .op) (body s) (now (s .args .samples))
-    (told (λ (k : Run.Class). k) (asked .class-in .ensures) (way .enum-told .given .1)) (λ k x y. refl) (done .step-f32 .ensures)
+    (told (λ (k : Run.Class). k) (classed asked) (way .enum-told .given .1)) (λ k x y. refl) (done .step-f32 .ensures)
 
 returns-2 : tie.Need-returns-2
 returns-2 c =
@@ -57,7 +63,7 @@ returns-2 c =
     let asked = way .before .before in
     let s = start asked in
     stepped (kind s) (s .args .w) (s .args .set .period) (room s) (dropped s) (s .args .op) (body s) (now (s .args .samples))
-    (told (λ (k : Run.Class). k) (asked .class-in .ensures) (way .enum-told2 .given .1)) (λ k x y. refl) (done .step-f322 .ensures)
+    (told (λ (k : Run.Class). k) (classed asked) (way .enum-told2 .given .1)) (λ k x y. refl) (done .step-f322 .ensures)
 
 returns-3 : tie.Need-returns-3
 returns-3 c =
@@ -68,21 +74,21 @@ returns-3 c =
     let asked = way .before .before in
     let s = start asked in
     repaired (kind s) (s .args .w) (s .args .set .period) (room s) (dropped s) (s .args .op) (body s) (now (s .args .samples))
-    (told (λ (k : Run.Class). k) (asked .class-in .ensures) (way .enum-told3 .given .1)) (lent .body .ensures) (done .fix-f32 .ensures)
+    (told (λ (k : Run.Class). k) (classed asked) (way .enum-told3 .given .1)) (lent .body .ensures) (done .fix-f32 .ensures)
 
 returns-4 : tie.Need-returns-4
 returns-4 c =
     let asked = c .before .before in
     let s = start asked in
     passed (kind s) (s .args .w) (s .args .set .period) (room s) (dropped s) (s .args .op) (body s) (now (s .args .samples))
-    (told (λ (k : Run.Class). k) (asked .class-in .ensures) (c .enum-told4 .given .1)) (λ k x y. refl)
+    (told (λ (k : Run.Class). k) (classed asked) (c .enum-told4 .given .1)) (λ k x y. refl)
 
 returns-5 : tie.Need-returns-5
 returns-5 c =
     let asked = c .before .before in
     let s = start asked in
     passed (kind s) (s .args .w) (s .args .set .period) (room s) (dropped s) (s .args .op) (body s) (now (s .args .samples))
-    (told (λ (k : Run.Class). k) (asked .class-in .ensures) (c .enum-told5 .given .1)) (λ k x y. refl)
+    (told (λ (k : Run.Class). k) (classed asked) (c .enum-told5 .given .1)) (λ k x y. refl)
 
 pub one-f32-spec : {M : Type 1} → statement M
 one-f32-spec =
