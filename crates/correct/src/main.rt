@@ -315,7 +315,16 @@ fn mend_raster(
     say_pgm::decode(raster, maxval, &mut *samples);
     let w = window_of(width, height);
     let mut names = [0u8; 4096];
-    match run_stored::mend(list, &mut *samples, wide, w, period, preview, marks, &mut names) {
+    match run_stored::mend(
+        list,
+        &mut *samples,
+        wide,
+        w,
+        period,
+        preview,
+        marks,
+        &mut names,
+    ) {
         Mended::Whole { answer } => {
             finish(
                 out,
