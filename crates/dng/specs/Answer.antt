@@ -20,7 +20,7 @@ use Rattle.dng.specs.declared.Reading.{Reading}
 use Rattle.dng.specs.declared.Reading.the-variants as R
 use Rattle.dng.specs.List.{Item, reasonNumber, readingOf, itemsOf}
 use Rattle.dng.specs.Value.{Frame, one}
-use Rattle.dng.specs.Run.{Kind, f32Kind, u16Kind, Class, skipped, skipped16, takes16, takesRows, namesOf, Progress, going, marksFull, Room, performAll, rowOn}
+use Rattle.dng.specs.Run.{keptIn, Kind, f32Kind, u16Kind, Class, skipped, skipped16, takes16, takesRows, namesOf, Progress, going, marksFull, Room, performAll, rowOn}
 
 -- ---- the ranges
 
@@ -102,21 +102,23 @@ finished l names (marksFull s k) = unchanged (Ans.Marks k) s names
 
 module _ {A : Type 0} (kind : Kind A) (takes : List Item → Bool) (skip : Class → Bool) where
   -- a list that is read whole: 3, 4, then the run
-  unfoldable pub ranOn : Window → (period : ℕ) → Room → List ℕ → List A → List ℕ → Out A
-  ranOn w period room list s names =
-      cond (takes (itemsOf list))
-      (cond (leb (length (namesOf skip (itemsOf list))) (length names))
-      (finished (namesOf skip (itemsOf list)) names (performAll kind w period room list 0 (itemsOf list) (going s 0 0)))
+  unfoldable pub ranOn : Window → (period : ℕ) → (preview : Bool) → Room → List ℕ → List A → List ℕ → Out A
+  ranOn w period preview room list s names =
+      cond (takes (keptIn preview list))
+      (cond (leb (length (namesOf skip (keptIn preview list))) (length names))
+      (finished (namesOf skip (keptIn preview list)) names
+      (performAll kind w period room preview list 0 (itemsOf list) (going s 0 0)))
       (unchanged Ans.Names s names))
       (unchanged Ans.NotTaken s names)
 
-  abbrev pub readOut : Window → (period : ℕ) → Room → List ℕ → List A → List ℕ → Reading → Out A
-  readOut w period room list s names (R.Whole n) = ranOn w period room list s names
-  readOut w period room list s names (R.Malformed k why) = unchanged (Ans.Malformed k why) s names
+  abbrev pub readOut : Window → (period : ℕ) → (preview : Bool) → Room → List ℕ → List A → List ℕ → Reading → Out A
+  readOut w period preview room list s names (R.Whole n) = ranOn w period preview room list s names
+  readOut w period preview room list s names (R.Malformed k why) = unchanged (Ans.Malformed k why) s names
 
-  unfoldable pub runOut : Window → (period : ℕ) → Room → List ℕ → List A → List ℕ → Out A
-  runOut w period room list s names =
-      cond (inRange w period) (readOut w period room list s names (readingOf list)) (unchanged Ans.Range s names)
+  unfoldable pub runOut : Window → (period : ℕ) → (preview : Bool) → Room → List ℕ → List A → List ℕ → Out A
+  runOut w period preview room list s names =
+      cond (inRange w period) (readOut w period preview room list s names (readingOf list))
+      (unchanged Ans.Range s names)
 
 -- the f32 run takes every list
 abbrev pub takesAll : List Item → Bool
@@ -127,11 +129,11 @@ frameOf w scale = record { scale = scale; fullWidth = w .«full_width»; fullHei
 
 abbrev pub f32Out : Window → Settings → Room → List ℕ → List Float → List ℕ → Out Float
 f32Out w set room list s names =
-    runOut (f32Kind (frameOf w (set .scale))) takesAll skipped w (set .period) room list s names
+    runOut (f32Kind (frameOf w (set .scale))) takesAll skipped w (set .period) (set .preview) room list s names
 
 -- the whole-number form has no scale
-abbrev pub u16Out : Window → (period : ℕ) → Room → List ℕ → List ℕ → List ℕ → Out ℕ
-u16Out w period room list s names = runOut u16Kind takes16 skipped16 w period room list s names
+abbrev pub u16Out : Window → (period : ℕ) → (preview : Bool) → Room → List ℕ → List ℕ → List ℕ → Out ℕ
+u16Out w period preview room list s names = runOut u16Kind takes16 skipped16 w period preview room list s names
 
 -- What a run promises of its result r and of what it leaves: the answer, the samples and the names are those of o, and
 -- the scratch holds zeros alone.
@@ -151,19 +153,19 @@ pub record RowOut : Type 0 where
 abbrev pub rowFrameOf : RowWindow → Float → Frame
 rowFrameOf w scale = record { scale = scale; fullWidth = w .«full_width»; fullHeight = w .«full_height» }
 
-abbrev pub rowRead : RowWindow → Float → (y : ℕ) → List ℕ → List Float → Reading → RowOut
-rowRead w scale y list row (R.Whole n) =
-    cond (takesRows (itemsOf list))
+abbrev pub rowRead : RowWindow → Float → (preview : Bool) → (y : ℕ) → List ℕ → List Float → Reading → RowOut
+rowRead w scale preview y list row (R.Whole n) =
+    cond (takesRows (keptIn preview list))
     (record {
-      answer = Row.Done (length (namesOf skipped (itemsOf list)));
-      row = rowOn (rowFrameOf w scale) (w .x0) (w .planes) y list (itemsOf list) row;
+      answer = Row.Done (length (namesOf skipped (keptIn preview list)));
+      row = rowOn (rowFrameOf w scale) (w .x0) (w .planes) y list (keptIn preview list) row;
     })
     (record { answer = Row.NotTaken; row = row })
-rowRead w scale y list row (R.Malformed k why) = record { answer = Row.Malformed k why; row = row }
+rowRead w scale preview y list row (R.Malformed k why) = record { answer = Row.Malformed k why; row = row }
 
-unfoldable pub rowOut : RowWindow → Float → (y : ℕ) → List ℕ → List Float → RowOut
-rowOut w scale y list row =
-    cond (rowInRange w y (length row)) (rowRead w scale y list row (readingOf list))
+unfoldable pub rowOut : RowWindow → Float → (preview : Bool) → (y : ℕ) → List ℕ → List Float → RowOut
+rowOut w scale preview y list row =
+    cond (rowInRange w y (length row)) (rowRead w scale preview y list row (readingOf list))
     (record { answer = Row.Range; row = row })
 
 -- ---- the verdict: a frame is whole when a run answers 0 and skips nothing

@@ -25,7 +25,7 @@ use Rattle.dng.specs.List.{Item, refusal, extent, firstCut, headerWhy, i
 use Rattle.dng.specs.Select.{onRegion, onWindow, onRow, inWindow, active, wholePixel}
 use Rattle.dng.specs.Value.{mapTable, mapTable16}
 use Rattle.dng.specs.Repair.{anyBelow, countBelow, complete, pointAt, rectAt, listed, badValue, marksOf, moved, sound, tallyOn, repairAt, soundOn, markedIn, repairedIn, leftIn}
-use Rattle.dng.specs.Run.{namesOf, takes16On, takes16From, takesRows, repairOn, performAll, rowOn, Room}
+use Rattle.dng.specs.Run.{keptOf, namesOf, takes16On, takes16From, takesRows, repairOn, performAll, rowOn, Room}
 use Rattle.dng.specs.Answer.{Out, readingNumbersOf, inRange, rowInRange, ranOn, runOut, f32Out, u16Out, rowOut}
 
 -- ---- lists, written out
@@ -115,28 +115,28 @@ pub record Bench : Type 0 where
   pub P3 : touched (region 1 6 0 1 2) third (0 ∷ 0 ∷ 0 ∷ 0 ∷ []) ≡ 0 ∷ 1 ∷ 0 ∷ 1 ∷ []
   pub P4 : touched (region 0 1 1 5 1) pixel (0 ∷ 0 ∷ 0 ∷ []) ≡ 0 ∷ 1 ∷ 1 ∷ []
   pub P4-none : touched (region 0 1 3 5 1) pixel (0 ∷ 0 ∷ 0 ∷ []) ≡ 0 ∷ 0 ∷ 0 ∷ []
-  pub P5 : u16Out (frame 3 1) 1 room (listOf (constant 0 ∷ [])) (10 ∷ 0 ∷ 19 ∷ []) []
+  pub P5 : u16Out (frame 3 1) 1 false room (listOf (constant 0 ∷ [])) (10 ∷ 0 ∷ 19 ∷ []) []
       ≡ out (Ans.Done 0 1 0) (10 ∷ 15 ∷ 19 ∷ []) []
-  pub P5-f32 : f32Out (frame 3 1) (record { period = 1; scale = whole 1 }) room (listOf (constant 0 ∷ []))
-      (whole 10 ∷ whole 0 ∷ whole 19 ∷ []) []
+  pub P5-f32 : f32Out (frame 3 1) (record { period = 1; scale = whole 1; preview = false }) room
+      (listOf (constant 0 ∷ [])) (whole 10 ∷ whole 0 ∷ whole 19 ∷ []) []
       ≡ out (Ans.Done 0 1 0) (whole 10 ∷ fin false 29 (negsuc 0) ∷ whole 19 ∷ []) []
-  pub P6 : u16Out (frame 1 1) 1 room (listOf (constant 0 ∷ [])) (0 ∷ []) [] ≡ out (Ans.Done 0 0 1) (0 ∷ []) []
-  pub P7 : u16Out (frame 3 1) 1 room (listOf (table (0 ∷ 5 ∷ 0 ∷ 7 ∷ []) 2 ∷ [])) (0 ∷ 1 ∷ 9 ∷ []) []
+  pub P6 : u16Out (frame 1 1) 1 false room (listOf (constant 0 ∷ [])) (0 ∷ []) [] ≡ out (Ans.Done 0 0 1) (0 ∷ []) []
+  pub P7 : u16Out (frame 3 1) 1 false room (listOf (table (0 ∷ 5 ∷ 0 ∷ 7 ∷ []) 2 ∷ [])) (0 ∷ 1 ∷ 9 ∷ []) []
       ≡ out (Ans.Done 0 0 0) (5 ∷ 7 ∷ 7 ∷ []) []
-  pub P8 : u16Out (frame 3 1) 1 room (listOf (constant 0 ∷ constant 1 ∷ [])) (10 ∷ 0 ∷ 19 ∷ []) []
+  pub P8 : u16Out (frame 3 1) 1 false room (listOf (constant 0 ∷ constant 1 ∷ [])) (10 ∷ 0 ∷ 19 ∷ []) []
       ≡ out Ans.NotTaken (10 ∷ 0 ∷ 19 ∷ []) []
-  pub P9 : f32Out (frame 1 1) (record { period = 1; scale = whole 1 }) room (listOf (table [] 0 ∷ [])) (whole 3 ∷ [])
-      (9 ∷ 9 ∷ []) ≡ out (Ans.Done 1 0 0) (whole 3 ∷ []) (7 ∷ 9 ∷ [])
-  pub P9-u16 : u16Out (frame 1 1) 1 room (listOf (table [] 0 ∷ [])) (3 ∷ []) (9 ∷ 9 ∷ [])
+  pub P9 : f32Out (frame 1 1) (record { period = 1; scale = whole 1; preview = false }) room
+      (listOf (table [] 0 ∷ [])) (whole 3 ∷ []) (9 ∷ 9 ∷ []) ≡ out (Ans.Done 1 0 0) (whole 3 ∷ []) (7 ∷ 9 ∷ [])
+  pub P9-u16 : u16Out (frame 1 1) 1 false room (listOf (table [] 0 ∷ [])) (3 ∷ []) (9 ∷ 9 ∷ [])
       ≡ out (Ans.Done 0 0 0) (3 ∷ []) (9 ∷ 9 ∷ [])
-  pub P9-row : rowOut (record { width = 1; planes = 1; x0 = 0; «full_width» = 1; «full_height» = 1 }) (whole 1) 0
+  pub P9-row : rowOut (record { width = 1; planes = 1; x0 = 0; «full_width» = 1; «full_height» = 1 }) (whole 1) false 0
       (listOf (table [] 0 ∷ [])) (whole 3 ∷ []) ≡ record { answer = Row.NotTaken; row = whole 3 ∷ [] }
   pub P10 : readingOf (listOf (entry 1 (word 0) ∷ [])) ≡ R.Whole 1
   pub P10-planes : map (λ (i : Item). i .op) (itemsOf (listOf (entry 1 (word 0) ∷ [])))
       ≡ WarpRectilinear 0 half half ∷ []
   pub P11 : markedIn (frame 2 2) (marksOf {A = ℕ} 0 (frame 2 2) (λ c v. false) (FixBadPixelsList 0 0 1)
       (words (0 ∷ 0 ∷ 1 ∷ 0 ∷ 0 ∷ 1 ∷ 1 ∷ [])) (3 ∷ 3 ∷ 3 ∷ 3 ∷ [])) ≡ 1
-  pub P11-run : u16Out (frame 2 2) 1 room (listOf (entry 5 (words (0 ∷ 0 ∷ 1 ∷ 0 ∷ 0 ∷ 1 ∷ 1 ∷ [])) ∷ []))
+  pub P11-run : u16Out (frame 2 2) 1 false room (listOf (entry 5 (words (0 ∷ 0 ∷ 1 ∷ 0 ∷ 0 ∷ 1 ∷ 1 ∷ [])) ∷ []))
       (3 ∷ 5 ∷ 7 ∷ 9 ∷ []) [] ≡ out (Ans.Done 0 1 0) (7 ∷ 5 ∷ 7 ∷ 9 ∷ []) []
   pub P12 : readingOf (listOf (polynomial 8 72 ∷ [])) ≡ R.Whole 1
   pub P12-over : readingOf (listOf (polynomial 9 80 ∷ [])) ≡ R.Malformed 0 (refusal Why.Degree 52)
@@ -146,9 +146,9 @@ pub bench : Bench
 unfolding big extent firstCut headerWhy insideWhy fieldWhy whyFrom whyOf each selects onColumns roundHeld readingOf
     itemsOf counted readFrom stepAt nextAt parsedAt vignetteAt constantAt trimAt warpAt polynomialAt countedAt gainAt
     badListAt onRegion onWindow inWindow active wholePixel mapTable mapTable16 anyBelow countBelow complete pointAt
-    rectAt listed badValue marksOf moved sound tallyOn repairAt soundOn markedIn repairedIn leftIn namesOf takes16On
-    takes16From takesRows repairOn performAll rowOn inRange rowInRange ranOn runOut rowOut ofInt round units odd size
-    span climb mul div add eq
+    rectAt listed badValue marksOf moved sound tallyOn repairAt soundOn markedIn repairedIn leftIn keptOf namesOf
+    takes16On takes16From takesRows repairOn performAll rowOn inRange rowInRange ranOn runOut rowOut ofInt round units
+    odd size span climb mul div add eq
 bench =
     record {
       P1 = refl;

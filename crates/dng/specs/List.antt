@@ -2,7 +2,7 @@
 -- Why one is refused, and at which byte: document 02, M-100.
 -- Big-endian throughout. Positions count from the list's first byte. Bytes left over in a body or after the list are
 -- ignored, and so is the version.
-use Prim.Native.Nat.{ℕ, zero, suc, _+_, _-_, _*_, min, max}
+use Prim.Native.Nat.{ℕ, zero, suc, _+_, _-_, _*_, _/_, _%_, min, max}
 use mathlib.Core.Bool.{Bool, false, _&&_, cond}
 use mathlib.Core.List.{List, [], _∷_, _++_}
 use lib.Dec.{leb, eqb}
@@ -127,6 +127,14 @@ nextAt s c =
     cond (leb (c .at + 16) (length s) && leb (c .at + 16 + u32At s (c .at + 12)) (length s))
     (N.Found (headerAt s (c .at)) (record { at = c .at + 16 + u32At s (c .at + 12) }))
     (N.Malformed (headerWhy s (c .at)))
+
+-- flag bit 0: a reader that does not know the opcode may pass it over
+abbrev pub optionalOf : Entry → Bool
+optionalOf e = eqb (e .flags % 2) 1
+
+-- flag bit 1: the opcode may be skipped for a preview (document 02, M-111)
+abbrev pub previewOf : Entry → Bool
+previewOf e = eqb (e .flags / 2 % 2) 1
 
 -- the entry's body, a part of the list
 abbrev pub bodyOf : List ℕ → Entry → List ℕ

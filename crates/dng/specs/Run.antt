@@ -1,5 +1,6 @@
--- A list as a program: the forms, what each skips, and the run, opcode by opcode over the whole window.
--- Document 01, 'What comes back' and the last paragraph of 'What each does to a value'.
+-- A list as a program: what a preview leaves out, the forms, what each skips, and the run, opcode by opcode over the
+-- whole window. Document 01, 'What comes back' and the last paragraph of 'What each does to a value'; document 02,
+-- M-111.
 use Prim.Native.Nat.{ℕ, zero, suc, _+_, _*_, max}
 use mathlib.Core.Bool.{Bool, true, false, not, _&&_, _||_, cond}
 use mathlib.Core.List.{List, [], _∷_}
@@ -12,10 +13,25 @@ use Rattle.num_convert.specs.Convert.{wholeIn}
 use Rattle.dng.specs.declared.Window.{Window}
 use Rattle.dng.specs.declared.Opcode.{Opcode}
 use Rattle.dng.specs.declared.Opcode.the-variants.{WarpRectilinear, WarpFisheye, FixVignetteRadial, FixBadPixelsConstant, FixBadPixelsList, TrimBounds, MapTable, MapPolynomial, GainMap, DeltaPerRow, DeltaPerColumn, ScalePerRow, ScalePerColumn, Other}
-use Rattle.dng.specs.List.{Item, bodyOf}
+use Rattle.dng.specs.List.{Item, previewOf, itemsOf, bodyOf}
 use Rattle.dng.specs.Select.{Rule, onWindow, onRow}
 use Rattle.dng.specs.Value.{Frame, ruleOf, rule16Of}
 use Rattle.dng.specs.Repair.{marksOf, markedIn, repairedIn, leftIn, repairAt}
+
+-- ---- previews
+
+-- an entry that a preview leaves out
+abbrev pub drops : (preview : Bool) → Item → Bool
+drops preview i = preview && previewOf (i .entry)
+
+-- the entries that are left: forms and names speak of these
+unfoldable pub keptOf : (preview : Bool) → List Item → List Item
+keptOf preview [] = []
+keptOf preview (i ∷ is) = cond (drops preview i) (keptOf preview is) (i ∷ keptOf preview is)
+
+-- of a list, which is read whole before any entry is dropped
+abbrev pub keptIn : (preview : Bool) → List ℕ → List Item
+keptIn preview list = keptOf preview (itemsOf list)
 
 -- ---- classes of opcodes
 
@@ -174,10 +190,11 @@ module _ {A : Type 0} (kind : Kind A) (w : Window) (period : ℕ) (room : Room) 
   perform list i k (going s r l) = performOn (classOf (i .op)) (i .op) (bodyOf list (i .entry)) k s r l
   perform list i k (marksFull s o) = marksFull s o
 
-  -- all opcodes, in list order, numbered from k on
-  unfoldable pub performAll : List ℕ → ℕ → List Item → Progress A → Progress A
-  performAll list k [] g = g
-  performAll list k (i ∷ is) g = performAll list (suc k) is (perform list i k g)
+  -- all opcodes, in list order, numbered from k on; one that is dropped is passed over and counts
+  unfoldable pub performAll : (preview : Bool) → List ℕ → ℕ → List Item → Progress A → Progress A
+  performAll preview list k [] g = g
+  performAll preview list k (i ∷ is) g =
+      performAll preview list (suc k) is (cond (drops preview i) g (perform list i k g))
 
 -- A row on its own: the same opcodes one after another on a lent row, the row y of the image.
 unfoldable pub rowOn : Frame → (x0 planes y : ℕ) → List ℕ → List Item → List Float → List Float

@@ -33,8 +33,8 @@ use Rattle.dng.specs.List.{Item, reasonNumber, refusal, extent, firstCut
 use Rattle.dng.specs.Select.{onRegion, inWindow, active}
 use Rattle.dng.specs.Value.{Frame, mapTable, mapPolynomial, horner, nth, delta, scaled, position, mix, lineAt, gainOf, gained, ruleOf}
 use Rattle.dng.specs.Repair.{countBelow, complete, pointAt, rectAt, badValue, marksOf, moved, sound, tallyOn, tallyAt, repairAt, soundOn, markedIn, repairedIn, leftIn}
-use Rattle.dng.specs.Run.{f32Kind, namesOf, takes16On, takes16From, repairOn, performAll, Room}
-use Rattle.dng.specs.Answer.{numbersOf, readingNumbersOf, rowNumbersOf, inRange, rowInRange, ranOn, runOut, u16Out, rowOut}
+use Rattle.dng.specs.Run.{keptOf, f32Kind, namesOf, takes16On, takes16From, repairOn, performAll, Room}
+use Rattle.dng.specs.Answer.{Out, numbersOf, readingNumbersOf, rowNumbersOf, inRange, rowInRange, ranOn, runOut, u16Out, rowOut}
 use Rattle.dng.specs.Frames.{words, whole, frame, room, constant, entry, listOf, out}
 
 -- the bytes of f64 and of f32 values 1, 2, 3, 4, and of u16 entries
@@ -540,11 +540,11 @@ told = record { number = 23; entry = 1; offset = 40; opcode = 0; names = 0; repa
 
 pub record Told : Type 0 where
   pub reading : readingNumbersOf (readingOf second-cut) ≡ told
-  pub run : numbersOf (u16Out (frame 1 1) 1 room second-cut (3 ∷ []) [] .answer) ≡ told
-  pub row : rowNumbersOf (rowOut onePixel (whole 1) 0 second-cut (whole 3 ∷ []) .answer) ≡ told
+  pub run : numbersOf (u16Out (frame 1 1) 1 false room second-cut (3 ∷ []) [] .answer) ≡ told
+  pub row : rowNumbersOf (rowOut onePixel (whole 1) false 0 second-cut (whole 3 ∷ []) .answer) ≡ told
   -- the ranges come first: then there is neither entry nor offset
-  pub range : numbersOf (u16Out (frame 65537 1) 1 room second-cut (3 ∷ []) [] .answer) .offset ≡ 0
-  pub row-range : rowNumbersOf (rowOut onePixel (whole 1) 16842752 second-cut (whole 3 ∷ []) .answer)
+  pub range : numbersOf (u16Out (frame 65537 1) 1 false room second-cut (3 ∷ []) [] .answer) .offset ≡ 0
+  pub row-range : rowNumbersOf (rowOut onePixel (whole 1) false 16842752 second-cut (whole 3 ∷ []) .answer)
       ≡ record { number = 1; entry = 0; offset = 0; opcode = 0; names = 0; repaired = 0; left = 0 }
 
 pub tells : Told
@@ -564,26 +564,27 @@ pair = 10 ∷ 0 ∷ 0 ∷ 19 ∷ []
 
 pub record Runs : Type 0 where
   -- a marked neighbour is not in the mean: 10 and 19 alone
-  pub side-by-side : u16Out (frame 4 1) 1 room (listOf (constant 0 ∷ [])) pair []
+  pub side-by-side : u16Out (frame 4 1) 1 false room (listOf (constant 0 ∷ [])) pair []
       ≡ out (Ans.Done 0 2 0) (10 ∷ 10 ∷ 19 ∷ 19 ∷ []) []
   -- a malformed list after the ranges: nothing changes
-  pub malformed : u16Out (frame 2 1) 1 room (listOf (entry 4 [] ∷ [])) (1 ∷ 2 ∷ []) (9 ∷ [])
+  pub malformed : u16Out (frame 2 1) 1 false room (listOf (entry 4 [] ∷ [])) (1 ∷ 2 ∷ []) (9 ∷ [])
       ≡ out (Ans.Malformed 0 (refusal Why.Inside 20)) (1 ∷ 2 ∷ []) (9 ∷ [])
-  pub range-first : u16Out (frame 65537 1) 1 room [] (1 ∷ 2 ∷ []) (9 ∷ []) ≡ out Ans.Range (1 ∷ 2 ∷ []) (9 ∷ [])
+  pub range-first : u16Out (frame 65537 1) 1 false room [] (1 ∷ 2 ∷ []) (9 ∷ [])
+      ≡ out Ans.Range (1 ∷ 2 ∷ []) (9 ∷ [])
   -- a period of 0 counts as 1
-  pub period-none : u16Out (frame 3 1) 0 room (listOf (constant 0 ∷ [])) (10 ∷ 0 ∷ 19 ∷ []) []
+  pub period-none : u16Out (frame 3 1) 0 false room (listOf (constant 0 ∷ [])) (10 ∷ 0 ∷ 19 ∷ []) []
       ≡ out (Ans.Done 0 1 0) (10 ∷ 15 ∷ 19 ∷ []) []
   -- as many entries as marks are room enough; with one less it is 5 of that opcode, and the skip buffer stays
-  pub marks-tight : u16Out (frame 4 1) 1 (marks 2) (listOf (entry 2 [] ∷ constant 0 ∷ [])) pair (9 ∷ [])
+  pub marks-tight : u16Out (frame 4 1) 1 false (marks 2) (listOf (entry 2 [] ∷ constant 0 ∷ [])) pair (9 ∷ [])
       ≡ out (Ans.Done 1 2 0) (10 ∷ 10 ∷ 19 ∷ 19 ∷ []) (2 ∷ [])
-  pub marks-short : u16Out (frame 4 1) 1 (marks 1) (listOf (entry 2 [] ∷ constant 0 ∷ [])) pair (9 ∷ [])
+  pub marks-short : u16Out (frame 4 1) 1 false (marks 1) (listOf (entry 2 [] ∷ constant 0 ∷ [])) pair (9 ∷ [])
       ≡ out (Ans.Marks 1) pair (9 ∷ [])
 
 pub runs : Runs
 unfolding big firstCut insideWhy whyFrom whyOf each roundHeld readingOf itemsOf counted readFrom stepAt nextAt parsedAt
     vignetteAt constantAt trimAt inWindow active countBelow complete badValue marksOf moved sound tallyOn repairAt
-    soundOn markedIn repairedIn leftIn namesOf takes16On takes16From repairOn performAll inRange ranOn runOut ofInt
-    round units odd trailingZeros size span climb add sum div
+    soundOn markedIn repairedIn leftIn keptOf namesOf takes16On takes16From repairOn performAll inRange ranOn runOut
+    ofInt round units odd trailingZeros size span climb add sum div
 runs = record {
   side-by-side = refl;
   malformed = refl;
@@ -592,3 +593,53 @@ runs = record {
   marks-tight = refl;
   marks-short = refl;
 }
+
+-- ---- previews: what is flagged by bit 1 is left out, after the whole list is read
+
+-- a repair of the samples that are c, with flags f
+abbrev constantWith : (f c : ℕ) → List ℕ
+constantWith f c = words (4 ∷ 16973824 ∷ f ∷ 8 ∷ c ∷ 0 ∷ [])
+
+-- three samples, one of them 0
+abbrev three : List ℕ
+three = 10 ∷ 0 ∷ 19 ∷ []
+
+-- a run of the entries over `three`, with room for so many marks and a skip buffer of one byte
+abbrev shown : (preview : Bool) → ℕ → List (List ℕ) → Out ℕ
+shown preview n es = u16Out (frame 3 1) 1 preview (marks n) (listOf es) three (9 ∷ [])
+
+pub record Previews : Type 0 where
+  -- two repairs are too many for the whole-number form; one of them is left out, but not for bit 0
+  pub all : shown false 8 (constant 0 ∷ constantWith 2 10 ∷ []) ≡ out Ans.NotTaken three (9 ∷ [])
+  pub one : shown true 8 (constant 0 ∷ constantWith 2 10 ∷ []) ≡ out (Ans.Done 0 1 0) (10 ∷ 15 ∷ 19 ∷ []) (9 ∷ [])
+  pub both-bits : shown true 8 (constantWith 3 10 ∷ constant 0 ∷ [])
+      ≡ out (Ans.Done 0 1 0) (10 ∷ 15 ∷ 19 ∷ []) (9 ∷ [])
+  pub optional : shown true 8 (constant 0 ∷ constantWith 1 10 ∷ []) ≡ out Ans.NotTaken three (9 ∷ [])
+  -- names are those of what is left
+  pub names : shown true 8 (flagged 2 ∷ entry 6 (words (0 ∷ 0 ∷ 0 ∷ 0 ∷ [])) ∷ []) ≡ out (Ans.Done 1 0 0) three (6 ∷ [])
+  pub names-all : shown false 8 (flagged 2 ∷ entry 6 (words (0 ∷ 0 ∷ 0 ∷ 0 ∷ [])) ∷ [])
+      ≡ out Ans.Names three (9 ∷ [])
+  -- opcodes are numbered in the whole list
+  pub number : shown true 0 (flagged 2 ∷ constant 0 ∷ []) ≡ out (Ans.Marks 1) three (9 ∷ [])
+  -- nothing is left
+  pub none : shown true 0 (constantWith 2 0 ∷ []) ≡ out (Ans.Done 0 0 0) three (9 ∷ [])
+  -- an entry that would be left out is read all the same
+  pub malformed : shown true 8 (words (4 ∷ 16973824 ∷ 2 ∷ 0 ∷ []) ∷ []) ≡ out (Ans.Malformed 0 (refusal Why.Inside 20)) three (9 ∷ [])
+
+pub previews : Previews
+unfolding big firstCut insideWhy whyFrom whyOf each roundHeld readingOf itemsOf counted readFrom stepAt nextAt parsedAt
+    vignetteAt constantAt trimAt inWindow active countBelow complete badValue marksOf moved sound tallyOn repairAt
+    soundOn markedIn repairedIn leftIn keptOf namesOf takes16On takes16From repairOn performAll inRange ranOn runOut
+    ofInt round units odd trailingZeros size span climb add sum div
+previews =
+    record {
+      all = refl;
+      one = refl;
+      both-bits = refl;
+      optional = refl;
+      names = refl;
+      names-all = refl;
+      number = refl;
+      none = refl;
+      malformed = refl;
+    }

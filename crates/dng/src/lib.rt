@@ -234,11 +234,13 @@ impl RowWindow {
     pub const MAX_ROW: usize = 16_842_751;
 }
 
-// What a run is told besides the list and the window. The whole-number form counts the scale as 1.
+// What a run is told besides the list and the window. The whole-number form counts the scale as 1. A preview leaves out
+// the opcodes whose flag says that it may.
 #[repr(C)]
 pub struct Settings {
     pub period: usize,
     pub scale: f32,
+    pub preview: bool,
 }
 
 impl Settings {

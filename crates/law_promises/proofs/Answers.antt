@@ -21,13 +21,13 @@ use Rattle.dng.specs.declared.RowAnswer.the-variants as Row
 use Rattle.dng.specs.declared.Reading.{Reading}
 use Rattle.dng.specs.declared.Reading.the-variants as R
 use Rattle.dng.specs.List.{reasonNumber, readingOf, itemsOf}
-use Rattle.dng.specs.Run.{Progress, going, marksFull, skipped, takesRows, namesOf, rowOn}
+use Rattle.dng.specs.Run.{keptIn, Progress, going, marksFull, skipped, takesRows, namesOf, rowOn}
 use Rattle.dng.specs.Answer.{inRange, rowInRange, numbersOf, rowNumbersOf, readingNumbersOf, Out, unchanged, finished, ranOn, readOut, runOut, RowOut, rowFrameOf, rowRead, rowOut}
 use Rattle.law_promises.specs.Promises.{Call, End, outOf, Meets, Whole, skips, performed, Goes, When, RowWhen, Kept, Numbered}
 
 module _ {A : Type 0} (c : Call A) where
   abbrev pub named : List ℕ
-  named = namesOf (c .skip) (itemsOf (c .list))
+  named = namesOf (c .skip) (keptIn (c .preview) (c .list))
 
   -- all opcodes
   abbrev all : Progress A
@@ -41,21 +41,21 @@ module _ {A : Type 0} (c : Call A) where
   tested t f p = cond t (cond f (finished named (c .names) p) (refused Ans.Names)) (refused Ans.NotTaken)
 
   abbrev reads : Reading → Out A
-  reads r = readOut (c .kind) (c .takes) (c .skip) (c .window) (c .period) (c .room) (c .list) (c .samples) (c .names) r
+  reads r = readOut (c .kind) (c .takes) (c .skip) (c .window) (c .period) (c .preview) (c .room) (c .list) (c .samples) (c .names) r
 
   -- what is said of every outcome of the tests holds of the run
   module _ (P : Out A → Type 0)
       (range : inRange (c .window) (c .period) ≡ false → P (refused Ans.Range))
       (malformed : (k : ℕ) (why : Refusal) → inRange (c .window) (c .period) ≡ true → readingOf (c .list) ≡ R.Malformed k why
       → P (refused (Ans.Malformed k why)))
-      (goes : inRange (c .window) (c .period) ≡ true → Whole (c .list) → (t f : Bool) → c .takes (itemsOf (c .list)) ≡ t
+      (goes : inRange (c .window) (c .period) ≡ true → Whole (c .list) → (t f : Bool) → c .takes (keptIn (c .preview) (c .list)) ≡ t
       → leb (skips c) (length (c .names)) ≡ f → (p : Progress A) → all ≡ p → P (tested t f p)) where
     pub tests : P (outOf c)
     unfolding runOut ranOn
     tests = go (inRange (c .window) (c .period)) (readingOf (c .list)) refl refl
       where
         go : (i : Bool) (r : Reading) → inRange (c .window) (c .period) ≡ i → readingOf (c .list) ≡ r → P (cond i (reads r) (refused Ans.Range))
-        go true (R.Whole n) i r = goes i (n, r) (c .takes (itemsOf (c .list))) (leb (skips c) (length (c .names))) refl refl all refl
+        go true (R.Whole n) i r = goes i (n, r) (c .takes (keptIn (c .preview) (c .list))) (leb (skips c) (length (c .names))) refl refl all refl
         go true (R.Malformed k why) i r = malformed k why i r
         go false q i r = range i
 
@@ -72,7 +72,7 @@ module _ {A : Type 0} (c : Call A) where
   when =
       tests (λ (o : Out A). When c (o .answer)) (λ i. i) (λ k why i r. (i, r)) go
     where
-      go : inRange (c .window) (c .period) ≡ true → Whole (c .list) → (t f : Bool) → c .takes (itemsOf (c .list)) ≡ t
+      go : inRange (c .window) (c .period) ≡ true → Whole (c .list) → (t f : Bool) → c .takes (keptIn (c .preview) (c .list)) ≡ t
           → leb (skips c) (length (c .names)) ≡ f → (p : Progress A) → all ≡ p → When c (tested t f p .answer)
       go i w true true t f (going s r l) e = (record { ranges = i; whole = w; taken = t; named = leb-true _ _ f }, refl, (s, e))
       go i w true true t f (marksFull s k) e = (record { ranges = i; whole = w; taken = t; named = leb-true _ _ f }, (s, e))
@@ -113,7 +113,7 @@ module _ {A : Type 0} (c : Call A) where
       tests Holds (λ i. refused-holds Ans.Range (λ n r l e. let z : _≡_ {A = ℕ} 0 1 = cc in omega arith))
       (λ k why i q. refused-holds (Ans.Malformed k why) (λ n r l e. let z : _≡_ {A = ℕ} 0 1 = cc in omega arith)) go
     where
-      go : inRange (c .window) (c .period) ≡ true → Whole (c .list) → (t f : Bool) → c .takes (itemsOf (c .list)) ≡ t
+      go : inRange (c .window) (c .period) ≡ true → Whole (c .list) → (t f : Bool) → c .takes (keptIn (c .preview) (c .list)) ≡ t
           → leb (skips c) (length (c .names)) ≡ f → (p : Progress A) → all ≡ p → Holds (tested t f p)
       go i w true true t f (going s a b) e =
           record {
@@ -260,36 +260,36 @@ numbered =
 
 -- ---- a row
 
-module _ (w : RowWindow) (scale : Float) (y : ℕ) (list : List ℕ) (row : List Float) where
+module _ (w : RowWindow) (scale : Float) (preview : Bool) (y : ℕ) (list : List ℕ) (row : List Float) where
   abbrev rowDone : Bool → RowOut
   rowDone t =
       cond t
-      (record { answer = Row.Done (length (namesOf skipped (itemsOf list))); row = rowOn (rowFrameOf w scale) (w .x0) (w .planes) y list (itemsOf list) row })
+      (record { answer = Row.Done (length (namesOf skipped (keptIn preview list))); row = rowOn (rowFrameOf w scale) (w .x0) (w .planes) y list (keptIn preview list) row })
       (record { answer = Row.NotTaken; row = row })
 
-  pub row-when : RowWhen w y (length row) list (rowOut w scale y list row .answer)
+  pub row-when : RowWhen w preview y (length row) list (rowOut w scale preview y list row .answer)
   unfolding rowOut
   row-when = go (rowInRange w y (length row)) (readingOf list) refl refl
     where
-      taken : (t : Bool) → rowInRange w y (length row) ≡ true → Whole list → takesRows (itemsOf list) ≡ t
-          → RowWhen w y (length row) list (rowDone t .answer)
+      taken : (t : Bool) → rowInRange w y (length row) ≡ true → Whole list → takesRows (keptIn preview list) ≡ t
+          → RowWhen w preview y (length row) list (rowDone t .answer)
       taken true i h e = (i, h, e, refl)
       taken false i h e = (i, h, e)
 
       go : (i : Bool) (r : Reading) → rowInRange w y (length row) ≡ i → readingOf list ≡ r
-          → RowWhen w y (length row) list (cond i (rowRead w scale y list row r) (record { answer = Row.Range; row = row }) .answer)
-      go true (R.Whole n) i r = taken (takesRows (itemsOf list)) i (n, r) refl
+          → RowWhen w preview y (length row) list (cond i (rowRead w scale preview y list row r) (record { answer = Row.Range; row = row }) .answer)
+      go true (R.Whole n) i r = taken (takesRows (keptIn preview list)) i (n, r) refl
       go true (R.Malformed k why) i r = (i, r)
       go false r i q = i
 
-  pub row-only : (a : RowAnswer) → RowWhen w y (length row) list a → rowOut w scale y list row .answer ≡ a
+  pub row-only : (a : RowAnswer) → RowWhen w preview y (length row) list a → rowOut w scale preview y list row .answer ≡ a
   unfolding rowOut
   row-only (Row.Done n) h =
-      ap₂ (λ (i : Bool) (r : Reading). cond i (rowRead w scale y list row r) (record { answer = Row.Range; row = row }) .answer) (h .0) (h .1 .1)
+      ap₂ (λ (i : Bool) (r : Reading). cond i (rowRead w scale preview y list row r) (record { answer = Row.Range; row = row }) .answer) (h .0) (h .1 .1)
       ∙ ap (λ (t : Bool). rowDone t .answer) (h .2) ∙ ap Row.Done (sym (h .3))
-  row-only Row.Range h = ap (λ (i : Bool). cond i (rowRead w scale y list row (readingOf list)) (record { answer = Row.Range; row = row }) .answer) h
+  row-only Row.Range h = ap (λ (i : Bool). cond i (rowRead w scale preview y list row (readingOf list)) (record { answer = Row.Range; row = row }) .answer) h
   row-only (Row.Malformed k why) h =
-      ap₂ (λ (i : Bool) (r : Reading). cond i (rowRead w scale y list row r) (record { answer = Row.Range; row = row }) .answer) (h .0) (h .1)
+      ap₂ (λ (i : Bool) (r : Reading). cond i (rowRead w scale preview y list row r) (record { answer = Row.Range; row = row }) .answer) (h .0) (h .1)
   row-only Row.NotTaken h =
-      ap₂ (λ (i : Bool) (r : Reading). cond i (rowRead w scale y list row r) (record { answer = Row.Range; row = row }) .answer) (h .0) (h .1 .1)
+      ap₂ (λ (i : Bool) (r : Reading). cond i (rowRead w scale preview y list row r) (record { answer = Row.Range; row = row }) .answer) (h .0) (h .1 .1)
       ∙ ap (λ (t : Bool). rowDone t .answer) (h .2)

@@ -10,3 +10,4 @@ pub mod Theorems
 pub mod Worked
 -- document 02
 pub mod TileCalls
+pub mod Preview

@@ -10,7 +10,7 @@ use Rattle.pointwise.specs.Points.{each}
 use Rattle.dng.specs.declared.Answer.the-variants as Ans
 use Rattle.dng.specs.List.{Item, itemsOf, bodyOf}
 use Rattle.dng.specs.Repair.{markedIn, repairedIn, leftIn, repairAt}
-use Rattle.dng.specs.Run.{Class, table, empty, local, repair, unapplied, classOf, Progress, going, marksFull, Room, repairOn, performOn, perform, performAll}
+use Rattle.dng.specs.Run.{drops, Class, table, empty, local, repair, unapplied, classOf, Progress, going, marksFull, Room, repairOn, performOn, perform, performAll}
 use Rattle.dng.specs.Answer.{finished}
 use Rattle.law_promises.specs.Promises.{Call, outOf, performed, When, withRoom, marksOn, countOn, countAt, sumFrom}
 use Rattle.law_promises.proofs.Stops.{still-marks}
@@ -19,10 +19,10 @@ use Rattle.law_promises.proofs.Sums.{adds-up}
 
 module _ {A : Type 0} (c : Call A) where
   abbrev all : ℕ → List Item → Progress A → Progress A
-  all k is g = performAll (c .kind) (c .window) (c .period) (c .room) (c .list) k is g
+  all k is g = performAll (c .kind) (c .window) (c .period) (c .room) (c .preview) (c .list) k is g
 
   abbrev one : Item → ℕ → Progress A → Progress A
-  one i k g = perform (c .kind) (c .window) (c .period) (c .room) (c .list) i k g
+  one i k g = cond (drops (c .preview) i) g (perform (c .kind) (c .window) (c .period) (c .room) (c .list) i k g)
 
   abbrev mended : (ℕ → Bool) → ℕ
   mended bad = repairedIn (c .window) (c .period) bad
@@ -45,7 +45,7 @@ module _ {A : Type 0} (c : Call A) where
       → ((s : List A) (a b : ℕ) → g ≡ going s a b → all k is (going s a b) ≡ going t r l → P) → P
   unstopped k is t r l (going s a b) e f = f s a b refl e
   unstopped k is t r l (marksFull s o) e f =
-      absurd (let z : _≡_ {A = ℕ} 0 1 = cc (still-marks (c .kind) (c .window) (c .period) (c .room) (c .list) k is s o) in omega arith)
+      absurd (let z : _≡_ {A = ℕ} 0 1 = cc (still-marks (c .kind) (c .window) (c .period) (c .room) (c .preview) (c .list) k is s o) in omega arith)
 
   -- a repair that goes on is done
   repaired-on : (bad : ℕ → Bool) (k : ℕ) (s : List A) (a b : ℕ) (t : List A) (r l : ℕ)
@@ -61,9 +61,10 @@ module _ {A : Type 0} (c : Call A) where
 
   module _ (room : Room) where
     one-same : (i : Item) (k : ℕ) (s : List A) (a b : ℕ) (t : List A) (r l : ℕ) → one i k (going s a b) ≡ going t r l
-        → countAt c marked i (going s a b) ≤ room .marks → perform (c .kind) (c .window) (c .period) room (c .list) i k (going s a b) ≡ going t r l
+        → countAt c marked i (going s a b) ≤ room .marks
+        → cond (drops (c .preview) i) (going s a b) (perform (c .kind) (c .window) (c .period) room (c .list) i k (going s a b)) ≡ going t r l
     unfolding repairOn
-    one-same i k s a b t r l = go (classOf (i .op))
+    one-same i k s a b t r l = either (drops (c .preview) i)
       where
         bad : ℕ → Bool
         bad = marksOn c i s
@@ -77,8 +78,15 @@ module _ {A : Type 0} (c : Call A) where
         go repair e p = ap (mends bad k s a b) (le-leb (marked bad) (room .marks) p) ∙ repaired-on bad k s a b t r l e
         go unapplied e p = e
 
+        either : (d : Bool)
+            → cond d (going s a b) (perform (c .kind) (c .window) (c .period) (c .room) (c .list) i k (going s a b)) ≡ going t r l
+            → cond d 0 (countOn c marked (classOf (i .op)) i s) ≤ room .marks
+            → cond d (going s a b) (perform (c .kind) (c .window) (c .period) room (c .list) i k (going s a b)) ≡ going t r l
+        either true e p = e
+        either false e p = go (classOf (i .op)) e p
+
     same-run : (is : List Item) (k : ℕ) (s : List A) (a b : ℕ) (t : List A) (r l : ℕ) → all k is (going s a b) ≡ going t r l
-        → sumFrom c marked k is (going s a b) ≤ room .marks → performAll (c .kind) (c .window) (c .period) room (c .list) k is (going s a b) ≡ going t r l
+        → sumFrom c marked k is (going s a b) ≤ room .marks → performAll (c .kind) (c .window) (c .period) room (c .preview) (c .list) k is (going s a b) ≡ going t r l
     unfolding sumFrom performAll
     same-run [] k s a b t r l e f = e
     same-run (i ∷ is) k s a b t r l e f =
@@ -86,7 +94,7 @@ module _ {A : Type 0} (c : Call A) where
         (λ s′ a′ b′ q e′.
         let u : sumFrom c marked (suc k) is (one i k (going s a b)) ≡ sumFrom c marked (suc k) is (going s′ a′ b′) = ap (sumFrom c marked (suc k) is) q in
         let x : countAt c marked i (going s a b) ≤ room .marks = omega (arith, f) in
-        ap (performAll (c .kind) (c .window) (c .period) room (c .list) (suc k) is) (one-same i k s a b s′ a′ b′ q x)
+        ap (performAll (c .kind) (c .window) (c .period) room (c .preview) (c .list) (suc k) is) (one-same i k s a b s′ a′ b′ q x)
         ∙ same-run is (suc k) s′ a′ b′ t r l e′ (omega (arith, f, u)))
 
   -- ---- of a call

@@ -9,17 +9,17 @@ use lib.Dec.{leb}
 use Rattle.pointwise.specs.Points.{each}
 use Rattle.dng.specs.List.{Item, bodyOf, itemsOf}
 use Rattle.dng.specs.Repair.{markedIn, repairedIn, leftIn, repairAt}
-use Rattle.dng.specs.Run.{Class, table, empty, local, repair, unapplied, classOf, Progress, going, marksFull, repairOn, performOn, perform, performAll}
+use Rattle.dng.specs.Run.{drops, Class, table, empty, local, repair, unapplied, classOf, Progress, going, marksFull, repairOn, performOn, perform, performAll}
 use Rattle.fix_repair.proofs.Totals.{totals}
 use Rattle.law_promises.proofs.Stops.{still-marks}
 use Rattle.law_promises.specs.Promises.{Call, performed, marksOn, countOn, countAt, sumFrom, sumOver, Totals}
 
 module _ {A : Type 0} (c : Call A) where
   abbrev all : ℕ → List Item → Progress A → Progress A
-  all k is g = performAll (c .kind) (c .window) (c .period) (c .room) (c .list) k is g
+  all k is g = performAll (c .kind) (c .window) (c .period) (c .room) (c .preview) (c .list) k is g
 
   abbrev one : Item → ℕ → Progress A → Progress A
-  one i k g = perform (c .kind) (c .window) (c .period) (c .room) (c .list) i k g
+  one i k g = cond (drops (c .preview) i) g (perform (c .kind) (c .window) (c .period) (c .room) (c .list) i k g)
 
   abbrev mended : (ℕ → Bool) → ℕ
   mended bad = repairedIn (c .window) (c .period) bad
@@ -40,7 +40,12 @@ module _ {A : Type 0} (c : Call A) where
   parts-on unapplied i t = refl
 
   parts-at : (i : Item) (g : Progress A) → countAt c mended i g + countAt c stayed i g ≡ countAt c marked i g
-  parts-at i (going t r l) = parts-on (classOf (i .op)) i t
+  parts-at i (going t r l) = either (drops (c .preview) i)
+    where
+      either : (d : Bool) → cond d 0 (countOn c mended (classOf (i .op)) i t) + cond d 0 (countOn c stayed (classOf (i .op)) i t)
+          ≡ cond d 0 (countOn c marked (classOf (i .op)) i t)
+      either true = refl
+      either false = parts-on (classOf (i .op)) i t
   parts-at i (marksFull t k) = refl
 
   parts : (is : List Item) (k : ℕ) (g : Progress A) → sumFrom c mended k is g + sumFrom c stayed k is g ≡ sumFrom c marked k is g
@@ -58,7 +63,7 @@ module _ {A : Type 0} (c : Call A) where
   one-comes : (i : Item) (k : ℕ) (s : List A) (a b : ℕ)
       → Comes a b (countAt c mended i (going s a b)) (countAt c stayed i (going s a b)) (one i k (going s a b))
   unfolding repairOn
-  one-comes i k s a b = go (classOf (i .op))
+  one-comes i k s a b = either (drops (c .preview) i)
     where
       bad : ℕ → Bool
       bad = marksOn c i s
@@ -78,6 +83,11 @@ module _ {A : Type 0} (c : Call A) where
       go repair = mends (leb (marked bad) (c .room .marks))
       go unapplied = (omega arith, omega arith)
 
+      either : (d : Bool) → Comes a b (cond d 0 (countOn c mended (classOf (i .op)) i s)) (cond d 0 (countOn c stayed (classOf (i .op)) i s))
+          (cond d (going s a b) (perform (c .kind) (c .window) (c .period) (c .room) (c .list) i k (going s a b)))
+      either true = (omega arith, omega arith)
+      either false = go (classOf (i .op))
+
   -- what is still to come, after the totals have grown
   comes-on : (a b u v a′ b′ u′ v′ : ℕ) → a′ ≡ a + u → b′ ≡ b + v → (p : Progress A) → Comes a′ b′ u′ v′ p → Comes a b (u + u′) (v + v′) p
   comes-on a b u v a′ b′ u′ v′ x y (going t r l) h = (omega (arith, h .0), omega (arith, h .1))
@@ -93,7 +103,7 @@ module _ {A : Type 0} (c : Call A) where
       (all (suc k) is (going s a′ b′)) (more s a′ b′)
   after-one k is a b u v more (marksFull t o) h =
       subst (Comes a b (u + sumFrom c mended (suc k) is (marksFull t o)) (v + sumFrom c stayed (suc k) is (marksFull t o)))
-      (sym (still-marks (c .kind) (c .window) (c .period) (c .room) (c .list) (suc k) is t o)) tt
+      (sym (still-marks (c .kind) (c .window) (c .period) (c .room) (c .preview) (c .list) (suc k) is t o)) tt
 
   comes : (is : List Item) (k : ℕ) (s : List A) (a b : ℕ)
       → Comes a b (sumFrom c mended k is (going s a b)) (sumFrom c stayed k is (going s a b)) (all k is (going s a b))

@@ -1,6 +1,6 @@
 -- The promises of specs/Promises, proved. Assumes nothing.
 use Prim.Native.Nat.{ℕ}
-use mathlib.Core.Bool.{true, cond, false≢true}
+use mathlib.Core.Bool.{Bool, true, cond, false≢true}
 use mathlib.Core.List.{List}
 use lib.Dec.{eqb}
 use lib.Ieee.{Float}
@@ -20,7 +20,7 @@ use Rattle.dng.specs.declared.Reading.the-variants as R
 use Rattle.dng.specs.List.{reasonNumber, refusal, itemsOf, readingOf}
 use Rattle.list_read.proofs.Fold.{refused}
 use Rattle.list_read.proofs.Offsets.{offset-held}
-use Rattle.dng.specs.Run.{Progress, going, marksFull, skipped, namesOf}
+use Rattle.dng.specs.Run.{keptIn, Progress, going, marksFull, skipped, namesOf}
 use Rattle.dng.specs.declared.RowAnswer.{RowAnswer}
 use Rattle.dng.specs.declared.RowAnswer.the-variants as Row
 use Rattle.dng.specs.Answer.{inRange, rowInRange, Out, finished, numbersOf, rowNumbersOf, readingNumbersOf, rowOut, wholeFrame, wholeRow}
@@ -35,7 +35,7 @@ use Rattle.law_promises.proofs.Rooms.{other-room}
 use Rattle.law_promises.proofs.Calls as Calls
 
 pub forms : Forms
-forms = record { f32 = λ w set room list s names. refl; u16 = λ w period room list s names. refl }
+forms = record { f32 = λ w set room list s names. refl; u16 = λ w period preview room list s names. refl }
 
 -- ---- 1
 
@@ -85,9 +85,9 @@ exactly-when A c e m =
     record { answers = answers c e m; marks = marks c e m; result = result c e m; marksStop = marks-left c e m }
 
 pub row-exactly-when : Row-exactly-when
-row-exactly-when w scale y list row r t ran a = (
-  λ p. subst (RowWhen w y _ list) (sym (ran .answered) ∙ p) (row-when w scale y list row),
-  λ h. ran .answered ∙ row-only w scale y list row a h,
+row-exactly-when w scale preview y list row r t ran a = (
+  λ p. subst (RowWhen w preview y _ list) (sym (ran .answered) ∙ p) (row-when w scale preview y list row),
+  λ h. ran .answered ∙ row-only w scale preview y list row a h,
 )
 
 -- ---- 3
@@ -99,7 +99,7 @@ pub numbered : Numbered
 numbered = Answers.numbered
 
 pub row-keeps : Row-keeps
-row-keeps w scale y list row r t ran not = rows-kept w scale y list row ran not
+row-keeps w scale preview y list row r t ran not = rows-kept w scale preview y list row ran not
 
 -- a malformed list
 
@@ -139,10 +139,10 @@ by-reason =
         λ g. ap (λ (a : Answer). numbersOf a .number)
             (answers c e m (Ans.Malformed (g .1 .0) (refusal q (g .1 .1 .0))) .1 (g .0, g .1 .1 .1)),
       );
-      row = λ w scale y list row r t ran q. (
-        λ h. row-there w scale y list row r t ran q r refl h,
+      row = λ w scale preview y list row r t ran q. (
+        λ h. row-there w scale preview y list row r t ran q r refl h,
         λ g. ap (λ (a : RowAnswer). rowNumbersOf a .number)
-            (row-exactly-when w scale y list row r t ran (Row.Malformed (g .1 .0) (refusal q (g .1 .1 .0))) .1 (g .0, g .1 .1 .1)),
+            (row-exactly-when w scale preview y list row r t ran (Row.Malformed (g .1 .0) (refusal q (g .1 .1 .0))) .1 (g .0, g .1 .1 .1)),
       );
       reading = λ list q. (λ h. read-there list q (readingOf list) refl h, λ g. ap (λ (a : Reading). readingNumbersOf a .number) (g .1 .1));
     }
@@ -160,15 +160,15 @@ by-reason =
     there c e m q (Ans.Marks k) p h = absurd (omega (arith, h, reason-least q))
 
     row-there :
-        (w : RowWindow) (scale : Float) (y : ℕ) (list : List ℕ) (row : List Float) (r : RowAnswer) (t : List Float)
-        → RowRan (rowOut w scale y list row) r t → (q : Reason) (a : RowAnswer) → r ≡ a
+        (w : RowWindow) (scale : Float) (preview : Bool) (y : ℕ) (list : List ℕ) (row : List Float) (r : RowAnswer) (t : List Float)
+        → RowRan (rowOut w scale preview y list row) r t → (q : Reason) (a : RowAnswer) → r ≡ a
         → rowNumbersOf a .number ≡ reasonNumber q → (rowInRange w y (length row) ≡ true) × RefusedFor list q
-    row-there w scale y list row r t ran q (Row.Done n) p h = absurd (omega (arith, h, reason-least q))
-    row-there w scale y list row r t ran q Row.Range p h = absurd (omega (arith, h, reason-least q))
-    row-there w scale y list row r t ran q (Row.Malformed k why) p h =
-        let g : RowWhen w y (length row) list (Row.Malformed k why) = row-exactly-when w scale y list row r t ran (Row.Malformed k why) .0 p in
+    row-there w scale preview y list row r t ran q (Row.Done n) p h = absurd (omega (arith, h, reason-least q))
+    row-there w scale preview y list row r t ran q Row.Range p h = absurd (omega (arith, h, reason-least q))
+    row-there w scale preview y list row r t ran q (Row.Malformed k why) p h =
+        let g : RowWhen w preview y (length row) list (Row.Malformed k why) = row-exactly-when w scale preview y list row r t ran (Row.Malformed k why) .0 p in
         (g .0, refused-for list k why q (g .1) h)
-    row-there w scale y list row r t ran q Row.NotTaken p h = absurd (omega (arith, h, reason-least q))
+    row-there w scale preview y list row r t ran q Row.NotTaken p h = absurd (omega (arith, h, reason-least q))
 
     read-there : (list : List ℕ) (q : Reason) (a : Reading) → readingOf list ≡ a → readingNumbersOf a .number ≡ reasonNumber q → RefusedFor list q
     read-there list q (R.Whole n) p h = absurd (omega (arith, h, reason-least q))
@@ -221,20 +221,20 @@ verdict A c e m = (there (e .answer) (λ n r l. settled n r l), back (e .answer)
     back (Ans.Marks k) f h = absurd (omega (arith, h .0))
 
 pub row-verdict : Row-verdict
-row-verdict w scale y list row r t ran = (there r counted, back r counted)
+row-verdict w scale preview y list row r t ran = (there r counted, back r counted)
   where
-    counted : (n : ℕ) → r ≡ Row.Done n → n ≡ length (namesOf skipped (itemsOf list))
-    counted n p = let h : RowWhen w y (length row) list (Row.Done n) = row-exactly-when w scale y list row r t ran (Row.Done n) .0 p in h .3
+    counted : (n : ℕ) → r ≡ Row.Done n → n ≡ length (namesOf skipped (keptIn preview list))
+    counted n p = let h : RowWhen w preview y (length row) list (Row.Done n) = row-exactly-when w scale preview y list row r t ran (Row.Done n) .0 p in h .3
 
-    there : (a : RowAnswer) → ((n : ℕ) → a ≡ Row.Done n → n ≡ length (namesOf skipped (itemsOf list))) → wholeRow a ≡ true → (rowNumbersOf a .number ≡ 0)
-        × (length (namesOf skipped (itemsOf list)) ≡ 0)
+    there : (a : RowAnswer) → ((n : ℕ) → a ≡ Row.Done n → n ≡ length (namesOf skipped (keptIn preview list))) → wholeRow a ≡ true → (rowNumbersOf a .number ≡ 0)
+        × (length (namesOf skipped (keptIn preview list)) ≡ 0)
     there (Row.Done n) f h = (refl, sym (f n refl) ∙ eqb-true n 0 h)
     there Row.Range f h = absurd (false≢true h)
     there (Row.Malformed k why) f h = absurd (false≢true h)
     there Row.NotTaken f h = absurd (false≢true h)
 
-    back : (a : RowAnswer) → ((n : ℕ) → a ≡ Row.Done n → n ≡ length (namesOf skipped (itemsOf list))) → (rowNumbersOf a .number ≡ 0)
-        × (length (namesOf skipped (itemsOf list)) ≡ 0) → wholeRow a ≡ true
+    back : (a : RowAnswer) → ((n : ℕ) → a ≡ Row.Done n → n ≡ length (namesOf skipped (keptIn preview list))) → (rowNumbersOf a .number ≡ 0)
+        × (length (namesOf skipped (keptIn preview list)) ≡ 0) → wholeRow a ≡ true
     back (Row.Done n) f h = eq-eqb n 0 (f n refl ∙ h .1)
     back Row.Range f h = absurd (omega (arith, h .0))
     back (Row.Malformed k why) f h = absurd (omega (arith, h .0, reason-least (why .reason)))

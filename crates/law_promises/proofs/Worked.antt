@@ -15,7 +15,7 @@ use Rattle.dng.specs.declared.Answer.the-variants as Ans
 use Rattle.dng.specs.List.{readingOf, itemsOf, counted, readFrom, stepAt, nextAt, parsedAt, constantAt, trimAt, badListAt}
 use Rattle.dng.specs.Select.{inWindow, active, wholePixel}
 use Rattle.dng.specs.Repair.{anyBelow, countBelow, complete, pointAt, rectAt, listed, badValue, marksOf, markedIn, repairedIn, leftIn, moved, sound, tallyOn, repairAt, soundOn}
-use Rattle.dng.specs.Run.{Room, namesOf, takes16On, takes16From, repairOn, performAll}
+use Rattle.dng.specs.Run.{keptOf, Room, namesOf, takes16On, takes16From, repairOn, performAll}
 use Rattle.dng.specs.Answer.{Out, inRange, ranOn, runOut, f32Out, u16Out}
 use Rattle.dng.specs.Frames.{words, entry, constant, frame, listOf, out, whole}
 use Rattle.law_promises.specs.Promises.{End, Meets, u16Call, Totals}
@@ -34,7 +34,7 @@ abbrev samples : List ℕ
 samples = 10 ∷ 0 ∷ 19 ∷ []
 
 abbrev run : Room → Out ℕ
-run r = u16Out window 1 r list samples []
+run r = u16Out window 1 false r list samples []
 
 -- so many planes
 abbrev deep : ℕ → Window
@@ -50,16 +50,16 @@ pair = entry 5 (words (0 ∷ 0 ∷ 1 ∷ 0 ∷ 0 ∷ 1 ∷ 2 ∷ []))
 record Computed : Type 0 where
   enough : run (room 1) ≡ out (Ans.Done 0 1 0) (10 ∷ 15 ∷ 19 ∷ []) []
   marks : run (room 0) ≡ out (Ans.Marks 0) samples []
-  planes : u16Out (deep 2) 1 (room 1) list (10 ∷ 20 ∷ 0 ∷ 0 ∷ 19 ∷ 29 ∷ []) [] ≡ out (Ans.Done 0 1 0) (10 ∷ 20 ∷ 15 ∷ 25 ∷ 19 ∷ 29 ∷ []) []
-  later : f32Out window (record { period = 1; scale = whole 1 }) (room 1) (listOf (constant 0 ∷ pair ∷ [])) (whole 10 ∷ whole 0 ∷ whole 19 ∷ []) []
+  planes : u16Out (deep 2) 1 false (room 1) list (10 ∷ 20 ∷ 0 ∷ 0 ∷ 19 ∷ 29 ∷ []) [] ≡ out (Ans.Done 0 1 0) (10 ∷ 20 ∷ 15 ∷ 25 ∷ 19 ∷ 29 ∷ []) []
+  later : f32Out window (record { period = 1; scale = whole 1; preview = false }) (room 1) (listOf (constant 0 ∷ pair ∷ [])) (whole 10 ∷ whole 0 ∷ whole 19 ∷ []) []
       ≡ out (Ans.Marks 1) (whole 10 ∷ fin false 29 (negsuc 0) ∷ whole 19 ∷ []) []
   -- the order of the refusals: nine planes and a list that is cut, two repairs and no room for a name
-  range-first : u16Out (deep 9) 1 (room 1) (1 ∷ []) samples [] ≡ out Ans.Range samples []
-  not-taken-first : u16Out window 1 (room 1) (listOf (constant 0 ∷ constant 0 ∷ trim ∷ [])) samples [] ≡ out Ans.NotTaken samples []
+  range-first : u16Out (deep 9) 1 false (room 1) (1 ∷ []) samples [] ≡ out Ans.Range samples []
+  not-taken-first : u16Out window 1 false (room 1) (listOf (constant 0 ∷ constant 0 ∷ trim ∷ [])) samples [] ≡ out Ans.NotTaken samples []
 
 computed : Computed
 unfolding big each roundHeld readingOf itemsOf counted readFrom stepAt nextAt parsedAt constantAt trimAt badListAt inWindow active wholePixel anyBelow
-    countBelow complete pointAt rectAt listed badValue marksOf moved sound tallyOn repairAt soundOn markedIn repairedIn leftIn namesOf takes16On takes16From
+    countBelow complete pointAt rectAt listed badValue marksOf moved sound tallyOn repairAt soundOn markedIn repairedIn leftIn keptOf namesOf takes16On takes16From
     repairOn performAll inRange ranOn runOut ofInt round units odd size span climb mul div add eq
 computed = record { enough = refl; marks = refl; planes = refl; later = refl; range-first = refl; not-taken-first = refl }
 
@@ -67,5 +67,5 @@ computed = record { enough = refl; marks = refl; planes = refl; later = refl; ra
 pub worked : (e : End ℕ) → Meets (run (room 1)) (room 1) e → (e .answer ≡ Ans.Done 0 1 0) × (e .samples ≡ 10 ∷ 15 ∷ 19 ∷ [])
 worked e ran = (ran .answered ∙ ap (λ (o : Out ℕ). o .answer) (computed .enough), ran .left ∙ ap (λ (o : Out ℕ). o .samples) (computed .enough))
 
-pub worked-totals : (e : End ℕ) → Meets (run (room 1)) (room 1) e → Totals (u16Call window 1 (room 1) list samples []) 1 0
-worked-totals e ran = adds-up ℕ (u16Call window 1 (room 1) list samples []) e ran 0 1 0 (worked e ran .0)
+pub worked-totals : (e : End ℕ) → Meets (run (room 1)) (room 1) e → Totals (u16Call window 1 false (room 1) list samples []) 1 0
+worked-totals e ran = adds-up ℕ (u16Call window 1 false (room 1) list samples []) e ran 0 1 0 (worked e ran .0)

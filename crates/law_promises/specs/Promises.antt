@@ -5,7 +5,7 @@
 --     1 Determined   2 Exactly-when, Row-exactly-when   3 Keeps, Row-keeps, Numbered, Locates, By-reason
 --     4 Adds-up, Scratch   5 Row-calls, Whole-calls, Whole-calls-alike   6 Verdict, Row-verdict
 use Prim.Native.Nat.{ℕ, suc, _+_, _≤_, _<_}
-use mathlib.Core.Bool.{Bool, true, false}
+use mathlib.Core.Bool.{Bool, true, false, cond}
 use mathlib.Core.List.{List, [], _∷_}
 use mathlib.Core.Logic.{_↔_, _⊎_}
 use mathlib.Core.Path.{_≡_}
@@ -24,7 +24,7 @@ use Rattle.dng.specs.declared.Reading.{Reading}
 use Rattle.dng.specs.declared.Reading.the-variants as R
 use Rattle.dng.specs.List.{Item, reasonNumber, refusal, readingOf, itemsOf, bodyOf}
 use Rattle.dng.specs.Repair.{marksOf, markedIn, repairedIn, leftIn}
-use Rattle.dng.specs.Run.{Class, table, empty, local, repair, unapplied, classOf, Kind, f32Kind, u16Kind, skipped, skipped16, takes16, takesRows, namesOf, Progress, going, marksFull, Room, perform, performAll}
+use Rattle.dng.specs.Run.{drops, keptIn, Class, table, empty, local, repair, unapplied, classOf, Kind, f32Kind, u16Kind, skipped, skipped16, takes16, takesRows, namesOf, Progress, going, marksFull, Room, perform, performAll}
 use Rattle.dng.specs.Answer.{inRange, rowInRange, numbersOf, rowNumbersOf, readingNumbersOf, Out, runOut, takesAll, frameOf, f32Out, u16Out, Ran, RowOut, rowOut, wholeFrame, wholeRow}
 use Rattle.run_row.specs.Rows.{RowRan}
 use Rattle.law_rows.specs.RowForm.{rowPart, rowPut, rowWindowOf, RowForm·if}
@@ -40,6 +40,7 @@ pub record Call (A : Type 0) : Type 1 where
   pub skip : Class → Bool
   pub window : Window
   pub period : ℕ
+  pub preview : Bool
   pub room : Room
   pub list : List ℕ
   pub samples : List A
@@ -53,20 +54,22 @@ f32Call w set room list s names =
       skip = skipped;
       window = w;
       period = set .period;
+      preview = set .preview;
       room = room;
       list = list;
       samples = s;
       names = names;
     }
 
-abbrev pub u16Call : Window → (period : ℕ) → Room → List ℕ → List ℕ → List ℕ → Call ℕ
-u16Call w period room list s names =
+abbrev pub u16Call : Window → (period : ℕ) → (preview : Bool) → Room → List ℕ → List ℕ → List ℕ → Call ℕ
+u16Call w period preview room list s names =
     record {
       kind = u16Kind;
       takes = takes16;
       skip = skipped16;
       window = w;
       period = period;
+      preview = preview;
       room = room;
       list = list;
       samples = s;
@@ -82,7 +85,9 @@ pub record End (A : Type 0) : Type 0 where
 
 module _ {A : Type 0} where
   abbrev pub outOf : Call A → Out A
-  outOf c = runOut (c .kind) (c .takes) (c .skip) (c .window) (c .period) (c .room) (c .list) (c .samples) (c .names)
+  outOf c =
+      runOut (c .kind) (c .takes) (c .skip) (c .window) (c .period) (c .preview) (c .room) (c .list) (c .samples)
+      (c .names)
 
   -- the contract of a run
   abbrev pub Meets : Out A → Room → End A → Type 0
@@ -92,8 +97,8 @@ module _ {A : Type 0} where
 pub record Forms : Type 0 where
   pub f32 : (w : Window) (set : Settings) (room : Room) (list : List ℕ) (s : List Float) (names : List ℕ)
       → outOf (f32Call w set room list s names) ≡ f32Out w set room list s names
-  pub u16 : (w : Window) (period : ℕ) (room : Room) (list s names : List ℕ)
-      → outOf (u16Call w period room list s names) ≡ u16Out w period room list s names
+  pub u16 : (w : Window) (period : ℕ) (preview : Bool) (room : Room) (list s names : List ℕ)
+      → outOf (u16Call w period preview room list s names) ≡ u16Out w period preview room list s names
 
 -- ---- 1. determined: for every input, refusals among them, two results that meet one contract are equal
 
@@ -114,19 +119,24 @@ abbrev pub Whole : List ℕ → Type 0
 Whole list = (n : ℕ) × (readingOf list ≡ R.Whole n)
 
 module _ {A : Type 0} (c : Call A) where
+  -- what is left of the list: all of it, but for what a preview leaves out
+  abbrev pub kept : List Item
+  kept = keptIn (c .preview) (c .list)
+
   -- as many names as are to be written
   abbrev pub skips : ℕ
-  skips = length (namesOf (c .skip) (itemsOf (c .list)))
+  skips = length (namesOf (c .skip) kept)
 
   -- the run over the opcodes `is`, numbered from 0, from the lent samples
   abbrev pub performed : List Item → Progress A
-  performed is = performAll (c .kind) (c .window) (c .period) (c .room) (c .list) 0 is (going (c .samples) 0 0)
+  performed is =
+      performAll (c .kind) (c .window) (c .period) (c .room) (c .preview) (c .list) 0 is (going (c .samples) 0 0)
 
   -- none of 1, 20 to 25, 3 and 4
   pub record Goes : Type 0 where
     pub ranges : inRange (c .window) (c .period) ≡ true
     pub whole : Whole (c .list)
-    pub taken : c .takes (itemsOf (c .list)) ≡ true
+    pub taken : c .takes kept ≡ true
     pub named : skips ≤ length (c .names)
 
   abbrev pub When : Answer → Type 0
@@ -134,9 +144,9 @@ module _ {A : Type 0} (c : Call A) where
   When Ans.Range = inRange (c .window) (c .period) ≡ false
   When (Ans.Malformed k why) = (inRange (c .window) (c .period) ≡ true) × (readingOf (c .list) ≡ R.Malformed k why)
   When Ans.NotTaken = (inRange (c .window) (c .period) ≡ true) × Whole (c .list)
-      × (c .takes (itemsOf (c .list)) ≡ false)
+      × (c .takes kept ≡ false)
   When Ans.Names =
-      (inRange (c .window) (c .period) ≡ true) × Whole (c .list) × (c .takes (itemsOf (c .list)) ≡ true)
+      (inRange (c .window) (c .period) ≡ true) × Whole (c .list) × (c .takes kept ≡ true)
       × (length (c .names) < skips)
   When (Ans.Marks k) = Goes × ((t : List A) × (performed (itemsOf (c .list)) ≡ marksFull t k))
 
@@ -144,7 +154,7 @@ module _ {A : Type 0} (c : Call A) where
   abbrev pub marksOn : Item → List A → ℕ → Bool
   marksOn i t = marksOf (c .kind .none) (c .window) (c .kind .isBad) (i .op) (bodyOf (c .list) (i .entry)) t
 
-  -- opcode k is a repair, and is reached: those before it have all run, and left the samples t
+  -- opcode k is a repair that is not left out, and is reached: those before it have all run, and left the samples t
   pub record Reached (k : ℕ) (t : List A) : Type 0 where
     pub repaired : ℕ
     pub left : ℕ
@@ -153,6 +163,7 @@ module _ {A : Type 0} (c : Call A) where
     pub rest : List Item
     pub stands : drop k (itemsOf (c .list)) ≡ item ∷ rest
     pub repairs : classOf (item .op) ≡ repair
+    pub shown : drops (c .preview) item ≡ false
 
   -- 5: it marks more distinct positions than the u32 scratch has entries
   pub record MarksOver (k : ℕ) (t : List A) : Type 0 where
@@ -171,18 +182,21 @@ abbrev pub Exactly-when : Type 1
 Exactly-when = (A : Type 0) (c : Call A) (e : End A) → Meets (outOf c) (c .room) e → Exactly c e
 
 -- a row of n samples: 0, 1, 20 to 25 or 3
-abbrev pub RowWhen : RowWindow → (y n : ℕ) → List ℕ → RowAnswer → Type 0
-RowWhen w y n list (Row.Done m) =
-    (rowInRange w y n ≡ true) × Whole list × (takesRows (itemsOf list) ≡ true)
-    × (m ≡ length (namesOf skipped (itemsOf list)))
-RowWhen w y n list Row.Range = rowInRange w y n ≡ false
-RowWhen w y n list (Row.Malformed k why) = (rowInRange w y n ≡ true) × (readingOf list ≡ R.Malformed k why)
-RowWhen w y n list Row.NotTaken = (rowInRange w y n ≡ true) × Whole list × (takesRows (itemsOf list) ≡ false)
+abbrev pub RowWhen : RowWindow → (preview : Bool) → (y n : ℕ) → List ℕ → RowAnswer → Type 0
+RowWhen w preview y n list (Row.Done m) =
+    (rowInRange w y n ≡ true) × Whole list × (takesRows (keptIn preview list) ≡ true)
+    × (m ≡ length (namesOf skipped (keptIn preview list)))
+RowWhen w preview y n list Row.Range = rowInRange w y n ≡ false
+RowWhen w preview y n list (Row.Malformed k why) = (rowInRange w y n ≡ true) × (readingOf list ≡ R.Malformed k why)
+RowWhen w preview y n list Row.NotTaken =
+    (rowInRange w y n ≡ true) × Whole list × (takesRows (keptIn preview list) ≡ false)
 
 abbrev pub Row-exactly-when : Type 0
 Row-exactly-when =
-    (w : RowWindow) (scale : Float) (y : ℕ) (list : List ℕ) (row : List Float) (r : RowAnswer) (t : List Float)
-    → RowRan (rowOut w scale y list row) r t → (a : RowAnswer) → (r ≡ a) ↔ RowWhen w y (length row) list a
+    (w : RowWindow) (scale : Float) (preview : Bool) (y : ℕ) (list : List ℕ) (row : List Float) (r : RowAnswer)
+    (t : List Float)
+    → RowRan (rowOut w scale preview y list row) r t → (a : RowAnswer)
+    → (r ≡ a) ↔ RowWhen w preview y (length row) list a
 
 -- ---- 3. kept: what is unchanged, and what is 0, by the answer's number
 
@@ -192,7 +206,7 @@ pub record Kept {A : Type 0} (c : Call A) (e : End A) : Type 0 where
   -- any refusal
   pub names : 1 ≤ numbersOf (e .answer) .number → e .names ≡ c .names
   -- 0: one byte for each skipped opcode in front, and what stood after them
-  pub written : (n r l : ℕ) → e .answer ≡ Ans.Done n r l → take n (e .names) ≡ namesOf (c .skip) (itemsOf (c .list))
+  pub written : (n r l : ℕ) → e .answer ≡ Ans.Done n r l → take n (e .names) ≡ namesOf (c .skip) (kept c)
   pub after : (n r l : ℕ) → e .answer ≡ Ans.Done n r l → drop n (e .names) ≡ drop n (c .names)
   -- every return
   pub marks : e .marks ≡ replicate (c .room .marks) 0
@@ -202,8 +216,9 @@ Keeps = (A : Type 0) (c : Call A) (e : End A) → Meets (outOf c) (c .room) e �
 
 abbrev pub Row-keeps : Type 0
 Row-keeps =
-    (w : RowWindow) (scale : Float) (y : ℕ) (list : List ℕ) (row : List Float) (r : RowAnswer) (t : List Float)
-    → RowRan (rowOut w scale y list row) r t → ((n : ℕ) → r ≡ Row.Done n → ⊥) → t ≡ row
+    (w : RowWindow) (scale : Float) (preview : Bool) (y : ℕ) (list : List ℕ) (row : List Float) (r : RowAnswer)
+    (t : List Float)
+    → RowRan (rowOut w scale preview y list row) r t → ((n : ℕ) → r ≡ Row.Done n → ⊥) → t ≡ row
 
 -- the papers' numbers of every answer: names and totals 0 on a refusal, the entry's number and the offset 0 but in 20
 -- to 25, the opcode's 0 but in 5
@@ -248,8 +263,9 @@ pub record By-reason : Type 1 where
   pub run : (A : Type 0) (c : Call A) (e : End A) → Meets (outOf c) (c .room) e → (q : Reason)
       → (numbersOf (e .answer) .number ≡ reasonNumber q)
       ↔ ((inRange (c .window) (c .period) ≡ true) × RefusedFor (c .list) q)
-  pub row : (w : RowWindow) (scale : Float) (y : ℕ) (list : List ℕ) (row : List Float) (r : RowAnswer) (t : List Float)
-      → RowRan (rowOut w scale y list row) r t → (q : Reason)
+  pub row : (w : RowWindow) (scale : Float) (preview : Bool) (y : ℕ) (list : List ℕ) (row : List Float) (r : RowAnswer)
+    (t : List Float)
+      → RowRan (rowOut w scale preview y list row) r t → (q : Reason)
       → (rowNumbersOf r .number ≡ reasonNumber q) ↔ ((rowInRange w y (length row) ≡ true) × RefusedFor list q)
   pub reading : (list : List ℕ) (q : Reason)
       → (readingNumbersOf (readingOf list) .number ≡ reasonNumber q) ↔ RefusedFor list q
@@ -265,15 +281,16 @@ module _ {A : Type 0} (c : Call A) (count : (ℕ → Bool) → ℕ) where
   countOn repair i t = count (marksOn c i t)
   countOn unapplied i t = 0
 
+  -- one that is dropped counts for nothing
   abbrev pub countAt : Item → Progress A → ℕ
-  countAt i (going t r l) = countOn (classOf (i .op)) i t
+  countAt i (going t r l) = cond (drops (c .preview) i) 0 (countOn (classOf (i .op)) i t)
   countAt i (marksFull t k) = 0
 
   -- the count of each repair's marks, on the samples as they are by then, summed along the run from opcode k on
   unfoldable pub sumFrom : ℕ → List Item → Progress A → ℕ
   sumFrom k [] g = 0
   sumFrom k (i ∷ is) g = countAt i g + sumFrom (suc k) is
-      (perform (c .kind) (c .window) (c .period) (c .room) (c .list) i k g)
+      (cond (drops (c .preview) i) g (perform (c .kind) (c .window) (c .period) (c .room) (c .list) i k g))
 
   abbrev pub sumOver : ℕ
   sumOver = sumFrom 0 (itemsOf (c .list)) (going (c .samples) 0 0)
@@ -297,6 +314,7 @@ withRoom c room =
       skip = c .skip;
       window = c .window;
       period = c .period;
+      preview = c .preview;
       room = room;
       list = c .list;
       samples = c .samples;
@@ -315,18 +333,19 @@ Scratch =
 -- row calls on the rows ys of a window, one after another through one list of samples: what each answered, and the
 -- samples before and after.
 -- Of each call no more is known than its contract.
-pub data RowCalls (w : Window) (scale : Float) (list : List ℕ) : List ℕ → List RowAnswer → List Float → List Float
-    → Type 0 where
-  done : {s : List Float} → RowCalls w scale list [] [] s s
+pub data RowCalls (w : Window) (scale : Float) (preview : Bool) (list : List ℕ)
+    : List ℕ → List RowAnswer → List Float → List Float → Type 0 where
+  done : {s : List Float} → RowCalls w scale preview list [] [] s s
   call : {y : ℕ} {ys : List ℕ} {r : RowAnswer} {rs : List RowAnswer} {s row t : List Float}
-      → RowRan (rowOut (rowWindowOf w) scale (w .y0 + y) list (rowPart w y s)) r row
-      → RowCalls w scale list ys rs (rowPut w y row s) t
-      → RowCalls w scale list (y ∷ ys) (r ∷ rs) s t
+      → RowRan (rowOut (rowWindowOf w) scale preview (w .y0 + y) list (rowPart w y s)) r row
+      → RowCalls w scale preview list ys rs (rowPut w y row s) t
+      → RowCalls w scale preview list (y ∷ ys) (r ∷ rs) s t
 
 -- every row call answers 0, the run answers 0, and both leave the same samples
-pub record Rows-agree (list ys : List ℕ) (rs : List RowAnswer) (t : List Float) (e : End Float) : Type 0 where
-  pub calls : rs ≡ replicate (length ys) (Row.Done (length (namesOf skipped (itemsOf list))))
-  pub run : e .answer ≡ Ans.Done (length (namesOf skipped (itemsOf list))) 0 0
+pub record Rows-agree (preview : Bool) (list ys : List ℕ) (rs : List RowAnswer) (t : List Float) (e : End Float)
+    : Type 0 where
+  pub calls : rs ≡ replicate (length ys) (Row.Done (length (namesOf skipped (keptIn preview list))))
+  pub run : e .answer ≡ Ans.Done (length (namesOf skipped (keptIn preview list))) 0 0
   pub samples : t ≡ e .samples
 
 abbrev pub Row-calls : Type 0
@@ -334,8 +353,8 @@ Row-calls =
     (w : Window) (set : Settings) (room : Room) (list : List ℕ) (s : List Float) (names ys : List ℕ)
     (rs : List RowAnswer) (t : List Float) (e : End Float)
     → RowForm·if w set list names ys → Meets (f32Out w set room list s names) room e
-    → RowCalls w (set .scale) list ys rs s t
-    → Rows-agree list ys rs t e
+    → RowCalls w (set .scale) (set .preview) list ys rs s t
+    → Rows-agree (set .preview) list ys rs t e
 
 -- both runs answer 0 with the same totals, the samples are the f32 run's rounded once and held, and the names written
 -- are its names but for empty tables
@@ -351,27 +370,27 @@ pub record Wholes-agree (e : End ℕ) (e′ : End Float) : Type 0 where
 
 abbrev pub Whole-calls : Type 0
 Whole-calls =
-    (w : Window) (period : ℕ) (room room′ : Room) (list s names names′ : List ℕ) (e : End ℕ) (e′ : End Float)
-    → WholeForm·if w period room room′ list s names names′
-    → Meets (u16Out w period room list s names) room e → Meets (f32Out w (atOne period) room′ list (widened s) names′)
-    room′ e′
+    (w : Window) (period : ℕ) (preview : Bool) (room room′ : Room) (list s names names′ : List ℕ) (e : End ℕ)
+    (e′ : End Float) → WholeForm·if w period preview room room′ list s names names′
+    → Meets (u16Out w period preview room list s names) room e
+    → Meets (f32Out w (atOne period preview) room′ list (widened s) names′) room′ e′
     → Wholes-agree e e′
 
 -- The same with one scratch for both, however short, and on 1, 20 to 25 and 5 too: the f32 run answers what the
 -- whole-number form answers, but for the number of names.
-pub record Wholes-alike (list : List ℕ) (e : End ℕ) (e′ : End Float) : Type 0 where
-  pub answers : e′ .answer ≡ renamed (length (namesOf skipped (itemsOf list))) (e .answer)
+pub record Wholes-alike (preview : Bool) (list : List ℕ) (e : End ℕ) (e′ : End Float) : Type 0 where
+  pub answers : e′ .answer ≡ renamed (length (namesOf skipped (keptIn preview list))) (e .answer)
   pub samples : e .samples ≡ narrowed (e′ .samples)
   pub named : (n r l : ℕ) → e .answer ≡ Ans.Done n r l
-      → take n (e .names) ≡ withoutTables (take (length (namesOf skipped (itemsOf list))) (e′ .names))
+      → take n (e .names) ≡ withoutTables (take (length (namesOf skipped (keptIn preview list))) (e′ .names))
 
 abbrev pub Whole-calls-alike : Type 0
 Whole-calls-alike =
-    (w : Window) (period : ℕ) (room : Room) (list s names names′ : List ℕ) (e : End ℕ) (e′ : End Float)
-    → Together·if list s names names′
-    → Meets (u16Out w period room list s names) room e → Meets (f32Out w (atOne period) room list (widened s) names′)
-    room e′
-    → Wholes-alike list e e′
+    (w : Window) (period : ℕ) (preview : Bool) (room : Room) (list s names names′ : List ℕ) (e : End ℕ)
+    (e′ : End Float) → Together·if preview list s names names′
+    → Meets (u16Out w period preview room list s names) room e
+    → Meets (f32Out w (atOne period preview) room list (widened s) names′) room e′
+    → Wholes-alike preview list e e′
 
 -- ---- 6. the verdict: a frame is whole when a run answers 0 and skips nothing
 
@@ -383,6 +402,7 @@ Verdict =
 -- a row call names nothing, and its answer carries the count
 abbrev pub Row-verdict : Type 0
 Row-verdict =
-    (w : RowWindow) (scale : Float) (y : ℕ) (list : List ℕ) (row : List Float) (r : RowAnswer) (t : List Float)
-    → RowRan (rowOut w scale y list row) r t
-    → (wholeRow r ≡ true) ↔ ((rowNumbersOf r .number ≡ 0) × (length (namesOf skipped (itemsOf list)) ≡ 0))
+    (w : RowWindow) (scale : Float) (preview : Bool) (y : ℕ) (list : List ℕ) (row : List Float) (r : RowAnswer)
+    (t : List Float)
+    → RowRan (rowOut w scale preview y list row) r t
+    → (wholeRow r ≡ true) ↔ ((rowNumbersOf r .number ≡ 0) × (length (namesOf skipped (keptIn preview list)) ≡ 0))

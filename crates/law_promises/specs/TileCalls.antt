@@ -1,6 +1,7 @@
 -- Document 02, M-110, of the calls: tiles give the frame. Of each run no more is known than its contract, and each has
 -- its own period, scratch and skip buffer. Over any sample kind; proofs/TileCalls proves it.
 use Prim.Native.Nat.{ℕ, _≤_}
+use mathlib.Core.Bool.{Bool}
 use mathlib.Core.List.{List, [], _∷_}
 use mathlib.Core.Path.{_≡_}
 use lib.Ieee.{Float}
@@ -26,6 +27,7 @@ module _ {A : Type 0} (c : Call A) where
         skip = c .skip;
         window = tileWindow (c .window) t;
         period = period;
+        preview = c .preview;
         room = room;
         list = c .list;
         samples = tilePart (c .window) t s;
@@ -37,11 +39,12 @@ pub record Tile-runs : Type 1 where
   pub f32 : (w : Window) (set : Settings) (room : Room) (list : List ℕ) (s : List Float) (names : List ℕ) (t : Tile)
       (u : List Float) (period : ℕ) (own : Room) (buffer : List ℕ)
       → tileCall (f32Call w set room list s names) t u period own buffer
-      ≡ f32Call (tileWindow w t) (record { period = period; scale = set .scale }) own list (tilePart w t u) buffer
-  pub u16 : (w : Window) (period : ℕ) (room : Room) (list s names : List ℕ) (t : Tile) (u : List ℕ) (q : ℕ) (own : Room)
-      (buffer : List ℕ)
-      → tileCall (u16Call w period room list s names) t u q own buffer
-      ≡ u16Call (tileWindow w t) q own list (tilePart w t u) buffer
+      ≡ f32Call (tileWindow w t) (record { period = period; scale = set .scale; preview = set .preview }) own list
+      (tilePart w t u) buffer
+  pub u16 : (w : Window) (period : ℕ) (preview : Bool) (room : Room) (list s names : List ℕ) (t : Tile) (u : List ℕ)
+      (q : ℕ) (own : Room) (buffer : List ℕ)
+      → tileCall (u16Call w period preview room list s names) t u q own buffer
+      ≡ u16Call (tileWindow w t) q preview own list (tilePart w t u) buffer
 
 -- runs on the tiles ts, one after another through one list of samples: what each answered, and the samples before and
 -- after
@@ -62,5 +65,5 @@ pub record Tiles-agree {A : Type 0} (c : Call A) (ts : List Tile) (rs : List Ans
 abbrev pub Tile-calls : Type 1
 Tile-calls =
     (A : Type 0) (c : Call A) (ts : List Tile) (rs : List Answer) (u : List A) (e : End A)
-    → Suits (formOf c) (c .list) (c .names) → Tiles·if (c .window) (c .period) (length (c .samples)) ts
+    → Suits (formOf c) (c .preview) (c .list) (c .names) → Tiles·if (c .window) (c .period) (length (c .samples)) ts
     → Meets (outOf c) (c .room) e → TileCalls c ts rs (c .samples) u → Tiles-agree c ts rs u e

@@ -21,16 +21,16 @@ use Rattle.dng.specs.declared.Reading.the-variants as R
 use Rattle.dng.specs.List.{Item, readingOf, itemsOf}
 use Rattle.dng.specs.Select.{Rule, planeOf, columnOf, rowOf, inWindow, wholePixel, onWindow, onRow}
 use Rattle.dng.specs.Value.{ruleOf}
-use Rattle.dng.specs.Run.{Class, Kind, Room, namesOf, skipped, takesRows, f32Kind, going, performAll, rowOn}
+use Rattle.dng.specs.Run.{keptIn, Class, Kind, Room, namesOf, skipped, takesRows, f32Kind, going, performAll, rowOn}
 use Rattle.dng.specs.Answer.{inRange, rowInRange, frameOf, rowFrameOf, RowOut, rowRead, rowOut}
 use Rattle.dng.specs.Answer.{Out, unchanged, written, finished, ranOn, readOut, runOut, takesAll, f32Out}
 use Rattle.law_rows.specs.NoRepair.{noRepair}
 use Rattle.law_rows.specs.RowForm.{rowWindowOf}
 use Rattle.law_rows.proofs.Fused.{allOf, both-true, rows-no-repair, appliedOf, applied-all, perform-all, row-all, quiet}
 
--- what a list does to a sample
-abbrev pub rulesOf : Window → (scale : Float) → List ℕ → Rule Float
-rulesOf w scale list = allOf (ruleOf (frameOf w scale)) list (itemsOf list)
+-- what a list does to a sample, or what a preview leaves of it
+abbrev pub rulesOf : Window → (scale : Float) → (preview : Bool) → List ℕ → Rule Float
+rulesOf w scale preview list = allOf (ruleOf (frameOf w scale)) list (keptIn preview list)
 
 -- ---- the ranges
 
@@ -119,66 +119,66 @@ row-ranged w period y n g high fits =
 -- ---- the answers
 
 -- a row call that is done, with what it leaves
-abbrev pub rowDone : List ℕ → List Float → RowOut
-rowDone list row = record { answer = Row.Done (length (namesOf skipped (itemsOf list))); row = row }
+abbrev pub rowDone : (preview : Bool) → List ℕ → List Float → RowOut
+rowDone preview list row = record { answer = Row.Done (length (namesOf skipped (keptIn preview list))); row = row }
 
 -- a run that is done, with nothing repaired and nothing left
-abbrev pub runDone : {A : Type 0} → (Class → Bool) → List ℕ → (names : List ℕ) → List A → Out A
-runDone skip list names s =
-    record { answer = Ans.Done (length (namesOf skip (itemsOf list))) 0 0; samples = s; names = written (namesOf skip (itemsOf list)) names }
+abbrev pub runDone : {A : Type 0} → (Class → Bool) → (preview : Bool) → List ℕ → (names : List ℕ) → List A → Out A
+runDone skip preview list names s =
+    record { answer = Ans.Done (length (namesOf skip (keptIn preview list))) 0 0; samples = s; names = written (namesOf skip (keptIn preview list)) names }
 
 -- a row call in range, on a list that is read whole and taken
-pub row-call : (rw : RowWindow) (scale : Float) (y : ℕ) (list : List ℕ) (row : List Float) (m : ℕ)
-    → rowInRange rw y (length row) ≡ true → readingOf list ≡ R.Whole m → takesRows (itemsOf list) ≡ true
-    → rowOut rw scale y list row
-    ≡ rowDone list (each (onRow (rw .x0) (rw .planes) y (length row) (allOf (ruleOf (rowFrameOf rw scale)) list (itemsOf list))) row)
+pub row-call : (rw : RowWindow) (scale : Float) (preview : Bool) (y : ℕ) (list : List ℕ) (row : List Float) (m : ℕ)
+    → rowInRange rw y (length row) ≡ true → readingOf list ≡ R.Whole m → takesRows (keptIn preview list) ≡ true
+    → rowOut rw scale preview y list row
+    ≡ rowDone preview list (each (onRow (rw .x0) (rw .planes) y (length row) (allOf (ruleOf (rowFrameOf rw scale)) list (keptIn preview list))) row)
 unfolding rowOut
-row-call rw scale y list row m ranges whole taken =
-    ap (λ (b : Bool). cond b (rowRead rw scale y list row (readingOf list)) (record { answer = Row.Range; row = row })) ranges
-    ∙ ap (rowRead rw scale y list row) whole
+row-call rw scale preview y list row m ranges whole taken =
+    ap (λ (b : Bool). cond b (rowRead rw scale preview y list row (readingOf list)) (record { answer = Row.Range; row = row })) ranges
+    ∙ ap (rowRead rw scale preview y list row) whole
     ∙ ap (λ (b : Bool). cond b did (record { answer = Row.NotTaken; row = row })) taken
-    ∙ ap (rowDone list) (row-all (rowFrameOf rw scale) (rw .x0) (rw .planes) y list (itemsOf list) row)
+    ∙ ap (rowDone preview list) (row-all (rowFrameOf rw scale) (rw .x0) (rw .planes) y list (keptIn preview list) row)
   where
     did : RowOut
-    did = rowDone list (rowOn (rowFrameOf rw scale) (rw .x0) (rw .planes) y list (itemsOf list) row)
+    did = rowDone preview list (rowOn (rowFrameOf rw scale) (rw .x0) (rw .planes) y list (keptIn preview list) row)
 
 -- a run of any form, in range, on a list that is read whole and taken, that has no repair and finds room for its names
-pub window-run : {A : Type 0} (kind : Kind A) (takes : List Item → Bool) (skip : Class → Bool) (w : Window) (period : ℕ) (room : Room)
-    (list : List ℕ) (s : List A) (names : List ℕ) (m : ℕ)
-    → inRange w period ≡ true → readingOf list ≡ R.Whole m → takes (itemsOf list) ≡ true → noRepair (itemsOf list) ≡ true
-    → length (namesOf skip (itemsOf list)) ≤ length names
-    → runOut kind takes skip w period room list s names
-    ≡ runDone skip list names (each (onWindow w (length s) (appliedOf kind list (itemsOf list))) s)
+pub window-run : {A : Type 0} (kind : Kind A) (takes : List Item → Bool) (skip : Class → Bool) (w : Window) (period : ℕ) (preview : Bool)
+    (room : Room) (list : List ℕ) (s : List A) (names : List ℕ) (m : ℕ)
+    → inRange w period ≡ true → readingOf list ≡ R.Whole m → takes (keptIn preview list) ≡ true → noRepair (keptIn preview list) ≡ true
+    → length (namesOf skip (keptIn preview list)) ≤ length names
+    → runOut kind takes skip w period preview room list s names
+    ≡ runDone skip preview list names (each (onWindow w (length s) (appliedOf kind list (keptIn preview list))) s)
 unfolding runOut ranOn
-window-run {A} kind takes skip w period room list s names m ranges whole taken without roomy =
+window-run {A} kind takes skip w period preview room list s names m ranges whole taken without roomy =
     ap (λ (b : Bool). cond b (read (readingOf list)) (unchanged Ans.Range s names)) ranges
     ∙ ap read whole
     ∙ ap (λ (b : Bool). cond b (cond (leb (length skips) (length names)) did (unchanged Ans.Names s names)) (unchanged Ans.NotTaken s names)) taken
     ∙ ap (λ (b : Bool). cond b did (unchanged Ans.Names s names)) (le-leb _ _ roomy)
-    ∙ ap (finished skips names) (perform-all kind w period room list (itemsOf list) 0 s 0 0 without)
+    ∙ ap (finished skips names) (perform-all kind w period room preview list (itemsOf list) 0 s 0 0 without)
   where
     skips : List ℕ
-    skips = namesOf skip (itemsOf list)
+    skips = namesOf skip (keptIn preview list)
 
     read : Reading → Out A
-    read r = readOut kind takes skip w period room list s names r
+    read r = readOut kind takes skip w period preview room list s names r
 
     did : Out A
-    did = finished skips names (performAll kind w period room list 0 (itemsOf list) (going s 0 0))
+    did = finished skips names (performAll kind w period room preview list 0 (itemsOf list) (going s 0 0))
 
 -- the f32 run on a list that the row form takes
 pub window-call : (w : Window) (set : Settings) (room : Room) (list : List ℕ) (s : List Float) (names : List ℕ) (m : ℕ)
-    → inRange w (set .period) ≡ true → readingOf list ≡ R.Whole m → takesRows (itemsOf list) ≡ true
-    → length (namesOf skipped (itemsOf list)) ≤ length names
-    → f32Out w set room list s names ≡ runDone skipped list names (each (onWindow w (length s) (rulesOf w (set .scale) list)) s)
+    → inRange w (set .period) ≡ true → readingOf list ≡ R.Whole m → takesRows (keptIn (set .preview) list) ≡ true
+    → length (namesOf skipped (keptIn (set .preview) list)) ≤ length names
+    → f32Out w set room list s names ≡ runDone skipped (set .preview) list names (each (onWindow w (length s) (rulesOf w (set .scale) (set .preview) list)) s)
 unfolding onWindow
 window-call w set room list s names m ranges whole taken roomy =
-    window-run kind takesAll skipped w (set .period) room list s names m ranges whole refl (rows-no-repair (itemsOf list) taken) roomy
-    ∙ ap (runDone skipped list names)
+    window-run kind takesAll skipped w (set .period) (set .preview) room list s names m ranges whole refl (rows-no-repair (keptIn (set .preview) list) taken) roomy
+    ∙ ap (runDone skipped (set .preview) list names)
     (each-agree _ _ s
     (λ j v q.
     ap (λ (u : Float). cond (inWindow w j) u v)
-    (applied-all kind (quiet (frameOf w (set .scale))) list (itemsOf list) taken
+    (applied-all kind (quiet (frameOf w (set .scale))) list (keptIn (set .preview) list) taken
     (wholePixel (w .planes) (length s) j) (w .y0 + rowOf w j) (w .x0 + columnOf w j) (planeOf w j) v)))
   where
     kind : Kind Float

@@ -15,7 +15,7 @@ use Rattle.dng.specs.declared.Opcode.the-variants.{WarpRectilinear, WarpFisheye
 use Rattle.dng.specs.List.{Item, bodyOf}
 use Rattle.dng.specs.Select.{Rule, onWindow, onRow}
 use Rattle.dng.specs.Value.{Frame, ruleOf}
-use Rattle.dng.specs.Run.{Class, table, empty, local, repair, unapplied, classOf, rowTakes, takesRows}
+use Rattle.dng.specs.Run.{drops, keptOf, Class, table, empty, local, repair, unapplied, classOf, rowTakes, takesRows}
 use Rattle.dng.specs.Run.{Kind, going, Room, performOn, perform, performAll, rowOn}
 use Rattle.law_rows.specs.NoRepair.{noRepairIn, noRepair, Rows-no-repair}
 use Rattle.law_rows.proofs.Place.{on-window-both, on-window-none}
@@ -84,7 +84,7 @@ module _ {A : Type 0} (kind : Kind A) where
       one repair e h = absurd (false≢true h)
       one unapplied e h = sym (quiet (i .op) b e whole y x k v)
 
-  module _ (w : Window) (period : ℕ) (room : Room) (list : List ℕ) where
+  module _ (w : Window) (period : ℕ) (room : Room) (preview : Bool) (list : List ℕ) where
     -- one opcode that is no repair
     perform-one : (i : Item) (k : ℕ) (s : List A) (r t : ℕ) → noRepairIn (classOf (i .op)) ≡ true
         → perform kind w period room list i k (going s r t)
@@ -107,21 +107,23 @@ module _ {A : Type 0} (kind : Kind A) where
         on repair h = absurd (false≢true h)
         on unapplied h = none
 
-    -- all opcodes of a list without a repair: one rule over the window, nothing repaired and nothing left
-    pub perform-all : (is : List Item) (k : ℕ) (s : List A) (r t : ℕ) → noRepair is ≡ true
-        → performAll kind w period room list k is (going s r t) ≡ going (each (onWindow w (length s) (appliedOf list is)) s) r t
-    unfolding performAll noRepair appliedOf
+    -- all opcodes that are left of a list, without a repair: one rule over the window, nothing repaired and nothing left
+    pub perform-all : (is : List Item) (k : ℕ) (s : List A) (r t : ℕ) → noRepair (keptOf preview is) ≡ true
+        → performAll kind w period room preview list k is (going s r t)
+        ≡ going (each (onWindow w (length s) (appliedOf list (keptOf preview is))) s) r t
+    unfolding performAll keptOf noRepair appliedOf
     perform-all [] k s r t h =
         ap (λ (u : List A). going u r t)
         (sym (each-none _ s (λ j v q. on-window-none w (length s) (appliedOf list []) j v (λ whole y x p u. refl))))
-    perform-all (i ∷ is) k s r t h =
-        let taken = both-true (noRepairIn (classOf (i .op))) (noRepair is) h in
-        ap (performAll kind w period room list (suc k) is) (perform-one i k s r t (taken .0))
-        ∙ perform-all is (suc k) (each F s) r t (taken .1)
-        ∙ ap (λ (n : ℕ). going (each (onWindow w n G) (each F s)) r t) (length-each F s)
-        ∙ ap (λ (u : List A). going u r t)
-        (each-each F (onWindow w (length s) G) s ∙ each-agree _ _ s (λ j v q. on-window-both w (length s) f G j v))
+    perform-all (i ∷ is) k s r t h = one (λ u q. perform-all is (suc k) u r t q) (drops preview i) h
       where
+        kept : List Item
+        kept = keptOf preview is
+
+        Rest : Type 0
+        Rest = (u : List A) → noRepair kept ≡ true
+            → performAll kind w period room preview list (suc k) is (going u r t) ≡ going (each (onWindow w (length u) (appliedOf list kept)) u) r t
+
         f : Rule A
         f = appliedOn (classOf (i .op)) (i .op) (bodyOf list (i .entry))
 
@@ -129,7 +131,19 @@ module _ {A : Type 0} (kind : Kind A) where
         F = onWindow w (length s) f
 
         G : Rule A
-        G = appliedOf list is
+        G = appliedOf list kept
+
+        one : Rest → (d : Bool) → noRepair (cond d kept (i ∷ kept)) ≡ true
+            → performAll kind w period room preview list (suc k) is (cond d (going s r t) (perform kind w period room list i k (going s r t)))
+            ≡ going (each (onWindow w (length s) (appliedOf list (cond d kept (i ∷ kept)))) s) r t
+        one rest true h = rest s h
+        one rest false h =
+            let taken = both-true (noRepairIn (classOf (i .op))) (noRepair kept) h in
+            ap (performAll kind w period room preview list (suc k) is) (perform-one i k s r t (taken .0))
+            ∙ rest (each F s) (taken .1)
+            ∙ ap (λ (n : ℕ). going (each (onWindow w n G) (each F s)) r t) (length-each F s)
+            ∙ ap (λ (u : List A). going u r t)
+            (each-each F (onWindow w (length s) G) s ∙ each-agree _ _ s (λ j v q. on-window-both w (length s) f G j v))
 
 -- a row on its own
 pub row-all : (fr : Frame) (x0 p y : ℕ) (list : List ℕ) (is : List Item) (row : List Float)

@@ -18,7 +18,7 @@ use Rattle.dng.specs.declared.Answer.the-variants as Ans
 use Rattle.dng.specs.List.{readingOf, itemsOf, counted, readFrom, stepAt, nextAt, parsedAt, countedAt}
 use Rattle.dng.specs.Select.{onRegion, onWindow, onRow, inWindow, active, wholePixel}
 use Rattle.dng.specs.Value.{nth, scaled}
-use Rattle.dng.specs.Run.{namesOf, takesRows, performAll, rowOn, Room}
+use Rattle.dng.specs.Run.{keptOf, namesOf, takesRows, performAll, rowOn, Room}
 use Rattle.dng.specs.Answer.{inRange, rowInRange, ranOn, runOut, f32Out, rowOut}
 use Rattle.law_rows.specs.RowForm.{occurs, Once, allRows, RowForm, RowForm·if}
 use Rattle.law_rows.proofs.Theorem.{row-form}
@@ -39,7 +39,7 @@ abbrev whole : ℕ → Float
 whole n = ofInt binary32 (pos n)
 
 abbrev settings : Settings
-settings = record { period = 1; scale = whole 1 }
+settings = record { period = 1; scale = whole 1; preview = false }
 
 abbrev room : Room
 room = record { marks = 0 }
@@ -65,7 +65,7 @@ once (suc (suc y)) =
 
 -- the hypotheses hold
 pub held : RowForm·if window settings list [] order
-unfolding big readingOf itemsOf counted readFrom stepAt nextAt parsedAt countedAt namesOf takesRows inRange
+unfolding big readingOf itemsOf counted readFrom stepAt nextAt parsedAt countedAt keptOf namesOf takesRows inRange
 held =
     record {
       ranges = refl;
@@ -83,12 +83,12 @@ pub worked : RowForm window settings room list before [] order
 worked = row-form window settings room list before [] order held
 
 -- both sides, computed
-pub rows-worked : allRows window (settings .scale) list order before ≡ after
+pub rows-worked : allRows window (settings .scale) (settings .preview) list order before ≡ after
 unfolding big each selects onColumns readingOf itemsOf counted readFrom stepAt nextAt parsedAt countedAt onRegion onWindow onRow inWindow active wholePixel nth
-    scaled namesOf takesRows performAll rowOn inRange rowInRange ranOn runOut rowOut allRows ofInt round units odd size span climb mul ofBits
+    scaled keptOf namesOf takesRows performAll rowOn inRange rowInRange ranOn runOut rowOut allRows ofInt round units odd size span climb mul ofBits
 rows-worked = refl
 
 pub run-worked : f32Out window settings room list before [] ≡ record { answer = Ans.Done 0 0 0; samples = after; names = [] }
 unfolding big each selects onColumns readingOf itemsOf counted readFrom stepAt nextAt parsedAt countedAt onRegion onWindow onRow inWindow active wholePixel nth
-    scaled namesOf takesRows performAll rowOn inRange rowInRange ranOn runOut rowOut allRows ofInt round units odd size span climb mul ofBits
+    scaled keptOf namesOf takesRows performAll rowOn inRange rowInRange ranOn runOut rowOut allRows ofInt round units odd size span climb mul ofBits
 run-worked = refl

@@ -1,6 +1,7 @@
 -- Demand 3, the row form: every row once, in any order, under its own number, equals the whole-window run. Document 01,
 -- 'Taken and left', the row form; data that ends early included. The run goes opcode by opcode over the window
--- (specs/Run of dng); here each row goes through all opcodes on its own.
+-- (specs/Run of dng); here each row goes through all opcodes on its own. In a preview both go by what is left of the
+-- list (document 02, M-111).
 use Prim.Native.Nat.{ℕ, _+_, _-_, _*_, _≤_, _<_, min}
 use mathlib.Core.Bool.{Bool, true, cond}
 use mathlib.Core.List.{List, [], _∷_, _++_}
@@ -14,8 +15,8 @@ use Rattle.dng.specs.declared.Settings.{Settings}
 use Rattle.dng.specs.declared.Answer.the-variants as Ans
 use Rattle.dng.specs.declared.RowAnswer.the-variants as Row
 use Rattle.dng.specs.declared.Reading.the-variants as R
-use Rattle.dng.specs.List.{readingOf, itemsOf}
-use Rattle.dng.specs.Run.{Room, namesOf, skipped, takesRows}
+use Rattle.dng.specs.List.{readingOf}
+use Rattle.dng.specs.Run.{keptIn, Room, namesOf, skipped, takesRows}
 use Rattle.dng.specs.Answer.{inRange, f32Out, rowOut}
 
 -- how often y stands in ys
@@ -54,34 +55,35 @@ rowWindowOf w =
     }
 
 -- one row call on row y of the window, under its own number y0 + y
-abbrev pub oneRow : Window → (scale : Float) → List ℕ → (y : ℕ) → List Float → List Float
-oneRow w scale list y s = rowPut w y (rowOut (rowWindowOf w) scale (w .y0 + y) list (rowPart w y s) .row) s
+abbrev pub oneRow : Window → (scale : Float) → (preview : Bool) → List ℕ → (y : ℕ) → List Float → List Float
+oneRow w scale preview list y s =
+    rowPut w y (rowOut (rowWindowOf w) scale preview (w .y0 + y) list (rowPart w y s) .row) s
 
 -- the rows ys, one after another, through one list of samples
-unfoldable pub allRows : Window → (scale : Float) → List ℕ → List ℕ → List Float → List Float
-allRows w scale list [] s = s
-allRows w scale list (y ∷ ys) s = allRows w scale list ys (oneRow w scale list y s)
+unfoldable pub allRows : Window → (scale : Float) → (preview : Bool) → List ℕ → List ℕ → List Float → List Float
+allRows w scale preview list [] s = s
+allRows w scale preview list (y ∷ ys) s = allRows w scale preview list ys (oneRow w scale preview list y s)
 
 -- what the row form promises
 pub record RowForm (w : Window) (set : Settings) (room : Room) (list : List ℕ) (s : List Float) (names : List ℕ)
     (ys : List ℕ) : Type 0 where
   -- every row call answers 0, whatever the samples are by then
   pub calls : (y : ℕ) (t : List Float) → y < w .height
-      → rowOut (rowWindowOf w) (set .scale) (w .y0 + y) list (rowPart w y t) .answer
-      ≡ Row.Done (length (namesOf skipped (itemsOf list)))
+      → rowOut (rowWindowOf w) (set .scale) (set .preview) (w .y0 + y) list (rowPart w y t) .answer
+      ≡ Row.Done (length (namesOf skipped (keptIn (set .preview) list)))
   -- and so does the run, with nothing repaired and nothing left
-  pub run : f32Out w set room list s names .answer ≡ Ans.Done (length (namesOf skipped (itemsOf list))) 0 0
-  pub samples : allRows w (set .scale) list ys s ≡ f32Out w set room list s names .samples
+  pub run : f32Out w set room list s names .answer ≡ Ans.Done (length (namesOf skipped (keptIn (set .preview) list))) 0 0
+  pub samples : allRows w (set .scale) (set .preview) list ys s ≡ f32Out w set room list s names .samples
 
 -- when it does
 pub record RowForm·if (w : Window) (set : Settings) (list names ys : List ℕ) : Type 0 where
   pub ranges : inRange w (set .period) ≡ true
   pub opcodes : ℕ
   pub whole : readingOf list ≡ R.Whole opcodes
-  pub taken : takesRows (itemsOf list) ≡ true
+  pub taken : takesRows (keptIn (set .preview) list) ≡ true
   pub wide : 1 ≤ w .width
   pub strided : w .width ≤ w .stride
-  pub roomy : length (namesOf skipped (itemsOf list)) ≤ length names
+  pub roomy : length (namesOf skipped (keptIn (set .preview) list)) ≤ length names
   pub once : Once (w .height) ys
 
 -- the theorem's statement; proofs/Theorem proves it

@@ -10,9 +10,8 @@ use lib.ListN.{length}
 use Rattle.pointwise.specs.Points.{each}
 use Rattle.pointwise.proofs.Each.{below-or, length-each}
 use Rattle.dng.specs.declared.Window.{Window}
-use Rattle.dng.specs.List.{itemsOf}
 use Rattle.dng.specs.Select.{Rule, onWindow}
-use Rattle.dng.specs.Run.{Room}
+use Rattle.dng.specs.Run.{keptIn, Room}
 use Rattle.dng.specs.Answer.{inRange, Out}
 use Rattle.law_rows.proofs.Place.{Laid}
 use Rattle.law_rows.proofs.Fused.{rows-no-repair, appliedOf}
@@ -27,15 +26,15 @@ runs =
     record {
       f32 = λ w set room list names s. refl;
       f32Tile = λ w t set room list names s. refl;
-      u16 = λ w period room list names s. refl;
+      u16 = λ w period preview room list names s. refl;
     }
 
 pub suiting-lists : Suiting-lists
 suiting-lists =
     record {
-      rows = λ w scale list names n whole taken roomy.
-          record { opcodes = n; whole = whole; taken = refl; without = rows-no-repair (itemsOf list) taken; roomy = roomy };
-      tables = λ list names n whole taken without roomy. record { opcodes = n; whole = whole; taken = taken; without = without; roomy = roomy };
+      rows = λ w scale preview list names n whole taken roomy.
+          record { opcodes = n; whole = whole; taken = refl; without = rows-no-repair (keptIn preview list) taken; roomy = roomy };
+      tables = λ preview list names n whole taken without roomy. record { opcodes = n; whole = whole; taken = taken; without = without; roomy = roomy };
     }
 
 -- the tiles of a cut, or of a part of it, lie in the window
@@ -69,30 +68,30 @@ pub tail-inside : (w : Window) (t : Tile) (ts : List Tile) → Inside w (t ∷ t
 unfolding hits
 tail-inside w t ts inside x y h = inside x y (omega arith)
 
-module _ {A : Type 0} (f : Form A) (list : List ℕ) where
+module _ {A : Type 0} (f : Form A) (preview : Bool) (list : List ℕ) where
   -- what the list makes of a sample, in a window as in its tiles
   abbrev pub rule : Rule A
-  rule = appliedOf (f .kind) list (itemsOf list)
+  rule = appliedOf (f .kind) list (keptIn preview list)
 
   -- a run, with buffers of its own
-  pub run-on : (w : Window) (period : ℕ) (room : Room) (names : List ℕ) (s : List A) → inRange w period ≡ true → Suits f list names
-      → outOn f period room list names w s ≡ runDone (f .skip) list names (each (onWindow w (length s) rule) s)
+  pub run-on : (w : Window) (period : ℕ) (room : Room) (names : List ℕ) (s : List A) → inRange w period ≡ true → Suits f preview list names
+      → outOn f period preview room list names w s ≡ runDone (f .skip) preview list names (each (onWindow w (length s) rule) s)
   run-on w period room names s ranges h =
-      window-run (f .kind) (f .takes) (f .skip) w period room list s names (h .opcodes) ranges (h .whole) (h .taken) (h .without) (h .roomy)
+      window-run (f .kind) (f .takes) (f .skip) w period preview room list s names (h .opcodes) ranges (h .whole) (h .taken) (h .without) (h .roomy)
 
   -- a tile run and put back: the list's rule on its positions alone
   pub one-tile : (w : Window) (period : ℕ) (room : Room) (names : List ℕ) (t : Tile) (s : List A) → Laid w → inRange (tileWindow w t) period ≡ true
-      → Suits f list names → Sits w t → Lent w (length s) → oneTile f period room list names w t s ≡ each (onlyTile w (length s) t rule) s
+      → Suits f preview list names → Sits w t → Lent w (length s) → oneTile f period preview room list names w t s ≡ each (onlyTile w (length s) t rule) s
   one-tile w period room names t s laid ranges h sits full =
       ap (λ (o : Out A). tilePut w t (o .samples) s) (run-on (tileWindow w t) period room names (tilePart w t s) ranges h)
       ∙ tile-run w laid t sits rule s full
 
-  pub all-tiles : (w : Window) (period : ℕ) (room : Room) (names : List ℕ) (ts : List Tile) (s : List A) → Laid w → Suits f list names
-      → Fits w period ts → Inside w ts → Lent w (length s) → allTiles f period room list names w ts s ≡ onTiles w (length s) rule ts s
+  pub all-tiles : (w : Window) (period : ℕ) (room : Room) (names : List ℕ) (ts : List Tile) (s : List A) → Laid w → Suits f preview list names
+      → Fits w period ts → Inside w ts → Lent w (length s) → allTiles f period preview room list names w ts s ≡ onTiles w (length s) rule ts s
   unfolding allTiles inTurn
   all-tiles w period room names [] s laid h fits inside full = refl
   all-tiles w period room names (t ∷ ts) s laid h fits inside full =
-      ap (allTiles f period room list names w ts)
+      ap (allTiles f period preview room list names w ts)
       (one-tile w period room names t s laid (fits .0 .ranges) h (head-sits w period t ts (fits .0) inside) full)
       ∙ all-tiles w period room names ts (each F s) laid h (fits .1) (tail-inside w t ts inside)
       (λ x y a b. omega (arith, full x y a b, length-each F s))
@@ -105,12 +104,12 @@ pub cut-laid : (w : Window) (period n : ℕ) (ts : List Tile) → Tiles·if w pe
 cut-laid w period n ts h = record { some = ranged w period (h .ranges) .some; wide = h .wide; strided = h .strided }
 
 pub tiles-give-the-frame : Tiles-give-the-frame
-tiles-give-the-frame A f w period room list s names ts h q =
-    let ran = run-on f list w period room names s (q .ranges) h in
+tiles-give-the-frame A f w period preview room list s names ts h q =
+    let ran = run-on f preview list w period room names s (q .ranges) h in
     record {
-      tiles = λ t u fit. ap (λ (o : Out A). o .answer) (run-on f list (tileWindow w t) period room names (tilePart w t u) (fit .ranges) h);
+      tiles = λ t u fit. ap (λ (o : Out A). o .answer) (run-on f preview list (tileWindow w t) period room names (tilePart w t u) (fit .ranges) h);
       run = ap (λ (o : Out A). o .answer) ran;
-      samples = all-tiles f list w period room names ts s (cut-laid w period (length s) ts q) h (q .fits) (cut-inside w ts (q .cut)) (q .full)
-          ∙ on-tiles-cut w (length s) (rule f list) ts s (q .cut)
+      samples = all-tiles f preview list w period room names ts s (cut-laid w period (length s) ts q) h (q .fits) (cut-inside w ts (q .cut)) (q .full)
+          ∙ on-tiles-cut w (length s) (rule f preview list) ts s (q .cut)
           ∙ sym (ap (λ (o : Out A). o .samples) ran);
     }

@@ -16,7 +16,7 @@ use Rattle.pointwise.specs.Select.{selects, onColumns}
 use Rattle.dng.specs.List.{readingOf, itemsOf, counted, readFrom, stepAt, nextAt, parsedAt, countedAt}
 use Rattle.dng.specs.Select.{onRegion, onWindow, inWindow, active, wholePixel}
 use Rattle.dng.specs.Value.{nth, scaled, mapTable16}
-use Rattle.dng.specs.Run.{Room, namesOf, takes16On, takes16From, takesRows, performAll}
+use Rattle.dng.specs.Run.{keptOf, Room, namesOf, takes16On, takes16From, takesRows, performAll}
 use Rattle.dng.specs.Answer.{inRange, ranOn, runOut}
 use Rattle.law_rows.specs.NoRepair.{noRepair}
 use Rattle.law_tiles.specs.Tiles.{Tile, within, hits, Cut, Fits, f32Form, u16Form, outOn, allTiles, Suits, Tiles·if, Tiled}
@@ -102,38 +102,38 @@ held : Tiles·if frame 1 14 order
 unfolding inRange
 held = record { ranges = refl; wide = omega arith; strided = omega arith; full = full; fits = fits; cut = cut }
 
-suits : Suits (f32Form frame (whole 1)) list []
-unfolding big readingOf itemsOf counted readFrom stepAt nextAt parsedAt countedAt namesOf takesRows
-suits = suiting-lists .rows frame (whole 1) list [] 1 refl refl (omega arith)
+suits : Suits (f32Form frame (whole 1)) false list []
+unfolding big readingOf itemsOf counted readFrom stepAt nextAt parsedAt countedAt keptOf namesOf takesRows
+suits = suiting-lists .rows frame (whole 1) false list [] 1 refl refl (omega arith)
 
-suits16 : Suits u16Form table []
-unfolding big readingOf itemsOf counted readFrom stepAt nextAt parsedAt countedAt namesOf takes16On takes16From noRepair
-suits16 = suiting-lists .tables table [] 1 refl refl refl (omega arith)
+suits16 : Suits u16Form false table []
+unfolding big readingOf itemsOf counted readFrom stepAt nextAt parsedAt countedAt keptOf namesOf takes16On takes16From noRepair
+suits16 = suiting-lists .tables false table [] 1 refl refl refl (omega arith)
 
 -- what the theorem says of it, with any scratch
-pub worked : (room : Room) → Tiled (f32Form frame (whole 1)) frame 1 room list before [] order
-worked room = tiles-give-the-frame Float (f32Form frame (whole 1)) frame 1 room list before [] order suits held
+pub worked : (room : Room) → Tiled (f32Form frame (whole 1)) frame 1 false room list before [] order
+worked room = tiles-give-the-frame Float (f32Form frame (whole 1)) frame 1 false room list before [] order suits held
 
-pub worked16 : (room : Room) → Tiled u16Form frame 1 room table before16 [] order
-worked16 room = tiles-give-the-frame ℕ u16Form frame 1 room table before16 [] order suits16 held
+pub worked16 : (room : Room) → Tiled u16Form frame 1 false room table before16 [] order
+worked16 room = tiles-give-the-frame ℕ u16Form frame 1 false room table before16 [] order suits16 held
 
 -- both sides, computed
-pub tiles-worked : (room : Room) → allTiles (f32Form frame (whole 1)) 1 room list [] frame order before ≡ after
+pub tiles-worked : (room : Room) → allTiles (f32Form frame (whole 1)) 1 false room list [] frame order before ≡ after
 unfolding big each selects onColumns readingOf itemsOf counted readFrom stepAt nextAt parsedAt countedAt onRegion onWindow inWindow active wholePixel nth
-    scaled namesOf performAll inRange ranOn runOut allTiles ofInt round units odd size span climb mul ofBits
+    scaled keptOf namesOf performAll inRange ranOn runOut allTiles ofInt round units odd size span climb mul ofBits
 tiles-worked room = refl
 
-pub run-worked : (room : Room) → outOn (f32Form frame (whole 1)) 1 room list [] frame before .samples ≡ after
+pub run-worked : (room : Room) → outOn (f32Form frame (whole 1)) 1 false room list [] frame before .samples ≡ after
 unfolding big each selects onColumns readingOf itemsOf counted readFrom stepAt nextAt parsedAt countedAt onRegion onWindow inWindow active wholePixel nth
-    scaled namesOf performAll inRange ranOn runOut ofInt round units odd size span climb mul ofBits
+    scaled keptOf namesOf performAll inRange ranOn runOut ofInt round units odd size span climb mul ofBits
 run-worked room = refl
 
-pub tiles-worked16 : (room : Room) → allTiles u16Form 1 room table [] frame order before16 ≡ after16
+pub tiles-worked16 : (room : Room) → allTiles u16Form 1 false room table [] frame order before16 ≡ after16
 unfolding big each selects onColumns readingOf itemsOf counted readFrom stepAt nextAt parsedAt countedAt onRegion onWindow inWindow active wholePixel
-    mapTable16 namesOf takes16On takes16From performAll inRange ranOn runOut allTiles
+    mapTable16 keptOf namesOf takes16On takes16From performAll inRange ranOn runOut allTiles
 tiles-worked16 room = refl
 
-pub run-worked16 : (room : Room) → outOn u16Form 1 room table [] frame before16 .samples ≡ after16
+pub run-worked16 : (room : Room) → outOn u16Form 1 false room table [] frame before16 .samples ≡ after16
 unfolding big each selects onColumns readingOf itemsOf counted readFrom stepAt nextAt parsedAt countedAt onRegion onWindow inWindow active wholePixel
-    mapTable16 namesOf takes16On takes16From performAll inRange ranOn runOut
+    mapTable16 keptOf namesOf takes16On takes16From performAll inRange ranOn runOut
 run-worked16 room = refl

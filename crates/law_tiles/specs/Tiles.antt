@@ -11,8 +11,8 @@ use Rattle.dng.specs.declared.Window.{Window}
 use Rattle.dng.specs.declared.Settings.{Settings}
 use Rattle.dng.specs.declared.Answer.the-variants as Ans
 use Rattle.dng.specs.declared.Reading.the-variants as R
-use Rattle.dng.specs.List.{Item, readingOf, itemsOf}
-use Rattle.dng.specs.Run.{Class, Kind, f32Kind, u16Kind, Room, namesOf, skipped, skipped16, takes16, takesRows}
+use Rattle.dng.specs.List.{Item, readingOf}
+use Rattle.dng.specs.Run.{keptIn, Class, Kind, f32Kind, u16Kind, Room, namesOf, skipped, skipped16, takes16, takesRows}
 use Rattle.dng.specs.Answer.{inRange, frameOf, takesAll, Out, runOut, f32Out, u16Out}
 use Rattle.law_rows.specs.NoRepair.{noRepair}
 
@@ -97,9 +97,9 @@ f32Form w scale = record { kind = f32Kind (frameOf w scale); takes = takesAll; s
 abbrev pub u16Form : Form ℕ
 u16Form = record { kind = u16Kind; takes = takes16; skip = skipped16 }
 
-module _ {A : Type 0} (f : Form A) (period : ℕ) (room : Room) (list names : List ℕ) where
+module _ {A : Type 0} (f : Form A) (period : ℕ) (preview : Bool) (room : Room) (list names : List ℕ) where
   abbrev pub outOn : Window → List A → Out A
-  outOn w s = runOut (f .kind) (f .takes) (f .skip) w period room list s names
+  outOn w s = runOut (f .kind) (f .takes) (f .skip) w period preview room list s names
 
   -- one tile of a window, run and put back
   abbrev pub oneTile : Window → Tile → List A → List A
@@ -113,31 +113,32 @@ module _ {A : Type 0} (f : Form A) (period : ℕ) (room : Room) (list names : Li
 -- the two public runs are such forms, on the window and on its tiles
 pub record Runs : Type 0 where
   pub f32 : (w : Window) (set : Settings) (room : Room) (list names : List ℕ) (s : List Float)
-      → outOn (f32Form w (set .scale)) (set .period) room list names w s ≡ f32Out w set room list s names
+      → outOn (f32Form w (set .scale)) (set .period) (set .preview) room list names w s ≡ f32Out w set room list s names
   pub f32Tile : (w : Window) (t : Tile) (set : Settings) (room : Room) (list names : List ℕ) (s : List Float)
-      → outOn (f32Form w (set .scale)) (set .period) room list names (tileWindow w t) s
+      → outOn (f32Form w (set .scale)) (set .period) (set .preview) room list names (tileWindow w t) s
       ≡ f32Out (tileWindow w t) set room list s names
-  pub u16 : (w : Window) (period : ℕ) (room : Room) (list names s : List ℕ)
-      → outOn u16Form period room list names w s ≡ u16Out w period room list s names
+  pub u16 : (w : Window) (period : ℕ) (preview : Bool) (room : Room) (list names s : List ℕ)
+      → outOn u16Form period preview room list names w s ≡ u16Out w period preview room list s names
 
 -- ---- the theorem
 
--- the list: read whole, taken by the form, without a repair, "given room for the skips"
-pub record Suits {A : Type 0} (f : Form A) (list names : List ℕ) : Type 0 where
+-- the list, or what a preview leaves of it: read whole, taken by the form, without a repair, "given room for the skips"
+pub record Suits {A : Type 0} (f : Form A) (preview : Bool) (list names : List ℕ) : Type 0 where
   pub opcodes : ℕ
   pub whole : readingOf list ≡ R.Whole opcodes
-  pub taken : f .takes (itemsOf list) ≡ true
-  pub without : noRepair (itemsOf list) ≡ true
-  pub roomy : length (namesOf (f .skip) (itemsOf list)) ≤ length names
+  pub taken : f .takes (keptIn preview list) ≡ true
+  pub without : noRepair (keptIn preview list) ≡ true
+  pub roomy : length (namesOf (f .skip) (keptIn preview list)) ≤ length names
 
 -- "a list of the row form" is one for the f32 run; one that has tables and unapplied opcodes alone is for the u16 run
 pub record Suiting-lists : Type 0 where
-  pub rows : (w : Window) (scale : Float) (list names : List ℕ) (n : ℕ) → readingOf list ≡ R.Whole n
-      → takesRows (itemsOf list) ≡ true → length (namesOf skipped (itemsOf list)) ≤ length names
-      → Suits (f32Form w scale) list names
-  pub tables : (list names : List ℕ) (n : ℕ) → readingOf list ≡ R.Whole n → takes16 (itemsOf list) ≡ true
-      → noRepair (itemsOf list) ≡ true → length (namesOf skipped16 (itemsOf list)) ≤ length names
-      → Suits u16Form list names
+  pub rows : (w : Window) (scale : Float) (preview : Bool) (list names : List ℕ) (n : ℕ) → readingOf list ≡ R.Whole n
+      → takesRows (keptIn preview list) ≡ true → length (namesOf skipped (keptIn preview list)) ≤ length names
+      → Suits (f32Form w scale) preview list names
+  pub tables : (preview : Bool) (list names : List ℕ) (n : ℕ) → readingOf list ≡ R.Whole n
+      → takes16 (keptIn preview list) ≡ true
+      → noRepair (keptIn preview list) ≡ true → length (namesOf skipped16 (keptIn preview list)) ≤ length names
+      → Suits u16Form preview list names
 
 -- the cut: "a window inside document 01's limits whose data is complete, stride at least width and width at least 1"
 pub record Tiles·if (w : Window) (period n : ℕ) (ts : List Tile) : Type 0 where
@@ -149,17 +150,19 @@ pub record Tiles·if (w : Window) (period n : ℕ) (ts : List Tile) : Type 0 whe
   pub cut : Cut w ts
 
 -- what is promised
-pub record Tiled {A : Type 0} (f : Form A) (w : Window) (period : ℕ) (room : Room) (list : List ℕ) (s : List A)
-    (names : List ℕ) (ts : List Tile) : Type 0 where
+pub record Tiled {A : Type 0} (f : Form A) (w : Window) (period : ℕ) (preview : Bool) (room : Room)
+    (list : List ℕ) (s : List A) (names : List ℕ) (ts : List Tile) : Type 0 where
   -- every tile's run answers 0, whatever the samples are by then
   pub tiles : (t : Tile) (u : List A) → Fit w period t
-      → outOn f period room list names (tileWindow w t) (tilePart w t u) .answer
-      ≡ Ans.Done (length (namesOf (f .skip) (itemsOf list))) 0 0
+      → outOn f period preview room list names (tileWindow w t) (tilePart w t u) .answer
+      ≡ Ans.Done (length (namesOf (f .skip) (keptIn preview list))) 0 0
   -- and so does the frame's, with nothing repaired and nothing left
-  pub run : outOn f period room list names w s .answer ≡ Ans.Done (length (namesOf (f .skip) (itemsOf list))) 0 0
-  pub samples : allTiles f period room list names w ts s ≡ outOn f period room list names w s .samples
+  pub run : outOn f period preview room list names w s .answer
+      ≡ Ans.Done (length (namesOf (f .skip) (keptIn preview list))) 0 0
+  pub samples : allTiles f period preview room list names w ts s ≡ outOn f period preview room list names w s .samples
 
 abbrev pub Tiles-give-the-frame : Type 1
 Tiles-give-the-frame =
-    (A : Type 0) (f : Form A) (w : Window) (period : ℕ) (room : Room) (list : List ℕ) (s : List A) (names : List ℕ)
-    (ts : List Tile) → Suits f list names → Tiles·if w period (length s) ts → Tiled f w period room list s names ts
+    (A : Type 0) (f : Form A) (w : Window) (period : ℕ) (preview : Bool) (room : Room) (list : List ℕ) (s : List A)
+    (names : List ℕ) (ts : List Tile) → Suits f preview list names → Tiles·if w period (length s) ts
+    → Tiled f w period preview room list s names ts

@@ -19,7 +19,7 @@ use Rattle.dng.specs.List.{Item, bodyOf}
 use Rattle.dng.specs.Select.{onWindow}
 use Rattle.dng.specs.Value.{one, tableAt, mapTable, mapTable16, ruleOf, rule16Of}
 use Rattle.dng.specs.Repair.{marksOf, markedIn, repairedIn, leftIn}
-use Rattle.dng.specs.Run.{table, empty, repair, classOf, takes16On, takes16From, Kind, f32Kind, u16Kind, Progress, going, marksFull, Room, repairOn, performOn, perform, performAll}
+use Rattle.dng.specs.Run.{drops, keptOf, table, empty, repair, classOf, takes16On, takes16From, Kind, f32Kind, u16Kind, Progress, going, marksFull, Room, repairOn, performOn, perform, performAll}
 use Rattle.dng.specs.Answer.{frameOf}
 use Rattle.law_wholes.specs.WholeForm.{Below, Enough}
 use Rattle.law_wholes.proofs.Near.{Exact, Near, exact-near}
@@ -66,11 +66,17 @@ pub data Ends (w : Window) (room : Room) : Progress ℕ → Progress Float → T
   endedMarks : {s : List ℕ} {t : List Float} {k : ℕ} → (Enough w room → ⊥) → Pairs Near s t → Ends w room (marksFull s k) (marksFull t k)
 
 -- what has stopped stays so
-module _ {A : Type 0} (kind : Kind A) (w : Window) (period : ℕ) (room : Room) (list : List ℕ) where
-  still-marks : (k : ℕ) (is : List Item) (t : List A) (o : ℕ) → performAll kind w period room list k is (marksFull t o) ≡ marksFull t o
+module _ {A : Type 0} (kind : Kind A) (w : Window) (period : ℕ) (room : Room) (preview : Bool) (list : List ℕ) where
+  still-marks : (k : ℕ) (is : List Item) (t : List A) (o : ℕ) → performAll kind w period room preview list k is (marksFull t o) ≡ marksFull t o
   unfolding performAll
   still-marks k [] t o = refl
-  still-marks k (i ∷ is) t o = still-marks (suc k) is t o
+  still-marks k (i ∷ is) t o = stopped (drops preview i) (still-marks (suc k) is t o)
+    where
+      stopped :
+          (d : Bool) → performAll kind w period room preview list (suc k) is (marksFull t o) ≡ marksFull t o
+          → performAll kind w period room preview list (suc k) is (cond d (marksFull t o) (marksFull t o)) ≡ marksFull t o
+      stopped true h = h
+      stopped false h = h
 
 module _ (w : Window) (period : ℕ) (room room′ : Room) (planes : 0 < w .planes) (tests : Tests w room room′) where
   table-step : (free : Bool) (rest : Bool → Bool) (reg : Region) (n : ℕ) (b : List ℕ) → ((i : ℕ) → tableAt b i < 65536)
@@ -170,23 +176,38 @@ module _ (w : Window) (period : ℕ) (room room′ : Room) (planes : 0 < w .plan
   step free rest (ScalePerColumn reg n) b entries k s t r l e p = absurd (false≢true e)
   step free rest (Other i) b entries k s t r l e p = stay free rest s t r l e p
 
-  -- all opcodes, from any number, any totals and any samples that stand in the relation
-  pub runs : (list : List ℕ) → Below 256 list → (free : Bool) (is : List Item) (k : ℕ) (s : List ℕ) (t : List Float) (r l : ℕ)
-      → takes16From free is ≡ true → Pairs (Rel free) s t
-      → Ends w room (performAll u16Kind w period room list k is (going s r l)) (performAll (kind32 w) w period room′ list k is (going t r l))
-  unfolding performAll takes16From
-  runs list bytes free [] k s t r l e p = ended (pairs-weaken (rel-kept free .to) p)
-  runs list bytes free (i ∷ is) k s t r l e p =
-      on (perform u16Kind w period room list i k (going s r l)) (perform (kind32 w) w period room′ list i k (going t r l))
-      (step free (λ (f : Bool). takes16From f is) (i .op) (bodyOf list (i .entry)) (body-entry list bytes (i .entry .len) (i .entry .at)) k s t r l e p)
-      (λ f s′ t′ r′ l′ h q. runs list bytes f is (suc k) s′ t′ r′ l′ h q)
+  -- all opcodes that are left, from any number, any totals and any samples that stand in the relation
+  pub runs : (preview : Bool) (list : List ℕ) → Below 256 list → (free : Bool) (is : List Item) (k : ℕ) (s : List ℕ) (t : List Float) (r l : ℕ)
+      → takes16From free (keptOf preview is) ≡ true → Pairs (Rel free) s t
+      → Ends w room (performAll u16Kind w period room preview list k is (going s r l))
+      (performAll (kind32 w) w period room′ preview list k is (going t r l))
+  unfolding performAll keptOf takes16From
+  runs preview list bytes free [] k s t r l e p = ended (pairs-weaken (rel-kept free .to) p)
+  runs preview list bytes free (i ∷ is) k s t r l e p = one (λ f s′ t′ r′ l′ h q. runs preview list bytes f is (suc k) s′ t′ r′ l′ h q) (drops preview i) e
     where
-      on : (g : Progress ℕ) (h : Progress Float) → Step w room (λ (f : Bool). takes16From f is) g h
-          → ((f : Bool) (s′ : List ℕ) (t′ : List Float) (r′ l′ : ℕ) → takes16From f is ≡ true → Pairs (Rel f) s′ t′
-          → Ends w room (performAll u16Kind w period room list (suc k) is (going s′ r′ l′))
-          (performAll (kind32 w) w period room′ list (suc k) is (going t′ r′ l′)))
-          → Ends w room (performAll u16Kind w period room list (suc k) is g) (performAll (kind32 w) w period room′ list (suc k) is h)
+      kept : List Item
+      kept = keptOf preview is
+
+      Rest : Type 0
+      Rest = (f : Bool) (s′ : List ℕ) (t′ : List Float) (r′ l′ : ℕ) → takes16From f kept ≡ true → Pairs (Rel f) s′ t′
+          → Ends w room (performAll u16Kind w period room preview list (suc k) is (going s′ r′ l′))
+          (performAll (kind32 w) w period room′ preview list (suc k) is (going t′ r′ l′))
+
+      on : (g : Progress ℕ) (h : Progress Float) → Step w room (λ (f : Bool). takes16From f kept) g h
+          → Rest → Ends w room (performAll u16Kind w period room preview list (suc k) is g)
+          (performAll (kind32 w) w period room′ preview list (suc k) is h)
       on g h (goes {s = s′} {t = t′} {r = r′} {l = l′} f q ps) more = more f s′ t′ r′ l′ q ps
       on g h (noMarks {s = s′} {t = t′} {k = o} short ps) more =
-          rw (still-marks u16Kind w period room list (suc k) is s′ o, still-marks (kind32 w) w period room′ list (suc k) is t′ o)
+          rw (still-marks u16Kind w period room preview list (suc k) is s′ o, still-marks (kind32 w) w period room′ preview list (suc k) is t′ o)
           (endedMarks short (pairs-weaken (λ a v x. exact-near x) ps))
+
+      one : Rest → (d : Bool) → takes16From free (cond d kept (i ∷ kept)) ≡ true
+          → Ends w room
+          (performAll u16Kind w period room preview list (suc k) is (cond d (going s r l) (perform u16Kind w period room list i k (going s r l))))
+          (performAll (kind32 w) w period room′ preview list (suc k) is
+          (cond d (going t r l) (perform (kind32 w) w period room′ list i k (going t r l))))
+      one rest true h = rest free s t r l h p
+      one rest false h =
+          on (perform u16Kind w period room list i k (going s r l)) (perform (kind32 w) w period room′ list i k (going t r l))
+          (step free (λ (f : Bool). takes16From f kept) (i .op) (bodyOf list (i .entry)) (body-entry list bytes (i .entry .len) (i .entry .at)) k s t r l h p)
+          rest

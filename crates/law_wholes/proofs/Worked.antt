@@ -2,7 +2,7 @@
 -- on a window of 3 by 1 with the values 10, 0, 19. The f32 run names 7 and 6, the whole-number form 6 alone. Assumes nothing.
 use Prim.Native.Nat.{ℕ, zero, suc}
 use mathlib.Core.Path.{refl}
-use mathlib.Core.Bool.{Bool, true, _&&_}
+use mathlib.Core.Bool.{Bool, true, false, _&&_}
 use mathlib.Core.List.{List, [], _∷_, _++_}
 use native.Mathlib.Nat.{le-of-suc-le-suc, not-suc-le-zero}
 use lib.Dec.{T, ltb, ltb→lt, lit≤}
@@ -11,7 +11,7 @@ use lib.ListN.{length, replicate}
 use Rattle.num_words.specs.Words.{big}
 use Rattle.dng.specs.declared.Window.{Window}
 use Rattle.dng.specs.List.{readingOf, itemsOf, counted, readFrom, stepAt, nextAt, parsedAt, constantAt, trimAt, countedAt}
-use Rattle.dng.specs.Run.{Room, namesOf, takes16From, takes16On}
+use Rattle.dng.specs.Run.{keptOf, Room, namesOf, takes16From, takes16On}
 use Rattle.dng.specs.Answer.{inRange}
 use Rattle.law_wholes.specs.WholeForm.{Below, WholeForm, WholeForm·if}
 use Rattle.law_wholes.specs.Together.{Together, Together·if}
@@ -52,8 +52,8 @@ room = record { marks = 3 }
 abbrev samples : List ℕ
 samples = 10 ∷ 0 ∷ 19 ∷ []
 
-pub met : WholeForm·if window 1 room room list samples (0 ∷ []) (0 ∷ 0 ∷ [])
-unfolding inRange big readingOf itemsOf counted readFrom stepAt nextAt parsedAt constantAt trimAt countedAt takes16From takes16On namesOf
+pub met : WholeForm·if window 1 false room room list samples (0 ∷ []) (0 ∷ 0 ∷ [])
+unfolding inRange big readingOf itemsOf counted readFrom stepAt nextAt parsedAt constantAt trimAt countedAt takes16From takes16On keptOf namesOf
 met =
     record {
       bytes = all-below 256 list tt;
@@ -68,11 +68,11 @@ met =
       roomy′ = lit≤ tt;
     }
 
-pub worked : WholeForm window 1 room room list samples (0 ∷ []) (0 ∷ 0 ∷ [])
-worked = whole-form window 1 room room list samples (0 ∷ []) (0 ∷ 0 ∷ []) met
+pub worked : WholeForm window 1 false room room list samples (0 ∷ []) (0 ∷ 0 ∷ [])
+worked = whole-form window 1 false room room list samples (0 ∷ []) (0 ∷ 0 ∷ []) met
 
 -- the same with no scratch at all, where both runs refuse the repair
-pub worked-together : Together window 1 (record { marks = 0 }) list samples (0 ∷ []) (0 ∷ 0 ∷ [])
+pub worked-together : Together window 1 false (record { marks = 0 }) list samples (0 ∷ []) (0 ∷ 0 ∷ [])
 worked-together =
-    same-scratch window 1 (record { marks = 0 }) list samples (0 ∷ []) (0 ∷ 0 ∷ [])
+    same-scratch window 1 false (record { marks = 0 }) list samples (0 ∷ []) (0 ∷ 0 ∷ [])
     (record { bytes = met .bytes; words = met .words; taken = met .taken; roomy = met .roomy; roomy′ = met .roomy′ })

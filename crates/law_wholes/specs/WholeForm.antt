@@ -13,10 +13,10 @@ use Rattle.dng.specs.declared.Window.{Window}
 use Rattle.dng.specs.declared.Settings.{Settings}
 use Rattle.dng.specs.declared.Answer.the-variants as Ans
 use Rattle.dng.specs.declared.Reading.the-variants as R
-use Rattle.dng.specs.List.{readingOf, itemsOf}
+use Rattle.dng.specs.List.{readingOf}
 use Rattle.dng.specs.Value.{one}
 use Rattle.dng.specs.Repair.{positions}
-use Rattle.dng.specs.Run.{Room, namesOf, skipped, skipped16, takes16}
+use Rattle.dng.specs.Run.{keptIn, Room, namesOf, skipped, skipped16, takes16}
 use Rattle.dng.specs.Answer.{inRange, f32Out, u16Out}
 
 -- every element is below n: what a slice of u8 or u16 is
@@ -39,37 +39,40 @@ withoutTables (n ∷ ns) = cond (eqb n 7) (withoutTables ns) (n ∷ withoutTable
 pub record Enough (w : Window) (room : Room) : Type 0 where
   pub marks : positions w ≤ room .marks
 
-abbrev pub atOne : ℕ → Settings
-atOne period = record { period = period; scale = one }
+abbrev pub atOne : ℕ → (preview : Bool) → Settings
+atOne period preview = record { period = period; scale = one; preview = preview }
 
 -- what the whole-number form promises; names and names′ are the two runs' skip buffers
-pub record WholeForm (w : Window) (period : ℕ) (room room′ : Room) (list s names names′ : List ℕ) : Type 0 where
+pub record WholeForm (w : Window) (period : ℕ) (preview : Bool) (room room′ : Room) (list s names names′ : List ℕ)
+    : Type 0 where
   -- both runs answer 0, with the same totals
   pub repaired : ℕ
   pub left : ℕ
-  pub run16 : u16Out w period room list s names .answer ≡ Ans.Done (length (namesOf skipped16 (itemsOf list))) repaired
-      left
-  pub run32 : f32Out w (atOne period) room′ list (widened s) names′ .answer
-      ≡ Ans.Done (length (namesOf skipped (itemsOf list))) repaired left
-  pub samples : u16Out w period room list s names .samples
-      ≡ narrowed (f32Out w (atOne period) room′ list (widened s) names′ .samples)
-  pub named : namesOf skipped16 (itemsOf list) ≡ withoutTables (namesOf skipped (itemsOf list))
+  pub run16 : u16Out w period preview room list s names .answer
+      ≡ Ans.Done (length (namesOf skipped16 (keptIn preview list))) repaired left
+  pub run32 : f32Out w (atOne period preview) room′ list (widened s) names′ .answer
+      ≡ Ans.Done (length (namesOf skipped (keptIn preview list))) repaired left
+  pub samples : u16Out w period preview room list s names .samples
+      ≡ narrowed (f32Out w (atOne period preview) room′ list (widened s) names′ .samples)
+  pub named : namesOf skipped16 (keptIn preview list) ≡ withoutTables (namesOf skipped (keptIn preview list))
 
 -- when it does
-pub record WholeForm·if (w : Window) (period : ℕ) (room room′ : Room) (list s names names′ : List ℕ) : Type 0 where
+pub record WholeForm·if (w : Window) (period : ℕ) (preview : Bool) (room room′ : Room) (list s names names′ : List ℕ)
+    : Type 0 where
   pub bytes : Below 256 list
   pub words : Below 65536 s
   pub ranges : inRange w period ≡ true
   pub opcodes : ℕ
   pub whole : readingOf list ≡ R.Whole opcodes
-  pub taken : takes16 (itemsOf list) ≡ true
+  pub taken : takes16 (keptIn preview list) ≡ true
   pub enough : Enough w room
   pub enough′ : Enough w room′
-  pub roomy : length (namesOf skipped16 (itemsOf list)) ≤ length names
-  pub roomy′ : length (namesOf skipped (itemsOf list)) ≤ length names′
+  pub roomy : length (namesOf skipped16 (keptIn preview list)) ≤ length names
+  pub roomy′ : length (namesOf skipped (keptIn preview list)) ≤ length names′
 
 -- the theorem's statement; proofs/Theorem proves it
 abbrev pub Whole-form : Type 0
 Whole-form =
-    (w : Window) (period : ℕ) (room room′ : Room) (list s names names′ : List ℕ)
-    → WholeForm·if w period room room′ list s names names′ → WholeForm w period room room′ list s names names′
+    (w : Window) (period : ℕ) (preview : Bool) (room room′ : Room) (list s names names′ : List ℕ)
+    → WholeForm·if w period preview room room′ list s names names′
+    → WholeForm w period preview room room′ list s names names′

@@ -1,7 +1,8 @@
 // What an opcode is to the forms of a run, and the byte that names it.
 use dng::Opcode;
 ghost use mathlib.Core.Path.{_≡_};
-ghost use Rattle.dng.specs.Run.{classOf, nameOf};
+ghost use mathlib.Core.Bool.{cond};
+ghost use Rattle.dng.specs.Run.{unapplied, classOf, nameOf};
 ghost use Rattle.list_classes.specs.Classes.{classIs, factsOf};
 
 // A table with entries, a table with none, another row-local pixel opcode, a repair, and what is never applied.
@@ -32,6 +33,13 @@ pub fn class_of(op: Opcode) -> Class
         Opcode::ScalePerColumn { .. } => Class::Local,
         Opcode::Other { .. } => Class::Unapplied,
     }
+}
+
+// The class in a run: an opcode that is left out of a preview is not applied there.
+pub fn class_in(op: Opcode, dropped: bool) -> Class
+    ensures { λ r. ⌜ classIs r ≡ cond dropped unapplied (classOf op) ⌝ }
+{
+    if dropped { Class::Unapplied } else { class_of(op) }
 }
 
 // The id, and 0 for an id of no opcode.

@@ -8,9 +8,9 @@ use dng::Refusal;
 ghost use mathlib.Core.Path.{_≡_};
 ghost use Prim.Native.Nat.{_+_, _-_, _*_, _/_, _≤_};
 ghost use lib.ListN.{length};
+ghost use mathlib.Core.Bool.{_&&_};
 ghost use Rattle.dng.specs.declared.Reason.the-variants.{Ends};
-ghost use Rattle.dng.specs.List.{refusal, headerAt, nextAt, bodyOf};
-ghost use Rattle.list_entries.specs.Flags.{optionalOf, previewOf};
+ghost use Rattle.dng.specs.List.{refusal, headerAt, nextAt, bodyOf, optionalOf, previewOf};
 
 // The four words of a header, as they stand, with where the body lies.
 fn header(list: &[u8], at: usize) -> Entry
@@ -96,4 +96,11 @@ pub fn skip_for_preview(e: Entry) -> bool
     ensures { λ r. ⌜ r ≡ previewOf e ⌝ }
 {
     e.flags / 2 % 2 == 1
+}
+
+// Whether a preview leaves the entry out; a run that is none leaves out nothing.
+pub fn dropped(e: Entry, preview: bool) -> bool
+    ensures { λ r. ⌜ r ≡ (preview && previewOf e) ⌝ }
+{
+    preview & skip_for_preview(e)
 }

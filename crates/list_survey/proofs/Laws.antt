@@ -13,8 +13,8 @@ use Rattle.dng.specs.declared.Cursor.{Cursor}
 use Rattle.dng.specs.declared.Refusal.{Refusal}
 use Rattle.dng.specs.declared.Reading.{Reading}
 use Rattle.dng.specs.declared.Reading.the-variants as R
-use Rattle.dng.specs.List.{Item, readFrom, itemsOf, readingOf}
-use Rattle.dng.specs.Run.{Class, table, empty, local, repair, unapplied, classOf, nameOf, skipped, skipped16, takes16On, takes16From, takes16, rowTakes, takesRows, namesOf}
+use Rattle.dng.specs.List.{Item, previewOf, readFrom, itemsOf, readingOf}
+use Rattle.dng.specs.Run.{drops, keptOf, keptIn, Class, table, empty, local, repair, unapplied, classOf, nameOf, skipped, skipped16, takes16On, takes16From, takes16, rowTakes, takesRows, namesOf}
 use Rattle.list_classes.specs.declared.Facts.{Facts}
 use Rattle.list_classes.specs.Classes.{isLocal, isRepair, factsOf}
 use Rattle.list_read.specs.declared.Entries.{Entries}
@@ -101,15 +101,36 @@ takes-all t (i ∷ is) =
 
 -- ---- the loop: one entry more, no entry more, and that no count wraps
 
-pub more :
-    (t : Tally) {u : Tally} {is rest : List Item} {e : Entry} {op : Opcode} → is ≡ record { entry = e; op = op } ∷ rest
-    → u ≡ turnOn (factsOf (classOf op)) t → tallyFrom u rest ≡ tallyFrom t is
+-- an entry is dropped, or it is the first of those that are left
+one-kept :
+    (d : Bool) (t : Tally) (i : Item) (rest : List Item)
+    → tallyFrom (cond d t (turnOn (factsOf (classOf (i .op))) t)) rest ≡ tallyFrom t (cond d rest (i ∷ rest))
 unfolding tallyFrom
-more t {rest = rest} p q = ap (λ (v : Tally). tallyFrom v rest) q ∙ sym (ap (tallyFrom t) p)
+one-kept true t i rest = refl
+one-kept false t i rest = refl
 
-pub no-more : (t : Tally) {is : List Item} → is ≡ [] → t ≡ tallyFrom t is
-unfolding tallyFrom
-no-more t p = sym (ap (tallyFrom t) p)
+pub more :
+    (preview : Bool) (t : Tally) {u : Tally} {is rest : List Item} {e : Entry} {op : Opcode} {d : Bool} → is ≡ record { entry = e; op = op } ∷ rest
+    → d ≡ (preview && previewOf e) → u ≡ cond d t (turnOn (factsOf (classOf op)) t)
+    → tallyFrom u (keptOf preview rest) ≡ tallyFrom t (keptOf preview is)
+unfolding keptOf
+more preview t {rest = rest} {e = e} {op} p h q =
+    ap (λ (v : Tally). tallyFrom v (keptOf preview rest)) (q ∙ ap (λ (d : Bool). cond d t (turnOn (factsOf (classOf op)) t)) h)
+    ∙ one-kept (preview && previewOf e) t (record { entry = e; op = op }) (keptOf preview rest)
+    ∙ sym (ap (λ (l : List Item). tallyFrom t (keptOf preview l)) p)
+
+pub no-more : (preview : Bool) (t : Tally) {is : List Item} → is ≡ [] → t ≡ tallyFrom t (keptOf preview is)
+unfolding tallyFrom keptOf
+no-more preview t p = sym (ap (λ (l : List Item). tallyFrom t (keptOf preview l)) p)
+
+kept-bound : (preview : Bool) (is : List Item) → length (keptOf preview is) ≤ length is
+unfolding keptOf
+kept-bound preview [] = omega arith
+kept-bound preview (i ∷ is) = go (drops preview i) (kept-bound preview is)
+  where
+    go : (b : Bool) → length (keptOf preview is) ≤ length is → length (cond b (keptOf preview is) (i ∷ keptOf preview is)) ≤ length (i ∷ is)
+    go true h = omega arith
+    go false h = omega arith
 
 names-bound : (skip : Class → Bool) (is : List Item) → length (namesOf skip is) ≤ length is
 unfolding namesOf
@@ -121,14 +142,15 @@ names-bound skip (i ∷ is) = go (skip (classOf (i .op))) (names-bound skip is)
     go false h = omega arith
 
 pub small :
-    (s : List ℕ) (n : ℕ) (t : Tally) (is : List Item) → n ≤ 4096 → tallyFrom t is ≡ tallyFrom begun (readFrom s n start)
-    → (t .skips ≤ 4096) × (t .skips16 ≤ 4096)
-small s n t is h e =
-    let all = readFrom s n start in
+    (preview : Bool) (s : List ℕ) (n : ℕ) (t : Tally) (is : List Item) → n ≤ 4096
+    → tallyFrom t is ≡ tallyFrom begun (keptOf preview (readFrom s n start)) → (t .skips ≤ 4096) × (t .skips16 ≤ 4096)
+small preview s n t is h e =
+    let all = keptOf preview (readFrom s n start) in
+    let few = kept-bound preview (readFrom s n start) in
     let a = ap (λ (u : Tally). u .skips) e ∙ skips-all begun all in
     let b = ap (λ (u : Tally). u .skips16) e ∙ skips16-all begun all in (
-      omega (arith, a, skips-all t is, names-bound skipped all, read-bound s n start),
-      omega (arith, b, skips16-all t is, names-bound skipped16 all, read-bound s n start),
+      omega (arith, a, skips-all t is, names-bound skipped all, few, read-bound s n start),
+      omega (arith, b, skips16-all t is, names-bound skipped16 all, few, read-bound s n start),
     )
 
 -- ---- the ways out
@@ -137,10 +159,10 @@ zero-plus : (n : ℕ) → 0 + n ≡ n
 zero-plus n = omega arith
 
 found :
-    (is : List Item) (t : Tally) {v : Surveyed} {r : Reading} {n : ℕ} → v ≡ surveyedBy r n t → n ≡ length is → t ≡ tallyFrom begun is
-    → v ≡ record { reading = r; survey = surveyOn is }
+    (m : ℕ) (is : List Item) (t : Tally) {v : Surveyed} {r : Reading} {n : ℕ} → v ≡ surveyedBy r n t → n ≡ m → t ≡ tallyFrom begun is
+    → v ≡ record { reading = r; survey = surveyOn m is }
 unfolding surveyOn
-found is t {r = r} {n = n} h q e =
+found m is t {r = r} {n = n} h q e =
     h
     ∙ ap (λ (u : Tally). surveyedBy r n u) e
     ∙ simp (
@@ -152,32 +174,34 @@ found is t {r = r} {n = n} h q e =
     )
 
 pub known :
-    (s : List ℕ) (n : ℕ) (t : Tally) {v : Surveyed} {r : Reading} {m : ℕ} → v ≡ surveyedBy r m t → r ≡ readingFrom s n
-    → m ≡ length (readFrom s n start) → t ≡ tallyFrom begun (readFrom s n start) → v ≡ surveyFrom s n
+    (preview : Bool) (s : List ℕ) (n : ℕ) (t : Tally) {v : Surveyed} {r : Reading} {m : ℕ} → v ≡ surveyedBy r m t → r ≡ readingFrom s n
+    → m ≡ length (readFrom s n start) → t ≡ tallyFrom begun (keptOf preview (readFrom s n start)) → v ≡ surveyFrom preview s n
 unfolding surveyFrom
-known s n t h p q e =
-    found (readFrom s n start) t h q e ∙ ap (λ (r : Reading). record { reading = r; survey = surveyOn (readFrom s n start) }) p
+known preview s n t h p q e =
+    found (length (readFrom s n start)) (keptOf preview (readFrom s n start)) t h q e
+    ∙ ap (λ (r : Reading). record { reading = r; survey = surveyOn (length (readFrom s n start)) (keptOf preview (readFrom s n start)) }) p
 
 empty-list : (is : List Item) → length is ≡ 0 → is ≡ []
 empty-list [] h = refl
 empty-list (i ∷ is) h = absurd (omega (arith, h))
 
-module _ (s : List ℕ) {x : Entries} (e : x ≡ entriesOf s) where
+pub few : (s : List ℕ) {x : Entries} {n : ℕ} → x ≡ entriesOf s → x ≡ E.Are n → n ≤ 4096
+few s e f = omega (arith, count-is s e f, count-bound s)
+
+module _ (preview : Bool) (s : List ℕ) {x : Entries} (e : x ≡ entriesOf s) where
   pub none :
-      {why : Refusal} {t : Tally} {v : Surveyed} → x ≡ E.Refused why → t ≡ begun → v ≡ surveyedBy (R.Malformed 0 why) 0 t → v ≡ surveyOf s
+      {why : Refusal} {t : Tally} {v : Surveyed} → x ≡ E.Refused why → t ≡ begun → v ≡ surveyedBy (R.Malformed 0 why) 0 t
+      → v ≡ surveyOf preview s
   unfolding surveyOf
   none f b h =
       let bad = reading-none s e f in
       let z = refused s (sym bad) .0 in
-      found (itemsOf s) _ h (sym z) (b ∙ no-more begun (empty-list (itemsOf s) z))
-      ∙ ap (λ (r : Reading). record { reading = r; survey = surveyOn (itemsOf s) }) bad
+      found (length (itemsOf s)) (keptIn preview s) _ h (sym z) (b ∙ no-more preview begun (empty-list (itemsOf s) z))
+      ∙ ap (λ (r : Reading). record { reading = r; survey = surveyOn (length (itemsOf s)) (keptIn preview s) }) bad
 
   module _ {n : ℕ} (f : x ≡ E.Are n) where
-    pub few : n ≤ 4096
-    few = omega (arith, count-is s e f, count-bound s)
-
-    pub all : surveyFrom s n ≡ surveyOf s
+    pub all : surveyFrom preview s n ≡ surveyOf preview s
     unfolding surveyFrom surveyOf
     all =
-        ap₂ (λ (r : Reading) (is : List Item). record { reading = r; survey = surveyOn is }) (reading-is s e f)
+        ap₂ (λ (r : Reading) (is : List Item). record { reading = r; survey = surveyOn (length is) (keptOf preview is) }) (reading-is s e f)
         (ap (λ (m : ℕ). readFrom s m start) (count-is s e f) ∙ sym (items-start s))

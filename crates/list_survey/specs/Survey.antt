@@ -7,29 +7,32 @@ use mathlib.Core.List.{List, [], _∷_}
 use lib.ListN.{length}
 use Rattle.dng.specs.declared.Reading.{Reading}
 use Rattle.dng.specs.List.{Item, itemsOf, readFrom, readingOf}
-use Rattle.dng.specs.Run.{takes16, takesRows, skipped, skipped16, namesOf}
+use Rattle.dng.specs.Run.{keptOf, keptIn, takes16, takesRows, skipped, skipped16, namesOf}
 use Rattle.list_classes.specs.declared.Facts.{Facts}
 use Rattle.list_read.specs.Count.{readingFrom}
 use Rattle.list_survey.specs.declared.Survey.{Survey}
 use Rattle.list_survey.specs.declared.Surveyed.{Surveyed}
 use Rattle.list_survey.specs.declared.Tally.{Tally}
 
-unfoldable pub surveyOn : List Item → Survey
-surveyOn is =
+-- of n entries, of which those are left
+unfoldable pub surveyOn : ℕ → List Item → Survey
+surveyOn n is =
     record {
-      opcodes = length is;
+      opcodes = n;
       takes16 = takes16 is;
       «takes_rows» = takesRows is;
       skips = length (namesOf skipped is);
       skips16 = length (namesOf skipped16 is);
     }
 
-unfoldable pub surveyOf : List ℕ → Surveyed
-surveyOf s = record { reading = readingOf s; survey = surveyOn (itemsOf s) }
+unfoldable pub surveyOf : (preview : Bool) → List ℕ → Surveyed
+surveyOf preview s = record { reading = readingOf s; survey = surveyOn (length (itemsOf s)) (keptIn preview s) }
 
 -- the same of n entries after the count
-unfoldable pub surveyFrom : List ℕ → ℕ → Surveyed
-surveyFrom s n = record { reading = readingFrom s n; survey = surveyOn (readFrom s n (record { at = 4 })) }
+unfoldable pub surveyFrom : (preview : Bool) → List ℕ → ℕ → Surveyed
+surveyFrom preview s n =
+    let is = readFrom s n (record { at = 4 }) in
+    record { reading = readingFrom s n; survey = surveyOn (length is) (keptOf preview is) }
 
 -- ---- how the pass comes to it: no entry yet, one entry more, and the end
 

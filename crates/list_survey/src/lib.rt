@@ -1,5 +1,5 @@
 // One pass over a list: whether it can be read whole, how many entries are, which forms take those, and how many
-// opcodes each form skips.
+// opcodes each form skips. In a preview forms and skips go by the entries that are left.
 // What is said of the entries goes by those that are read whole, also where the list is malformed after them.
 use dng::Cursor;
 use dng::Opcode;
@@ -7,6 +7,7 @@ use dng::Reading;
 use dng::Step;
 use list_read::Entries;
 ghost use mathlib.Core.Path.{_≡_};
+ghost use mathlib.Core.Bool.{cond};
 ghost use Prim.Native.Nat.{_≤_};
 ghost use Rattle.dng.specs.Run.{classOf};
 ghost use Rattle.list_classes.specs.Classes.{factsOf};
@@ -48,10 +49,14 @@ fn begin() -> Tally
     }
 }
 
-fn turn(t: Tally, op: Opcode) -> Tally
+// One entry more; one that is dropped counts for nothing.
+fn turn(t: Tally, op: Opcode, dropped: bool) -> Tally
     requires { ⌜ (t .skips ≤ 4096) × (t .skips16 ≤ 4096) ⌝ }
-    ensures { λ r. ⌜ r ≡ turnOn (factsOf (classOf op)) t ⌝ }
+    ensures { λ r. ⌜ r ≡ cond dropped t (turnOn (factsOf (classOf op)) t) ⌝ }
 {
+    if dropped {
+        return t;
+    }
     let f = list_classes::facts_of(op);
     let one = num_small::one_if(f.skipped);
     let one16 = num_small::one_if(f.skipped16);
@@ -78,17 +83,17 @@ fn made_of(reading: Reading, opcodes: usize, t: Tally) -> Surveyed
 }
 
 // n entries after the count, to the last or to the first malformed one.
-fn read_entries(list: &[u8], n: usize) -> Surveyed
+fn read_entries(list: &[u8], n: usize, preview: bool) -> Surveyed
     requires { ⌜ n ≤ 4096 ⌝ }
-    ensures { λ r. ⌜ r ≡ surveyFrom (now (list .entry)) n ⌝ }
+    ensures { λ r. ⌜ r ≡ surveyFrom preview (now (list .entry)) n ⌝ }
 {
     let mut t = begin();
     let mut k: usize = 0;
     let mut c = Cursor { at: 4 };
     while k < n {
         match list_read::step(list, c) {
-            Step::Item { entry: _, op, next } => {
-                t = turn(t, op);
+            Step::Item { entry, op, next } => {
+                t = turn(t, op, list_entries::dropped(entry, preview));
                 c = next;
                 k += 1;
             }
@@ -101,11 +106,11 @@ fn read_entries(list: &[u8], n: usize) -> Surveyed
 }
 
 // Reads a list to its end or to its first malformed entry.
-pub fn read(list: &[u8]) -> Surveyed
-    ensures { λ r. ⌜ r ≡ surveyOf (now (list .entry)) ⌝ }
+pub fn read(list: &[u8], preview: bool) -> Surveyed
+    ensures { λ r. ⌜ r ≡ surveyOf preview (now (list .entry)) ⌝ }
 {
     match list_read::entries_in(list) {
         Entries::Refused { why } => made_of(Reading::Malformed { after: 0, why }, 0, begin()),
-        Entries::Are { n } => read_entries(list, n),
+        Entries::Are { n } => read_entries(list, n, preview),
     }
 }

@@ -26,13 +26,13 @@ told o a r row ran e = record { answered = e ∙ ap rowNumbersFor (ran .answered
 put : List ℕ → RowAnswer → List Float → List ℕ
 put old a row = cond (rowDone a) (encoded 4 (toBits binary32) nan row old) old
 
-pub left : (w : RowWindow) (scale : Float) (y : ℕ) (list old bytes : List ℕ) (room full row : List Float) (a : RowAnswer) (done : Bool)
-    → full ≡ decoded (floatAt old) room → RowRan (rowOut w scale y list full) a row → done ≡ rowDone a
+pub left : (w : RowWindow) (scale : Float) (preview : Bool) (y : ℕ) (list old bytes : List ℕ) (room full row : List Float) (a : RowAnswer) (done : Bool)
+    → full ≡ decoded (floatAt old) room → RowRan (rowOut w scale preview y list full) a row → done ≡ rowDone a
     → bytes ≡ cond done (encoded 4 (toBits binary32) nan row old) old
-    → RowLeft (rowOut w scale y list (decoded (floatAt old) room)) old a bytes
+    → RowLeft (rowOut w scale preview y list (decoded (floatAt old) room)) old a bytes
 unfolding put
-left w scale y list old bytes room full row a done e ran d p =
-    let r : RowRan (rowOut w scale y list (decoded (floatAt old) room)) a row = subst (λ (l : List Float). RowRan (rowOut w scale y list l) a row) e ran in
+left w scale preview y list old bytes room full row a done e ran d p =
+    let r : RowRan (rowOut w scale preview y list (decoded (floatAt old) room)) a row = subst (λ (l : List Float). RowRan (rowOut w scale preview y list l) a row) e ran in
     let b : bytes ≡ put old a row = p ∙ ap (λ (t : Bool). cond t (encoded 4 (toBits binary32) nan row old) old) d in
     record { answered = r .answered; left = b ∙ ap₂ (put old) (r .answered) (r .left) }
 
@@ -52,15 +52,15 @@ samples-are old work h =
     (length-take-le (length old / 4) work h ∙ sym (length-replicate (length old / 4) nought))
 
 -- enough of it
-pub enough : (w : RowWindow) (scale : Float) (y : ℕ) (list old bytes : List ℕ) (work room : List Float) (a : RowAnswer) (r : RowNumbers)
+pub enough : (w : RowWindow) (scale : Float) (preview : Bool) (y : ℕ) (list old bytes : List ℕ) (work room : List Float) (a : RowAnswer) (r : RowNumbers)
     → length old / 4 ≤ length work
-    → RowLeft (rowOut w scale y list (decoded (floatAt old) (take (length old / 4) work))) old a bytes → r ≡ rowNumbersFor a
+    → RowLeft (rowOut w scale preview y list (decoded (floatAt old) (take (length old / 4) work))) old a bytes → r ≡ rowNumbersFor a
     → (mid : List Float) → room ≡ cleared nought mid → length room ≡ length work
-    → RowBytes (rowOut w scale y list (floatsIn old)) old (length work) r bytes room
-enough w scale y list old bytes work room a r h ran e mid clear many =
-    let t : RowLeft (rowOut w scale y list (floatsIn old)) old a bytes =
-    subst (λ (l : List Float). RowLeft (rowOut w scale y list l) old a bytes) (samples-are old work h) ran in
-    let o : RowOut = rowOut w scale y list (floatsIn old) in
+    → RowBytes (rowOut w scale preview y list (floatsIn old)) old (length work) r bytes room
+enough w scale preview y list old bytes work room a r h ran e mid clear many =
+    let t : RowLeft (rowOut w scale preview y list (floatsIn old)) old a bytes =
+    subst (λ (l : List Float). RowLeft (rowOut w scale preview y list l) old a bytes) (samples-are old work h) ran in
+    let o : RowOut = rowOut w scale preview y list (floatsIn old) in
     record {
       answered = e ∙ ap rowNumbersFor (t .answered) ∙ ap (λ (b : Bool). cond b (rowNumbersFor (o .answer)) rowShort) (sym (le-leb _ _ h));
       left = t .left ∙ ap (λ (b : Bool). cond b (rowBytes o old) old) (sym (le-leb _ _ h));

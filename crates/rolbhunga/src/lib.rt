@@ -106,10 +106,11 @@ pub extern "C" fn rolbhunga_run_row(
     w: RowWindow,
     y: usize,
     scale: f32,
+    preview: bool,
 ) -> RowNumbers
-    ensures { λ r. ⌜ RowTold (rowOut w scale y (now (list .entry)) (now (row .entry))) r (now (row .exit)) ⌝ }
+    ensures { λ r. ⌜ RowTold (rowOut w scale preview y (now (list .entry)) (now (row .entry))) r (now (row .exit)) ⌝ }
 {
-    row_numbers(run_row::run_row(list, row, w, y, scale))
+    row_numbers(run_row::run_row(list, row, w, y, scale, preview))
 }
 
 // ---- f32 samples in bytes
@@ -144,15 +145,17 @@ fn row_in(
     w: RowWindow,
     y: usize,
     scale: f32,
+    preview: bool,
     room: &mut [f32],
 ) -> RowAnswer
     requires { ⌜ length (now room) * 4 ≤ length (now bytes) ⌝ }
     ensures { λ r.
-        ⌜ RowLeft (rowOut w scale y (now (list .entry)) (decoded (floatAt (now (bytes .entry))) (now (room .entry))))
+        ⌜ RowLeft
+        (rowOut w scale preview y (now (list .entry)) (decoded (floatAt (now (bytes .entry))) (now (room .entry))))
         (now (bytes .entry)) r (now (bytes .exit)) ⌝ }
 {
     run_bytes::decode_f32(bytes, &mut *room);
-    let r = run_row::run_row(list, &mut *room, w, y, scale);
+    let r = run_row::run_row(list, &mut *room, w, y, scale, preview);
     put_f32(room, bytes, is_row_done(r));
     r
 }
@@ -164,10 +167,11 @@ pub extern "C" fn rolbhunga_bytes_row(
     w: RowWindow,
     y: usize,
     scale: f32,
+    preview: bool,
     work: &mut [f32],
 ) -> RowNumbers
     ensures { λ r.
-        ⌜ RowBytes (rowOut w scale y (now (list .entry)) (floatsIn (now (bytes .entry)))) (now (bytes .entry))
+        ⌜ RowBytes (rowOut w scale preview y (now (list .entry)) (floatsIn (now (bytes .entry)))) (now (bytes .entry))
         (length (now (work .entry)))
         r (now (bytes .exit)) (now (work .exit)) ⌝ }
 {
@@ -181,7 +185,7 @@ pub extern "C" fn rolbhunga_bytes_row(
             skipped: 0,
         }
     } else {
-        let r = row_in(list, bytes, w, y, scale, &mut work[..n]);
+        let r = row_in(list, bytes, w, y, scale, preview, &mut work[..n]);
         run_bytes::clear_f32(work);
         row_numbers(r)
     }
@@ -213,16 +217,17 @@ pub extern "C" fn rolbhunga_run_u16(
     samples: &mut [u16],
     w: Window,
     period: usize,
+    preview: bool,
     marks: &mut [u32],
     names: &mut [u8],
 ) -> Numbers
     ensures { λ r.
-        ⌜ Told (u16Out w period (record { marks = length (now (marks .entry)) })
+        ⌜ Told (u16Out w period preview (record { marks = length (now (marks .entry)) })
         (now (list .entry)) (now (samples .entry)) (now (names .entry)))
         (record { marks = length (now (marks .entry)) })
         r (now (samples .exit)) (now (names .exit)) (now (marks .exit)) ⌝ }
 {
-    run_answers::numbers(run_window::run_u16(list, samples, w, period, marks, names))
+    run_answers::numbers(run_window::run_u16(list, samples, w, period, preview, marks, names))
 }
 
 // ---- whole windows, samples in bytes
@@ -332,6 +337,7 @@ fn u16_in(
     bytes: &mut [u8],
     w: Window,
     period: usize,
+    preview: bool,
     room: &mut [u16],
     marks: &mut [u32],
     names: &mut [u8],
@@ -339,13 +345,13 @@ fn u16_in(
     requires { ⌜ length (now room) * 2 ≤ length (now bytes) ⌝ }
     ensures { λ r.
         ⌜ Left 2 (λ n. n) 0
-        (u16Out w period (record { marks = length (now (marks .entry)) })
+        (u16Out w period preview (record { marks = length (now (marks .entry)) })
         (now (list .entry)) (decoded (wholeAt (now (bytes .entry))) (now (room .entry))) (now (names .entry)))
         (record { marks = length (now (marks .entry)) })
         (now (bytes .entry)) r (now (bytes .exit)) (now (names .exit)) (now (marks .exit)) ⌝ }
 {
     run_bytes::decode_u16(bytes, &mut *room);
-    let r = run_window::run_u16(list, &mut *room, w, period, marks, names);
+    let r = run_window::run_u16(list, &mut *room, w, period, preview, marks, names);
     put_u16(room, bytes, is_reached(r));
     r
 }
@@ -356,13 +362,14 @@ pub extern "C" fn rolbhunga_bytes_u16(
     bytes: &mut [u8],
     w: Window,
     period: usize,
+    preview: bool,
     work: &mut [u16],
     marks: &mut [u32],
     names: &mut [u8],
 ) -> Numbers
     ensures { λ r.
         ⌜ Bytes 2 (λ n. n) 0 0
-        (u16Out w period (record { marks = length (now (marks .entry)) })
+        (u16Out w period preview (record { marks = length (now (marks .entry)) })
         (now (list .entry)) (wholesIn (now (bytes .entry))) (now (names .entry)))
         (record { marks = length (now (marks .entry)) })
         (now (bytes .entry)) (now (names .entry)) (length (now (work .entry)))
@@ -373,7 +380,7 @@ pub extern "C" fn rolbhunga_bytes_u16(
         run_bytes::clear_u16(work);
         refuse(marks)
     } else {
-        let r = u16_in(list, bytes, w, period, &mut work[..count], marks, names);
+        let r = u16_in(list, bytes, w, period, preview, &mut work[..count], marks, names);
         run_bytes::clear_u16(work);
         run_answers::numbers(r)
     }

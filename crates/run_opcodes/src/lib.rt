@@ -10,9 +10,9 @@ use dng::Window;
 use fix_repair::Fixed;
 use list_classes::Class;
 ghost use mathlib.Core.Path.{_≡_};
-ghost use mathlib.Core.Bool.{true};
+ghost use mathlib.Core.Bool.{true, _&&_};
 ghost use lib.ListN.{length};
-ghost use Rattle.dng.specs.List.{itemsOf, bodyOf};
+ghost use Rattle.dng.specs.List.{previewOf, itemsOf, bodyOf};
 ghost use Rattle.dng.specs.Value.{ruleOf, rule16Of};
 ghost use Rattle.dng.specs.Run.{f32Kind, u16Kind, going, performAll};
 ghost use Rattle.dng.specs.Answer.{inRange, frameOf};
@@ -21,7 +21,7 @@ ghost use Rattle.win_rows.specs.Windows.{WindowFits};
 ghost use Rattle.run_opcodes.specs.Performs.{progressOf, Steps, Stepped};
 
 // All opcodes performed, with the positions repaired and left; or stopped at an opcode by too little room for its
-// marks (5).
+// marks (5). Opcodes that a preview leaves out are passed over and counted.
 pub enum Performed {
     All { repaired: u64, left: u64 },
     Marks { opcode: usize },
@@ -43,7 +43,8 @@ fn step_f32(list: &[u8], samples: &mut [f32], w: Window, scale: f32, e: Entry, o
     }
 }
 
-// One opcode of the list: its class decides. One that is never applied, and a table with no entries, do nothing.
+// One opcode of the list: its class decides. One that is left out, one that is never applied, and a table with no
+// entries do nothing.
 fn one_f32(
     list: &[u8],
     samples: &mut [f32],
@@ -57,9 +58,9 @@ fn one_f32(
     ensures { λ r.
         ⌜ Steps (f32Kind (frameOf w (set .scale))) w (set .period)
         (record { marks = length (now (marks .entry)) })
-        op (bodyOf (now (list .entry)) e) (now (samples .entry)) (now (samples .exit)) r ⌝ }
+        (set .preview && previewOf e) op (bodyOf (now (list .entry)) e) (now (samples .entry)) (now (samples .exit)) r ⌝ }
 {
-    match list_classes::class_of(op) {
+    match list_classes::class_in(op, list_entries::dropped(e, set.preview)) {
         Class::Table => step_f32(list, samples, w, set.scale, e, op),
         Class::Local => step_f32(list, samples, w, set.scale, e, op),
         Class::Repair => fix_repair::fix_f32(
@@ -95,7 +96,7 @@ pub fn perform_f32(
         ⌜ progressOf r (now (samples .exit))
         ≡ performAll (f32Kind (frameOf w (set .scale))) w (set .period)
         (record { marks = length (now (marks .entry)) })
-        (now (list .entry)) 0 (itemsOf (now (list .entry))) (going (now (samples .entry)) 0 0) ⌝ }
+        (set .preview) (now (list .entry)) 0 (itemsOf (now (list .entry))) (going (now (samples .entry)) 0 0) ⌝ }
 {
     let n = list_read::count(list);
     let mut repaired: u64 = 0;
@@ -150,6 +151,7 @@ fn one_u16(
     samples: &mut [u16],
     w: Window,
     period: usize,
+    preview: bool,
     e: Entry,
     op: Opcode,
     marks: &mut [u32],
@@ -158,9 +160,9 @@ fn one_u16(
     ensures { λ r.
         ⌜ Steps u16Kind w period
         (record { marks = length (now (marks .entry)) })
-        op (bodyOf (now (list .entry)) e) (now (samples .entry)) (now (samples .exit)) r ⌝ }
+        (preview && previewOf e) op (bodyOf (now (list .entry)) e) (now (samples .entry)) (now (samples .exit)) r ⌝ }
 {
-    match list_classes::class_of(op) {
+    match list_classes::class_in(op, list_entries::dropped(e, preview)) {
         Class::Table => step_u16(list, samples, w, e, op),
         Class::Local => step_u16(list, samples, w, e, op),
         Class::Repair => fix_repair::fix_u16(
@@ -188,6 +190,7 @@ pub fn perform_u16(
     samples: &mut [u16],
     w: Window,
     period: usize,
+    preview: bool,
     marks: &mut [u32],
 ) -> Performed
     requires { ⌜ inRange w period ≡ true ⌝ }
@@ -195,7 +198,7 @@ pub fn perform_u16(
         ⌜ progressOf r (now (samples .exit))
         ≡ performAll u16Kind w period
         (record { marks = length (now (marks .entry)) })
-        (now (list .entry)) 0 (itemsOf (now (list .entry))) (going (now (samples .entry)) 0 0) ⌝ }
+        preview (now (list .entry)) 0 (itemsOf (now (list .entry))) (going (now (samples .entry)) 0 0) ⌝ }
 {
     let n = list_read::count(list);
     let mut repaired: u64 = 0;
@@ -205,7 +208,7 @@ pub fn perform_u16(
     while k < n {
         match list_read::step(list, c) {
             Step::Item { entry, op, next } => {
-                match one_u16(list, &mut *samples, w, period, entry, op, &mut *marks) {
+                match one_u16(list, &mut *samples, w, period, preview, entry, op, &mut *marks) {
                     Fixed::Done {
                         repaired: r,
                         left: l,

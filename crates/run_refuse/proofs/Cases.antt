@@ -12,7 +12,8 @@ use Rattle.dng.specs.declared.Refusal.{Refusal}
 use Rattle.dng.specs.declared.Reading.{Reading}
 use Rattle.dng.specs.declared.Reading.the-variants as R
 use Rattle.dng.specs.List.{Item, readingOf, itemsOf}
-use Rattle.dng.specs.Run.{Class}
+use lib.ListN.{length}
+use Rattle.dng.specs.Run.{keptIn, Class}
 use Rattle.dng.specs.Answer.{inRange, rowInRange}
 use Rattle.list_names.specs.Names.{skippedIn}
 use Rattle.list_survey.specs.declared.Survey.{Survey}
@@ -50,40 +51,40 @@ module _ {whole : Bool} (s : Survey) (room : ℕ) {p : Plan} where
 
 -- ---- what was found of a list
 
-module _ (list : List ℕ) {v : Surveyed} (e : v ≡ surveyOf list) where
+module _ (preview : Bool) (list : List ℕ) {v : Surveyed} (e : v ≡ surveyOf preview list) where
   pub reading-is : v .reading ≡ readingOf list
   unfolding surveyOf
   reading-is = ap (λ (u : Surveyed). u .reading) e
 
-  survey-is : v .survey ≡ surveyOn (itemsOf list)
+  survey-is : v .survey ≡ surveyOn (length (itemsOf list)) (keptIn preview list)
   unfolding surveyOf
   survey-is = ap (λ (u : Surveyed). u .survey) e
 
   pub form-plan :
-      (whole : Bool) (room : ℕ) {p : Plan} → p ≡ formPlan whole (v .survey) room → p ≡ planOn (takesIn whole) (skippedIn whole) list room
+      (whole : Bool) (room : ℕ) {p : Plan} → p ≡ formPlan whole (v .survey) room → p ≡ planOn (takesIn whole) (skippedIn whole) list preview room
   unfolding surveyOn formPlan
   form-plan true room h = h ∙ ap (λ (s : Survey). formPlan true s room) survey-is
   form-plan false room h = h ∙ ap (λ (s : Survey). formPlan false s room) survey-is
 
-  pub row-plan : {p : RowPlan} → p ≡ rowPlanFor (v .survey .«takes_rows») (v .survey .skips) → p ≡ rowPlanOn list
+  pub row-plan : {p : RowPlan} → p ≡ rowPlanFor (v .survey .«takes_rows») (v .survey .skips) → p ≡ rowPlanOn list preview
   unfolding surveyOn
   row-plan h = h ∙ ap (λ (s : Survey). rowPlanFor (s .«takes_rows») (s .skips)) survey-is
 
 -- ---- 1 and 2
 
-module _ (takes : List Item → Bool) (skip : Class → Bool) (list : List ℕ) (w : Window) (period room : ℕ)
+module _ (takes : List Item → Bool) (skip : Class → Bool) (list : List ℕ) (w : Window) (period : ℕ) (preview : Bool) (room : ℕ)
     {b : Bool} (h : b ≡ inRange w period) where
-  pub out-of-range : b ≡ false → P.Refuse Ans.Range ≡ planOf takes skip list w period room
+  pub out-of-range : b ≡ false → P.Refuse Ans.Range ≡ planOf takes skip list w period preview room
   unfolding planOf
   out-of-range f = simp (sym h ∙ f)
 
   module _ (t : b ≡ true) {r : Reading} (e : r ≡ readingOf list) where
     pub malformed :
-        {k : ℕ} {why : Refusal} → r ≡ R.Malformed k why → P.Refuse (Ans.Malformed k why) ≡ planOf takes skip list w period room
+        {k : ℕ} {why : Refusal} → r ≡ R.Malformed k why → P.Refuse (Ans.Malformed k why) ≡ planOf takes skip list w period preview room
     unfolding planOf
     malformed q = simp (sym h ∙ t, sym e ∙ q)
 
-    pub read : {n : ℕ} {p : Plan} → r ≡ R.Whole n → p ≡ planOn takes skip list room → p ≡ planOf takes skip list w period room
+    pub read : {n : ℕ} {p : Plan} → r ≡ R.Whole n → p ≡ planOn takes skip list preview room → p ≡ planOf takes skip list w period preview room
     unfolding planOf
     read q i = i ∙ simp (sym h ∙ t, sym e ∙ q)
 
@@ -98,17 +99,17 @@ module _ {taken : Bool} (names : ℕ) where
   unfolding rowPlanFor
   row-goes t = simp t
 
-module _ (list : List ℕ) (w : RowWindow) (y n : ℕ) {b : Bool} (h : b ≡ rowInRange w y n) where
-  pub row-out-of-range : b ≡ false → RP.Refuse Row.Range ≡ rowPlanOf list w y n
+module _ (list : List ℕ) (w : RowWindow) (preview : Bool) (y n : ℕ) {b : Bool} (h : b ≡ rowInRange w y n) where
+  pub row-out-of-range : b ≡ false → RP.Refuse Row.Range ≡ rowPlanOf list w preview y n
   unfolding rowPlanOf
   row-out-of-range f = simp (sym h ∙ f)
 
   module _ (t : b ≡ true) {r : Reading} (e : r ≡ readingOf list) where
     pub row-malformed :
-        {k : ℕ} {why : Refusal} → r ≡ R.Malformed k why → RP.Refuse (Row.Malformed k why) ≡ rowPlanOf list w y n
+        {k : ℕ} {why : Refusal} → r ≡ R.Malformed k why → RP.Refuse (Row.Malformed k why) ≡ rowPlanOf list w preview y n
     unfolding rowPlanOf
     row-malformed q = simp (sym h ∙ t, sym e ∙ q)
 
-    pub row-read : {m : ℕ} {p : RowPlan} → r ≡ R.Whole m → p ≡ rowPlanOn list → p ≡ rowPlanOf list w y n
+    pub row-read : {m : ℕ} {p : RowPlan} → r ≡ R.Whole m → p ≡ rowPlanOn list preview → p ≡ rowPlanOf list w preview y n
     unfolding rowPlanOf
     row-read q i = i ∙ simp (sym h ∙ t, sym e ∙ q)

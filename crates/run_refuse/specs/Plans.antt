@@ -13,8 +13,8 @@ use Rattle.dng.specs.declared.Answer.the-variants as Ans
 use Rattle.dng.specs.declared.RowAnswer.the-variants as Row
 use Rattle.dng.specs.declared.Reading.{Reading}
 use Rattle.dng.specs.declared.Reading.the-variants as R
-use Rattle.dng.specs.List.{Item, readingOf, itemsOf}
-use Rattle.dng.specs.Run.{Class, skipped, takes16, takesRows, namesOf}
+use Rattle.dng.specs.List.{Item, readingOf}
+use Rattle.dng.specs.Run.{keptIn, Class, skipped, takes16, takesRows, namesOf}
 use Rattle.dng.specs.Answer.{inRange, rowInRange, takesAll}
 use Rattle.list_survey.specs.declared.Survey.{Survey}
 use Rattle.run_refuse.specs.declared.Plan.{Plan}
@@ -38,27 +38,32 @@ formPlan true s room = planFor (s .takes16) (s .skips16) room
 formPlan false s room = planFor true (s .skips) room
 
 module _ (takes : List Item → Bool) (skip : Class → Bool) where
-  abbrev pub planOn : List ℕ → (room : ℕ) → Plan
-  planOn list room = planFor (takes (itemsOf list)) (length (namesOf skip (itemsOf list))) room
+  -- forms and names go by what a preview leaves of the list
+  abbrev pub planOn : List ℕ → (preview : Bool) → (room : ℕ) → Plan
+  planOn list preview room =
+      planFor (takes (keptIn preview list)) (length (namesOf skip (keptIn preview list))) room
 
-  abbrev pub planRead : List ℕ → (room : ℕ) → Reading → Plan
-  planRead list room (R.Whole n) = planOn list room
-  planRead list room (R.Malformed k why) = P.Refuse (Ans.Malformed k why)
+  abbrev pub planRead : List ℕ → (preview : Bool) → (room : ℕ) → Reading → Plan
+  planRead list preview room (R.Whole n) = planOn list preview room
+  planRead list preview room (R.Malformed k why) = P.Refuse (Ans.Malformed k why)
 
   -- 1 before 20 to 25; room is the length of the skip buffer
-  unfoldable pub planOf : List ℕ → Window → (period room : ℕ) → Plan
-  planOf list w period room = cond (inRange w period) (planRead list room (readingOf list)) (P.Refuse Ans.Range)
+  unfoldable pub planOf : List ℕ → Window → (period : ℕ) → (preview : Bool) → (room : ℕ) → Plan
+  planOf list w period preview room =
+      cond (inRange w period) (planRead list preview room (readingOf list)) (P.Refuse Ans.Range)
 
 -- a row: 1, 20 to 25, 3
 unfoldable pub rowPlanFor : (taken : Bool) → (names : ℕ) → RowPlan
 rowPlanFor taken names = cond taken (RP.Go names) (RP.Refuse Row.NotTaken)
 
-abbrev pub rowPlanOn : List ℕ → RowPlan
-rowPlanOn list = rowPlanFor (takesRows (itemsOf list)) (length (namesOf skipped (itemsOf list)))
+abbrev pub rowPlanOn : List ℕ → (preview : Bool) → RowPlan
+rowPlanOn list preview =
+    rowPlanFor (takesRows (keptIn preview list)) (length (namesOf skipped (keptIn preview list)))
 
-abbrev pub rowPlanRead : List ℕ → Reading → RowPlan
-rowPlanRead list (R.Whole n) = rowPlanOn list
-rowPlanRead list (R.Malformed k why) = RP.Refuse (Row.Malformed k why)
+abbrev pub rowPlanRead : List ℕ → (preview : Bool) → Reading → RowPlan
+rowPlanRead list preview (R.Whole n) = rowPlanOn list preview
+rowPlanRead list preview (R.Malformed k why) = RP.Refuse (Row.Malformed k why)
 
-unfoldable pub rowPlanOf : List ℕ → RowWindow → (y n : ℕ) → RowPlan
-rowPlanOf list w y n = cond (rowInRange w y n) (rowPlanRead list (readingOf list)) (RP.Refuse Row.Range)
+unfoldable pub rowPlanOf : List ℕ → RowWindow → (preview : Bool) → (y n : ℕ) → RowPlan
+rowPlanOf list w preview y n =
+    cond (rowInRange w y n) (rowPlanRead list preview (readingOf list)) (RP.Refuse Row.Range)

@@ -53,15 +53,15 @@ fn settle_form(s: Survey, room: usize, whole: bool) -> Plan
 }
 
 // The ranges come before the list is looked at.
-fn settle(list: &[u8], w: Window, period: usize, room: usize, whole: bool) -> Plan
-    ensures { λ r. ⌜ r ≡ planOf (takesIn whole) (skippedIn whole) (now (list .entry)) w period room ⌝ }
+fn settle(list: &[u8], w: Window, period: usize, preview: bool, room: usize, whole: bool) -> Plan
+    ensures { λ r. ⌜ r ≡ planOf (takesIn whole) (skippedIn whole) (now (list .entry)) w period preview room ⌝ }
 {
     if !run_answers::in_range(w, period) {
         return Plan::Refuse {
             answer: Answer::Range,
         };
     }
-    let found = list_survey::read(list);
+    let found = list_survey::read(list, preview);
     let survey = found.survey;
     let reading = found.reading;
     match reading {
@@ -73,17 +73,17 @@ fn settle(list: &[u8], w: Window, period: usize, room: usize, whole: bool) -> Pl
 }
 
 // The f32 run; `room` is the length of the skip buffer.
-pub fn settle_f32(list: &[u8], w: Window, period: usize, room: usize) -> Plan
-    ensures { λ r. ⌜ r ≡ planOf takesAll skipped (now (list .entry)) w period room ⌝ }
+pub fn settle_f32(list: &[u8], w: Window, period: usize, preview: bool, room: usize) -> Plan
+    ensures { λ r. ⌜ r ≡ planOf takesAll skipped (now (list .entry)) w period preview room ⌝ }
 {
-    settle(list, w, period, room, false)
+    settle(list, w, period, preview, room, false)
 }
 
 // The whole-number run.
-pub fn settle_u16(list: &[u8], w: Window, period: usize, room: usize) -> Plan
-    ensures { λ r. ⌜ r ≡ planOf takes16 skipped16 (now (list .entry)) w period room ⌝ }
+pub fn settle_u16(list: &[u8], w: Window, period: usize, preview: bool, room: usize) -> Plan
+    ensures { λ r. ⌜ r ≡ planOf takes16 skipped16 (now (list .entry)) w period preview room ⌝ }
 {
-    settle(list, w, period, room, true)
+    settle(list, w, period, preview, room, true)
 }
 
 // A row of a list that is read whole: 3 alone is left.
@@ -99,15 +99,15 @@ fn settle_row_read(s: Survey) -> RowPlan
 }
 
 // A lent row of n samples, the row y of the image.
-pub fn settle_row(list: &[u8], w: RowWindow, y: usize, n: usize) -> RowPlan
-    ensures { λ r. ⌜ r ≡ rowPlanOf (now (list .entry)) w y n ⌝ }
+pub fn settle_row(list: &[u8], w: RowWindow, preview: bool, y: usize, n: usize) -> RowPlan
+    ensures { λ r. ⌜ r ≡ rowPlanOf (now (list .entry)) w preview y n ⌝ }
 {
     if !run_answers::row_in_range(w, y, n) {
         return RowPlan::Refuse {
             answer: RowAnswer::Range,
         };
     }
-    let found = list_survey::read(list);
+    let found = list_survey::read(list, preview);
     let survey = found.survey;
     let reading = found.reading;
     match reading {

@@ -12,14 +12,14 @@ use row_opcode::Place;
 use run_refuse::RowPlan;
 use win_gain::Gain;
 ghost use mathlib.Core.Path.{_≡_};
-ghost use mathlib.Core.Bool.{true};
+ghost use mathlib.Core.Bool.{true, _&&_, cond};
 ghost use Prim.Native.Nat.{_*_, _≤_};
 ghost use lib.ListN.{length};
 ghost use Rattle.pointwise.specs.Points.{each};
-ghost use Rattle.dng.specs.List.{itemsOf, bodyOf};
+ghost use Rattle.dng.specs.List.{previewOf, bodyOf};
 ghost use Rattle.dng.specs.Select.{onRow, onRegion};
 ghost use Rattle.dng.specs.Value.{ruleOf};
-ghost use Rattle.dng.specs.Run.{rowOn};
+ghost use Rattle.dng.specs.Run.{keptIn, rowOn};
 ghost use Rattle.dng.specs.Answer.{rowOut};
 ghost use Rattle.dng.specs.Bounds.{bounded, RowFits};
 ghost use Rattle.win_gain.specs.Columns.{MapFits, gainRule};
@@ -139,8 +139,8 @@ fn gain_planes(
     }
 }
 
-// One opcode of the list. The planes of a gain map share the positions of their columns; one plane has nothing to
-// share.
+// One opcode of the list, unless it is left out. The planes of a gain map share the positions of their columns; one
+// plane has nothing to share.
 fn perform_one(
     list: &[u8],
     row: &mut [f32],
@@ -149,17 +149,22 @@ fn perform_one(
     e: Entry,
     op: Opcode,
     scale: f32,
+    preview: bool,
 )
     requires { ⌜
         RowFits (g .x0) (g .planes) (g .y) (length (now row)) × (bounded op ≡ true) × Spans g width (length (now row))
         ⌝ }
     ensures { λ _.
         ⌜ now (row .exit)
-        ≡ each
+        ≡ cond (preview && previewOf e) (now (row .entry))
+        (each
         (onRow (g .x0) (g .planes) (g .y) (length (now (row .entry)))
         (ruleOf (frameOf g scale) op (bodyOf (now (list .entry)) e)))
-        (now (row .entry)) ⌝ }
+        (now (row .entry))) ⌝ }
 {
+    if list_entries::dropped(e, preview) {
+        return;
+    }
     if g.planes < 2 {
         step_one(list, row, g, e, op, scale);
         return;
@@ -188,12 +193,12 @@ fn perform_one(
     }
 }
 
-// All opcodes, in list order, on a row of at most `width` columns.
-fn perform(list: &[u8], row: &mut [f32], g: Place, width: usize, scale: f32)
+// All opcodes that are left, in list order, on a row of at most `width` columns.
+fn perform(list: &[u8], row: &mut [f32], g: Place, width: usize, scale: f32, preview: bool)
     requires { ⌜ RowFits (g .x0) (g .planes) (g .y) (length (now row)) × Spans g width (length (now row)) ⌝ }
     ensures { λ _.
         ⌜ now (row .exit)
-        ≡ rowOn (frameOf g scale) (g .x0) (g .planes) (g .y) (now (list .entry)) (itemsOf (now (list .entry)))
+        ≡ rowOn (frameOf g scale) (g .x0) (g .planes) (g .y) (now (list .entry)) (keptIn preview (now (list .entry)))
         (now (row .entry)) ⌝ }
 {
     let n = list_read::count(list);
@@ -202,7 +207,7 @@ fn perform(list: &[u8], row: &mut [f32], g: Place, width: usize, scale: f32)
     while k < n {
         match list_read::step(list, c) {
             Step::Item { entry, op, next } => {
-                perform_one(list, &mut *row, g, width, entry, op, scale);
+                perform_one(list, &mut *row, g, width, entry, op, scale, preview);
                 c = next;
                 k += 1;
             }
@@ -214,10 +219,17 @@ fn perform(list: &[u8], row: &mut [f32], g: Place, width: usize, scale: f32)
 }
 
 // Runs a list on a row, the row y of the image, as the f32 run would: 1, 2 or 3 in this order leave the row as it is.
-pub fn run_row(list: &[u8], row: &mut [f32], w: RowWindow, y: usize, scale: f32) -> RowAnswer
-    ensures { λ r. ⌜ RowRan (rowOut w scale y (now (list .entry)) (now (row .entry))) r (now (row .exit)) ⌝ }
+pub fn run_row(
+    list: &[u8],
+    row: &mut [f32],
+    w: RowWindow,
+    y: usize,
+    scale: f32,
+    preview: bool,
+) -> RowAnswer
+    ensures { λ r. ⌜ RowRan (rowOut w scale preview y (now (list .entry)) (now (row .entry))) r (now (row .exit)) ⌝ }
 {
-    match run_refuse::settle_row(list, w, y, row.len()) {
+    match run_refuse::settle_row(list, w, preview, y, row.len()) {
         RowPlan::Refuse { answer } => answer,
         RowPlan::Go { skipped } => {
             // a window has a column: a row of width 0 is empty, and fits one of width 1
@@ -227,6 +239,7 @@ pub fn run_row(list: &[u8], row: &mut [f32], w: RowWindow, y: usize, scale: f32)
                 place_of(w, y),
                 row_select::larger(w.width, 1),
                 scale,
+                preview,
             );
             RowAnswer::Done { skipped: skipped }
         }

@@ -21,7 +21,7 @@ use Rattle.dng.specs.declared.Answer.the-variants as Ans
 use Rattle.dng.specs.declared.Reading.{Reading}
 use Rattle.dng.specs.declared.Reading.the-variants as R
 use Rattle.dng.specs.List.{Item, readingOf, itemsOf}
-use Rattle.dng.specs.Run.{Class, Kind, u16Kind, Progress, going, marksFull, Room, performAll, namesOf, skipped16, takes16}
+use Rattle.dng.specs.Run.{keptIn, Class, Kind, u16Kind, Progress, going, marksFull, Room, performAll, namesOf, skipped16, takes16}
 use Rattle.dng.specs.Answer.{Out, Ran, inRange, unchanged, finished, ranOn, readOut, runOut, f32Out, u16Out}
 use Rattle.law_wholes.specs.WholeForm.{Below, widened, narrowed, atOne}
 use Rattle.law_wholes.proofs.Pairs.{getD-map-in}
@@ -147,20 +147,20 @@ module _ {A : Type 0} (s : List A) (names : List ℕ) where
   finished-keeps l (going t r k) h = never h
   finished-keeps l (marksFull t k) h = never h
 
-  module _ (kind : Kind A) (takes : List Item → Bool) (skip : Class → Bool) (w : Window) (period : ℕ) (room : Room) (list : List ℕ) where
-    ran-keeps : Keeps (ranOn kind takes skip w period room list s names)
+  module _ (kind : Kind A) (takes : List Item → Bool) (skip : Class → Bool) (w : Window) (period : ℕ) (preview : Bool) (room : Room) (list : List ℕ) where
+    ran-keeps : Keeps (ranOn kind takes skip w period preview room list s names)
     unfolding ranOn
     ran-keeps =
-        either (takes (itemsOf list)) _ _
-        (either (leb (length (namesOf skip (itemsOf list))) (length names)) _ _
-        (finished-keeps (namesOf skip (itemsOf list)) (performAll kind w period room list 0 (itemsOf list) (going s 0 0))) (as-it-was Ans.Names))
+        either (takes (keptIn preview list)) _ _
+        (either (leb (length (namesOf skip (keptIn preview list))) (length names)) _ _
+        (finished-keeps (namesOf skip (keptIn preview list)) (performAll kind w period room preview list 0 (itemsOf list) (going s 0 0))) (as-it-was Ans.Names))
         (as-it-was Ans.NotTaken)
 
-    read-keeps : (g : Reading) → Keeps (readOut kind takes skip w period room list s names g)
+    read-keeps : (g : Reading) → Keeps (readOut kind takes skip w period preview room list s names g)
     read-keeps (R.Whole n) = ran-keeps
     read-keeps (R.Malformed k why) = as-it-was (Ans.Malformed k why)
 
-    pub run-keeps : Keeps (runOut kind takes skip w period room list s names)
+    pub run-keeps : Keeps (runOut kind takes skip w period preview room list s names)
     unfolding runOut
     run-keeps = either (inRange w period) _ _ (read-keeps (readingOf list)) (as-it-was Ans.Range)
 
@@ -181,20 +181,20 @@ rounded w set room list names s {s′} {names′} {marks} {l} {l′} {r} e ran m
 
 -- ---- both runs in turn
 
-module _ (w : Window) (period wide : ℕ) (room : Room) (list s names : List ℕ) {a : Answer} {s′ names′ marks : List ℕ} {t : Bool}
-    (ran : Ran (u16Out w period room list s names) room a s′ names′ marks) (is : t ≡ notTaken a) where
-  told : notTaken (u16Out w period room list s names .answer) ≡ t
+module _ (w : Window) (period wide : ℕ) (preview : Bool) (room : Room) (list s names : List ℕ) {a : Answer} {s′ names′ marks : List ℕ} {t : Bool}
+    (ran : Ran (u16Out w period preview room list s names) room a s′ names′ marks) (is : t ≡ notTaken a) where
+  told : notTaken (u16Out w period preview room list s names .answer) ≡ t
   told = ap notTaken (sym (ran .answered)) ∙ sym is
 
   -- the record is one of the case that the tests pick
-  pick : {r : Mended} {s″ names″ marks″ : List ℕ} (o : MendOut) → mendOut w period room wide list s names ≡ o
-      → Mends o room r s″ names″ marks″ → Mends (mendOut w period room wide list s names) room r s″ names″ marks″
+  pick : {r : Mended} {s″ names″ marks″ : List ℕ} (o : MendOut) → mendOut w period preview room wide list s names ≡ o
+      → Mends o room r s″ names″ marks″ → Mends (mendOut w period preview room wide list s names) room r s″ names″ marks″
   pick {r} {s″} {names″} {marks″} o e m = subst (λ (x : MendOut). Mends x room r s″ names″ marks″) (sym e) m
 
-  pub by-whole : t ≡ false → Mends (mendOut w period room wide list s names) room (Whole a) s′ names′ marks
+  pub by-whole : t ≡ false → Mends (mendOut w period preview room wide list s names) room (Whole a) s′ names′ marks
   unfolding mendOut
   by-whole f =
-      pick (wholeOut (u16Out w period room list s names)) (simp (told ∙ f))
+      pick (wholeOut (u16Out w period preview room list s names)) (simp (told ∙ f))
       (record {
         answered = ap Whole (ran .answered);
         left = ran .left;
@@ -202,8 +202,8 @@ module _ (w : Window) (period wide : ℕ) (room : Room) (list s names : List ℕ
         marksClear = ran .marksClear;
       })
 
-  kept : t ≡ true → Same s names (u16Out w period room list s names)
-  kept f = run-keeps s names u16Kind takes16 skipped16 w period room list (not-taken-early (u16Out w period room list s names .answer) (told ∙ f))
+  kept : t ≡ true → Same s names (u16Out w period preview room list s names)
+  kept f = run-keeps s names u16Kind takes16 skipped16 w period preview room list (not-taken-early (u16Out w period preview room list s names .answer) (told ∙ f))
 
   same-samples : t ≡ true → s′ ≡ s
   same-samples f = ran .left ∙ kept f .samples-same
@@ -211,7 +211,7 @@ module _ (w : Window) (period wide : ℕ) (room : Room) (list s names : List ℕ
   same-names : t ≡ true → names′ ≡ names
   same-names f = ran .named ∙ kept f .names-same
 
-  pub by-neither : t ≡ true → wide < length s′ → Mends (mendOut w period room wide list s names) room NoRoom s′ names′ marks
+  pub by-neither : t ≡ true → wide < length s′ → Mends (mendOut w period preview room wide list s names) room NoRoom s′ names′ marks
   unfolding mendOut
   by-neither f h =
       let e : s′ ≡ s = same-samples f in
@@ -224,16 +224,16 @@ module _ (w : Window) (period wide : ℕ) (room : Room) (list s names : List ℕ
   same-room = ap (λ (m : ℕ). record { marks = m }) (ap length (ran .marksClear) ∙ length-replicate (room .marks) _)
 
   pub by-wide : {r : Answer} {n : ℕ} {s″ names″ marks″ : List ℕ} → t ≡ true → length s′ ≤ wide
-      → Rounded (f32Out w (atOne period) (record { marks = length marks }) list (widened s′) names′)
+      → Rounded (f32Out w (atOne period preview) (record { marks = length marks }) list (widened s′) names′)
       (record { marks = length marks }) r n s″ names″ marks″
-      → Mends (mendOut w period room wide list s names) room (Widened r n) s″ names″ marks″
+      → Mends (mendOut w period preview room wide list s names) room (Widened r n) s″ names″ marks″
   unfolding mendOut
   by-wide {r} {n} {s″} {names″} {marks″} f h q =
       let e : s′ ≡ s = same-samples f in
-      let q₁ = subst (λ (x : Room). Rounded (f32Out w (atOne period) x list (widened s′) names′) x r n s″ names″ marks″) same-room q in
-      let q₂ = subst (λ (x : List ℕ). Rounded (f32Out w (atOne period) room list (widened x) names′) room r n s″ names″ marks″) e q₁ in
-      let on = subst (λ (x : List ℕ). Rounded (f32Out w (atOne period) room list (widened s) x) room r n s″ names″ marks″) (same-names f) q₂ in
-      pick (roundedOut (f32Out w (atOne period) room list (widened s) names))
+      let q₁ = subst (λ (x : Room). Rounded (f32Out w (atOne period preview) x list (widened s′) names′) x r n s″ names″ marks″) same-room q in
+      let q₂ = subst (λ (x : List ℕ). Rounded (f32Out w (atOne period preview) room list (widened x) names′) room r n s″ names″ marks″) e q₁ in
+      let on = subst (λ (x : List ℕ). Rounded (f32Out w (atOne period preview) room list (widened s) x) room r n s″ names″ marks″) (same-names f) q₂ in
+      pick (roundedOut (f32Out w (atOne period preview) room list (widened s) names))
       (simp (told ∙ f, le-leb (length s) wide (subst (λ (x : List ℕ). length x ≤ wide) e h)))
       (record {
         answered = ap₂ Widened (on .answered) (on .counted);

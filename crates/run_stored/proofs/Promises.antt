@@ -27,27 +27,27 @@ pub record Unchanged (o : MendOut) (s names : List ℕ) : Type 0 where
   pub samples-are : o .samples ≡ s
   pub names-are : o .names ≡ names
 
-module _ (w : Window) (period : ℕ) (room : Room) (wide : ℕ) (list s names : List ℕ) (below : Below 65536 s) where
+module _ (w : Window) (period : ℕ) (preview : Bool) (room : Room) (wide : ℕ) (list s names : List ℕ) (below : Below 65536 s) where
   abbrev Keeps : MendOut → Type 0
   Keeps o = earlyMended (o .answer) ≡ true → Unchanged o s names
 
-  whole-keeps : Keeps (wholeOut (u16Out w period room list s names))
+  whole-keeps : Keeps (wholeOut (u16Out w period preview room list s names))
   whole-keeps h =
-      let k = run-keeps s names u16Kind takes16 skipped16 w period room list h in record { samples-are = k .samples-same; names-are = k .names-same }
+      let k = run-keeps s names u16Kind takes16 skipped16 w period preview room list h in record { samples-are = k .samples-same; names-are = k .names-same }
 
-  wide-keeps : Keeps (roundedOut (f32Out w (atOne period) room list (widened s) names))
+  wide-keeps : Keeps (roundedOut (f32Out w (atOne period preview) room list (widened s) names))
   wide-keeps h =
-      let k = run-keeps (widened s) names (f32Kind (frameOf w one)) takesAll skipped w period room list h in
+      let k = run-keeps (widened s) names (f32Kind (frameOf w one)) takesAll skipped w period preview room list h in
       record { samples-are = ap narrowed (k .samples-same) ∙ back s below; names-are = k .names-same }
 
   either : (b : Bool) (x y : MendOut) → Keeps x → Keeps y → Keeps (cond b x y)
   either true x y p q = p
   either false x y p q = q
 
-  pub kept : earlyMended (mendOut w period room wide list s names .answer) ≡ true → Unchanged (mendOut w period room wide list s names) s names
+  pub kept : earlyMended (mendOut w period preview room wide list s names .answer) ≡ true → Unchanged (mendOut w period preview room wide list s names) s names
   unfolding mendOut
   kept =
-      either (notTaken (u16Out w period room list s names .answer)) _ _
+      either (notTaken (u16Out w period preview room list s names .answer)) _ _
       (either (leb (length s) wide) _ _ wide-keeps (λ h. record { samples-are = refl; names-are = refl }))
       whole-keeps
 

@@ -77,12 +77,13 @@ roundedOut o = record {
 }
 
 -- room: the length of the scratch; wide: how many samples there is room for as f32
-unfoldable pub mendOut : Window → (period : ℕ) → Room → (wide : ℕ) → (list samples names : List ℕ) → MendOut
-mendOut w period room wide list s names =
-    cond (notTaken (u16Out w period room list s names .answer))
-    (cond (leb (length s) wide) (roundedOut (f32Out w (atOne period) room list (widened s) names))
+unfoldable pub mendOut : Window → (period : ℕ) → (preview : Bool) → Room → (wide : ℕ) → (list samples names : List ℕ)
+    → MendOut
+mendOut w period preview room wide list s names =
+    cond (notTaken (u16Out w period preview room list s names .answer))
+    (cond (leb (length s) wide) (roundedOut (f32Out w (atOne period preview) room list (widened s) names))
     (record { answer = NoRoom; samples = s; names = names }))
-    (wholeOut (u16Out w period room list s names))
+    (wholeOut (u16Out w period preview room list s names))
 
 -- the f32 run with what it left rounded back, and how many samples that held
 pub record Rounded (o : Out Float) (room : Room) (r : Answer) (held : ℕ) (samples names marks : List ℕ) : Type 0 where

@@ -82,18 +82,23 @@ fn run_wide(
     wide: &mut [f32],
     w: Window,
     period: usize,
+    preview: bool,
     marks: &mut [u32],
     names: &mut [u8],
 ) -> Rounding
     requires { ⌜ length (now wide) ≡ length (now samples) ⌝ }
     ensures { λ r.
-        ⌜ Rounded (f32Out w (atOne period) (record { marks = length (now (marks .entry)) })
+        ⌜ Rounded (f32Out w (atOne period preview) (record { marks = length (now (marks .entry)) })
         (now (list .entry)) (widened (now (samples .entry))) (now (names .entry)))
         (record { marks = length (now (marks .entry)) })
         (r .answer) (r .held) (now (samples .exit)) (now (names .exit)) (now (marks .exit)) ⌝ }
 {
     widen(samples, &mut *wide);
-    let set = Settings { period, scale: 1.0 };
+    let set = Settings {
+        period,
+        scale: 1.0,
+        preview,
+    };
     let answer = run_window::run_f32(list, &mut *wide, w, set, marks, names);
     let over = held(wide);
     narrow(wide, samples);
@@ -124,21 +129,22 @@ fn attempt(
     wide: &mut [f32],
     w: Window,
     period: usize,
+    preview: bool,
     marks: &mut [u32],
     names: &mut [u8],
 ) -> Mended
     ensures { λ r.
-        ⌜ Mends (mendOut w period (record { marks = length (now (marks .entry)) }) (length (now (wide .entry)))
+        ⌜ Mends (mendOut w period preview (record { marks = length (now (marks .entry)) }) (length (now (wide .entry)))
         (now (list .entry)) (now (samples .entry)) (now (names .entry)))
         (record { marks = length (now (marks .entry)) })
         r (now (samples .exit)) (now (names .exit)) (now (marks .exit)) ⌝ }
 {
-    let a = run_window::run_u16(list, &mut *samples, w, period, &mut *marks, &mut *names);
+    let a = run_window::run_u16(list, &mut *samples, w, period, preview, &mut *marks, &mut *names);
     if is_not_taken(a) {
         let n = samples.len();
         if n <= wide.len() {
             let part = &mut wide[0..n];
-            let r = run_wide(list, samples, part, w, period, marks, names);
+            let r = run_wide(list, samples, part, w, period, preview, marks, names);
             let answer = r.answer;
             let over = r.held;
             Mended::Widened { answer, held: over }
@@ -157,16 +163,17 @@ pub fn mend(
     wide: &mut [f32],
     w: Window,
     period: usize,
+    preview: bool,
     marks: &mut [u32],
     names: &mut [u8],
 ) -> Mended
     ensures { λ r.
-        ⌜ MendsClear (mendOut w period (record { marks = length (now (marks .entry)) }) (length (now (wide .entry)))
+        ⌜ MendsClear (mendOut w period preview (record { marks = length (now (marks .entry)) }) (length (now (wide .entry)))
         (now (list .entry)) (now (samples .entry)) (now (names .entry)))
         (record { marks = length (now (marks .entry)) }) (length (now (wide .entry)))
         r (now (samples .exit)) (now (wide .exit)) (now (names .exit)) (now (marks .exit)) ⌝ }
 {
-    let r = attempt(list, samples, &mut *wide, w, period, marks, names);
+    let r = attempt(list, samples, &mut *wide, w, period, preview, marks, names);
     run_bytes::clear_f32(wide);
     r
 }

@@ -8,7 +8,7 @@ use lib.Seq.{sets}
 use Rattle.dng.specs.declared.Window.{Window}
 use Rattle.dng.specs.declared.Answer.{Answer}
 use Rattle.dng.specs.List.{Item, itemsOf}
-use Rattle.dng.specs.Run.{Kind, Class, namesOf, going, Room, performAll}
+use Rattle.dng.specs.Run.{keptIn, Kind, Class, namesOf, going, Room, performAll}
 use Rattle.dng.specs.Answer.{inRange, Out, finished, runOut, Ran}
 use Rattle.list_names.specs.Names.{skippedIn}
 use Rattle.list_names.proofs.Laws.{with-room}
@@ -32,22 +32,23 @@ is p e =
 
 -- written once all is performed, by the form that was told
 pub when-done :
-    (list names : List ℕ) {done whole b : Bool} {names′ : List ℕ} → done ≡ true → whole ≡ b
-    → names′ ≡ sets names 0 (namesOf (skippedIn b) (itemsOf list))
-    → names′ ≡ cond done (sets names 0 (namesOf (skippedIn whole) (itemsOf list))) names
-when-done list names d e h =
+    (preview : Bool) (list names : List ℕ) {done whole b : Bool} {names′ : List ℕ} → done ≡ true → whole ≡ b
+    → names′ ≡ sets names 0 (namesOf (skippedIn b) (keptIn preview list))
+    → names′ ≡ cond done (sets names 0 (namesOf (skippedIn whole) (keptIn preview list))) names
+when-done preview list names d e h =
     h
-    ∙ sym (ap₂ (λ (k f : Bool). cond k (sets names 0 (namesOf (skippedIn f) (itemsOf list))) names) d e)
+    ∙ sym (ap₂ (λ (k f : Bool). cond k (sets names 0 (namesOf (skippedIn f) (keptIn preview list))) names) d e)
 
-module _ {A : Type 0} (kind : Kind A) (takes : List Item → Bool) (skip : Class → Bool) (w : Window) (period : ℕ) (room : Room)
-    (list : List ℕ) (s : List A) (names : List ℕ) {p : Plan} (plan : p ≡ planOf takes skip list w period (length names)) where
+module _ {A : Type 0} (kind : Kind A) (takes : List Item → Bool) (skip : Class → Bool) (w : Window) (period : ℕ) (preview : Bool)
+    (room : Room) (list : List ℕ) (s : List A) (names : List ℕ) {p : Plan}
+    (plan : p ≡ planOf takes skip list w period preview (length names)) where
   -- a refusal leaves everything
-  pub refused : {a : Answer} → p ≡ Go.Refuse a → Is (runOut kind takes skip w period room list s names) a s names
-  refused q = is _ (refuses kind takes skip w period room list s names (sym plan ∙ q))
+  pub refused : {a : Answer} → p ≡ Go.Refuse a → Is (runOut kind takes skip w period preview room list s names) a s names
+  refused q = is _ (refuses kind takes skip w period preview room list s names (sym plan ∙ q))
 
   module _ {n : ℕ} (q : p ≡ Go.Go n) where
-    known : Settled takes skip list w period (length names) n
-    known = settled takes skip list w period (length names) (sym plan ∙ q)
+    known : Settled takes skip list w period preview (length names) n
+    known = settled takes skip list w period preview (length names) (sym plan ∙ q)
 
     pub goes : inRange w period ≡ true
     goes = known .in-range
@@ -55,27 +56,27 @@ module _ {A : Type 0} (kind : Kind A) (takes : List Item → Bool) (skip : Class
     -- all performed and then named, or stopped and not named
     pub ended :
         (d : Performed) {done : Bool} {r : Answer} {s′ : List A} {names′ : List ℕ}
-        → progressOf d s′ ≡ performAll kind w period room list 0 (itemsOf list) (going s 0 0)
-        → done ≡ isDone d → names′ ≡ cond done (sets names 0 (namesOf skip (itemsOf list))) names → r ≡ answerOf d n
-        → Is (runOut kind takes skip w period room list s names) r s′ names′
+        → progressOf d s′ ≡ performAll kind w period room preview list 0 (itemsOf list) (going s 0 0)
+        → done ≡ isDone d → names′ ≡ cond done (sets names 0 (namesOf skip (keptIn preview list))) names → r ≡ answerOf d n
+        → Is (runOut kind takes skip w period preview room list s names) r s′ names′
     ended d {s′ = s′} {names′} e b h a =
-        go d (performs kind takes skip w period room list s names (sym plan ∙ q) ∙ ap (finished (namesOf skip (itemsOf list)) names) (sym e))
-        (h ∙ ap (λ (k : Bool). cond k (sets names 0 (namesOf skip (itemsOf list))) names) b) a
+        go d (performs kind takes skip w period preview room list s names (sym plan ∙ q) ∙ ap (finished (namesOf skip (keptIn preview list)) names) (sym e))
+        (h ∙ ap (λ (k : Bool). cond k (sets names 0 (namesOf skip (keptIn preview list))) names) b) a
       where
-        fits : length (namesOf skip (itemsOf list)) ≤ length names
+        fits : length (namesOf skip (keptIn preview list)) ≤ length names
         fits = rw (sym (known .many)) (known .fits)
 
         go :
             (d : Performed) {r : Answer}
-            → runOut kind takes skip w period room list s names ≡ finished (namesOf skip (itemsOf list)) names (progressOf d s′)
-            → names′ ≡ cond (isDone d) (sets names 0 (namesOf skip (itemsOf list))) names → r ≡ answerOf d n
-            → Is (runOut kind takes skip w period room list s names) r s′ names′
+            → runOut kind takes skip w period preview room list s names ≡ finished (namesOf skip (keptIn preview list)) names (progressOf d s′)
+            → names′ ≡ cond (isDone d) (sets names 0 (namesOf skip (keptIn preview list))) names → r ≡ answerOf d n
+            → Is (runOut kind takes skip w period preview room list s names) r s′ names′
         go (P.All x y) o h a =
             let i = is _ o in
             record {
               answered = a ∙ ap (λ (m : ℕ). answerOf (P.All x y) m) (known .many) ∙ i .answered;
               left = i .left;
-              named = h ∙ with-room (namesOf skip (itemsOf list)) names fits ∙ i .named;
+              named = h ∙ with-room (namesOf skip (keptIn preview list)) names fits ∙ i .named;
             }
         go (P.Marks k) o h a = let i = is _ o in record { answered = a ∙ i .answered; left = i .left; named = h ∙ i .named }
 

@@ -9,8 +9,7 @@ ghost use mathlib.Core.Path.{_≡_};
 ghost use mathlib.Core.Bool.{cond};
 ghost use lib.ListN.{length};
 ghost use lib.Seq.{sets};
-ghost use Rattle.dng.specs.List.{itemsOf};
-ghost use Rattle.dng.specs.Run.{namesOf};
+ghost use Rattle.dng.specs.Run.{keptIn, namesOf};
 ghost use Rattle.dng.specs.Answer.{f32Out, u16Out, Ran};
 ghost use Rattle.list_names.specs.Names.{skippedIn};
 ghost use Rattle.run_window.specs.Runs.{isDone, answerOf, Is};
@@ -42,17 +41,17 @@ fn answer_of(p: Performed, n: usize) -> Answer
 }
 
 // The names, once all is performed; on any refusal the buffer stays. `whole` asks for the whole-number form.
-fn name(list: &[u8], names: &mut [u8], done: bool, whole: bool)
+fn name(list: &[u8], names: &mut [u8], done: bool, whole: bool, preview: bool)
     ensures { λ _.
         ⌜ now (names .exit)
-        ≡ cond done (sets (now (names .entry)) 0 (namesOf (skippedIn whole) (itemsOf (now (list .entry)))))
+        ≡ cond done (sets (now (names .entry)) 0 (namesOf (skippedIn whole) (keptIn preview (now (list .entry)))))
         (now (names .entry)) ⌝ }
 {
     if done {
         if whole {
-            list_names::write_names16(list, names);
+            list_names::write_names16(list, names, preview);
         } else {
-            list_names::write_names(list, names);
+            list_names::write_names(list, names, preview);
         }
     }
 }
@@ -73,11 +72,11 @@ fn attempt_f32(
         (now (list .entry)) (now (samples .entry)) (now (names .entry)))
         r (now (samples .exit)) (now (names .exit)) ⌝ }
 {
-    match run_refuse::settle_f32(list, w, set.period, names.len()) {
+    match run_refuse::settle_f32(list, w, set.period, set.preview, names.len()) {
         Plan::Refuse { answer } => answer,
         Plan::Go { names: n } => {
             let p = run_opcodes::perform_f32(list, samples, w, set, marks);
-            name(list, names, is_done(p), false);
+            name(list, names, is_done(p), false, set.preview);
             answer_of(p, n)
         }
     }
@@ -110,19 +109,20 @@ fn attempt_u16(
     samples: &mut [u16],
     w: Window,
     period: usize,
+    preview: bool,
     marks: &mut [u32],
     names: &mut [u8],
 ) -> Answer
     ensures { λ r.
-        ⌜ Is (u16Out w period (record { marks = length (now (marks .entry)) })
+        ⌜ Is (u16Out w period preview (record { marks = length (now (marks .entry)) })
         (now (list .entry)) (now (samples .entry)) (now (names .entry)))
         r (now (samples .exit)) (now (names .exit)) ⌝ }
 {
-    match run_refuse::settle_u16(list, w, period, names.len()) {
+    match run_refuse::settle_u16(list, w, period, preview, names.len()) {
         Plan::Refuse { answer } => answer,
         Plan::Go { names: n } => {
-            let p = run_opcodes::perform_u16(list, samples, w, period, marks);
-            name(list, names, is_done(p), true);
+            let p = run_opcodes::perform_u16(list, samples, w, period, preview, marks);
+            name(list, names, is_done(p), true, preview);
             answer_of(p, n)
         }
     }
@@ -134,16 +134,17 @@ pub fn run_u16(
     samples: &mut [u16],
     w: Window,
     period: usize,
+    preview: bool,
     marks: &mut [u32],
     names: &mut [u8],
 ) -> Answer
     ensures { λ r.
-        ⌜ Ran (u16Out w period (record { marks = length (now (marks .entry)) })
+        ⌜ Ran (u16Out w period preview (record { marks = length (now (marks .entry)) })
         (now (list .entry)) (now (samples .entry)) (now (names .entry)))
         (record { marks = length (now (marks .entry)) })
         r (now (samples .exit)) (now (names .exit)) (now (marks .exit)) ⌝ }
 {
-    let r = attempt_u16(list, samples, w, period, &mut *marks, names);
+    let r = attempt_u16(list, samples, w, period, preview, &mut *marks, names);
     num_sorted::clear(marks);
     r
 }

@@ -8,7 +8,7 @@ use Rattle.list_survey.proofs.read.Tie as tie
 returns : tie.Need-returns
 returns c =
     let told = c .before .before .before in
-    none _ (told .before .before .entries-in .ensures) (told .why .given .1) (c .before .begin .ensures)
+    none _ _ (told .before .before .entries-in .ensures) (told .why .given .1) (c .before .begin .ensures)
     (c .made-of .ensures)
 
 read-entries-requires : tie.Need-read-entries-requires
@@ -19,7 +19,7 @@ read-entries-requires c κs =
 returns-2 : tie.Need-returns-2
 returns-2 c =
     let told = c .before .before in
-    c .read-entries .ensures ∙ all _ (told .before .before .entries-in .ensures) (told .n .given .1)
+    c .read-entries .ensures ∙ all _ _ (told .before .before .entries-in .ensures) (told .n .given .1)
 
 pub read-spec : {M : Type 1} → statement M
 read-spec =

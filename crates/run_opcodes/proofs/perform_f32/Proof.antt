@@ -14,7 +14,7 @@ use Rattle.run_opcodes.proofs.perform_f32.Tie as tie
 
 abbrev Inv-loop : tie.InvT-loop
 Inv-loop list samples₀ w set marks₀ n repaired₀ left₀ k₀ c₀ samples marks repaired left k c =
-    Doing (f32Kind (frameOf w (set .scale))) w (set .period) (record { marks = length marks₀ }) list samples₀ n k c samples repaired left
+    Doing (f32Kind (frameOf w (set .scale))) w (set .period) (record { marks = length marks₀ }) (set .preview) list samples₀ n k c samples repaired left
     × Kept samples₀ samples marks₀ marks
 
 abbrev μ-loop : tie.MeasureT-loop
@@ -46,7 +46,7 @@ abbrev of : tie.After-one-f32 Inv-loop μ-loop → tie.In-loop Inv-loop μ-loop
 of c = turn (stepped (found (c .before)))
 
 loop-holds : tie.Need-loop-holds Inv-loop μ-loop
-loop-holds c = (begins _ _ _ _ _ _ _ (c .count .ensures), record { samples = refl; marks = refl })
+loop-holds c = (begins _ _ _ _ _ _ _ _ (c .count .ensures), record { samples = refl; marks = refl })
 
 one-f32-requires : tie.Need-one-f32-requires Inv-loop μ-loop
 one-f32-requires c κs =
@@ -78,7 +78,7 @@ loop-again c =
     let at = of (went c) .before in
     let s = start at in
     let kept = at .loop .inv .1 in (
-      goes-on _ _ _ _ _ _ _ _ _ _ _ _ (at .loop .inv .0) (of (went c) .loop-test .taken) (stepped entry .step .ensures) (entry .entry .given .1)
+      goes-on _ _ _ _ _ _ _ _ _ _ _ _ _ (at .loop .inv .0) (of (went c) .loop-test .taken) (stepped entry .step .ensures) (entry .entry .given .1)
           (same-room (kept .marks) (one .ensures)) (positions-few (s .args .w) (s .args .set .period) (s .pre)) (c .before .r .given .1),
       record { samples = one .kept .1 .0 ∙ kept .samples; marks = one .kept .1 .1 .1 .1 .1 .1 .0 ∙ kept .marks },
     )
@@ -93,7 +93,7 @@ returns : tie.Need-returns Inv-loop μ-loop
 returns c =
     let entry = found (full c .before) in
     let at = of (full c) .before in
-    marks-full _ _ _ _ _ _ _ _ _ _ _ _ (at .loop .inv .0) (of (full c) .loop-test .taken) (stepped entry .step .ensures) (entry .entry .given .1)
+    marks-full _ _ _ _ _ _ _ _ _ _ _ _ _ (at .loop .inv .0) (of (full c) .loop-test .taken) (stepped entry .step .ensures) (entry .entry .given .1)
     (same-room (at .loop .inv .1 .marks) (full c .one-f32 .ensures)) (c .enum-told .given .1)
 
 same-length-3 : tie.Need-same-length-3 Inv-loop μ-loop
@@ -105,7 +105,7 @@ same-length-4 c = turn (c .before .before) .before .loop .inv .1 .marks
 returns-2 : tie.Need-returns-2 Inv-loop μ-loop
 returns-2 c =
     let read = c .before .before in
-    stops _ _ _ _ _ _ _ _ _ _ _ _ (turn read .before .loop .inv .0) (turn read .loop-test .taken) (read .step .ensures) (c .enum-told2 .given .1)
+    stops _ _ _ _ _ _ _ _ _ _ _ _ _ (turn read .before .loop .inv .0) (turn read .loop-test .taken) (read .step .ensures) (c .enum-told2 .given .1)
 
 same-length-5 : tie.Need-same-length-5 Inv-loop μ-loop
 same-length-5 c = c .before .loop .inv .1 .samples
@@ -114,7 +114,7 @@ same-length-6 : tie.Need-same-length-6 Inv-loop μ-loop
 same-length-6 c = c .before .loop .inv .1 .marks
 
 returns-3 : tie.Need-returns-3 Inv-loop μ-loop
-returns-3 c = ends _ _ _ _ _ _ _ _ _ _ _ _ (c .before .loop .inv .0) (c .loop-test .left)
+returns-3 c = ends _ _ _ _ _ _ _ _ _ _ _ _ _ (c .before .loop .inv .0) (c .loop-test .left)
 
 pub perform-f32-spec : {M : Type 1} → statement M
 perform-f32-spec =

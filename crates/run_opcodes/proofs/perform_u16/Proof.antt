@@ -11,12 +11,12 @@ use Rattle.run_opcodes.proofs.perform_u16.Statement.{statement}
 use Rattle.run_opcodes.proofs.perform_u16.Tie as tie
 
 abbrev Inv-loop : tie.InvT-loop
-Inv-loop list samples₀ w period marks₀ n repaired₀ left₀ k₀ c₀ samples marks repaired left k c =
-    Doing (u16Kind) w (period) (record { marks = length marks₀ }) list samples₀ n k c samples repaired left
+Inv-loop list samples₀ w period preview marks₀ n repaired₀ left₀ k₀ c₀ samples marks repaired left k c =
+    Doing (u16Kind) w (period) (record { marks = length marks₀ }) preview list samples₀ n k c samples repaired left
     × Kept samples₀ samples marks₀ marks
 
 abbrev μ-loop : tie.MeasureT-loop
-μ-loop list samples₀ w period marks₀ n repaired₀ left₀ k₀ c₀ samples marks repaired left k c = n - k
+μ-loop list samples₀ w period preview marks₀ n repaired₀ left₀ k₀ c₀ samples marks repaired left k c = n - k
 
 -- the function's start; the turn of the loop that an opcode belongs to; the step that found it, what was found, and the opcode done
 abbrev start : tie.At-loop Inv-loop μ-loop → tie.Start Inv-loop μ-loop
@@ -44,7 +44,7 @@ abbrev of : tie.After-one-u16 Inv-loop μ-loop → tie.In-loop Inv-loop μ-loop
 of c = turn (stepped (found (c .before)))
 
 loop-holds : tie.Need-loop-holds Inv-loop μ-loop
-loop-holds c = (begins _ _ _ _ _ _ _ (c .count .ensures), record { samples = refl; marks = refl })
+loop-holds c = (begins _ _ _ _ _ _ _ _ (c .count .ensures), record { samples = refl; marks = refl })
 
 one-u16-requires : tie.Need-one-u16-requires Inv-loop μ-loop
 one-u16-requires c κs = start (turn (stepped (found c)) .before) .pre
@@ -74,22 +74,22 @@ loop-again c =
     let at = of (went c) .before in
     let s = start at in
     let kept = at .loop .inv .1 in (
-      goes-on _ _ _ _ _ _ _ _ _ _ _ _ (at .loop .inv .0) (of (went c) .loop-test .taken) (stepped entry .step .ensures) (entry .entry .given .1)
+      goes-on _ _ _ _ _ _ _ _ _ _ _ _ _ (at .loop .inv .0) (of (went c) .loop-test .taken) (stepped entry .step .ensures) (entry .entry .given .1)
           (same-room (kept .marks) (one .ensures)) (positions-few (s .args .w) (s .args .period) (s .pre)) (c .before .r .given .1),
-      record { samples = one .kept .1 .0 ∙ kept .samples; marks = one .kept .1 .1 .1 .1 .1 .1 .0 ∙ kept .marks },
+      record { samples = one .kept .1 .0 ∙ kept .samples; marks = one .kept .1 .1 .1 .1 .1 .1 .1 .0 ∙ kept .marks },
     )
 
 same-length : tie.Need-same-length Inv-loop μ-loop
 same-length c = full c .one-u16 .kept .1 .0 ∙ of (full c) .before .loop .inv .1 .samples
 
 same-length-2 : tie.Need-same-length-2 Inv-loop μ-loop
-same-length-2 c = full c .one-u16 .kept .1 .1 .1 .1 .1 .1 .0 ∙ of (full c) .before .loop .inv .1 .marks
+same-length-2 c = full c .one-u16 .kept .1 .1 .1 .1 .1 .1 .1 .0 ∙ of (full c) .before .loop .inv .1 .marks
 
 returns : tie.Need-returns Inv-loop μ-loop
 returns c =
     let entry = found (full c .before) in
     let at = of (full c) .before in
-    marks-full _ _ _ _ _ _ _ _ _ _ _ _ (at .loop .inv .0) (of (full c) .loop-test .taken) (stepped entry .step .ensures) (entry .entry .given .1)
+    marks-full _ _ _ _ _ _ _ _ _ _ _ _ _ (at .loop .inv .0) (of (full c) .loop-test .taken) (stepped entry .step .ensures) (entry .entry .given .1)
     (same-room (at .loop .inv .1 .marks) (full c .one-u16 .ensures)) (c .enum-told .given .1)
 
 same-length-3 : tie.Need-same-length-3 Inv-loop μ-loop
@@ -101,7 +101,7 @@ same-length-4 c = turn (c .before .before) .before .loop .inv .1 .marks
 returns-2 : tie.Need-returns-2 Inv-loop μ-loop
 returns-2 c =
     let read = c .before .before in
-    stops _ _ _ _ _ _ _ _ _ _ _ _ (turn read .before .loop .inv .0) (turn read .loop-test .taken) (read .step .ensures) (c .enum-told2 .given .1)
+    stops _ _ _ _ _ _ _ _ _ _ _ _ _ (turn read .before .loop .inv .0) (turn read .loop-test .taken) (read .step .ensures) (c .enum-told2 .given .1)
 
 same-length-5 : tie.Need-same-length-5 Inv-loop μ-loop
 same-length-5 c = c .before .loop .inv .1 .samples
@@ -110,7 +110,7 @@ same-length-6 : tie.Need-same-length-6 Inv-loop μ-loop
 same-length-6 c = c .before .loop .inv .1 .marks
 
 returns-3 : tie.Need-returns-3 Inv-loop μ-loop
-returns-3 c = ends _ _ _ _ _ _ _ _ _ _ _ _ (c .before .loop .inv .0) (c .loop-test .left)
+returns-3 c = ends _ _ _ _ _ _ _ _ _ _ _ _ _ (c .before .loop .inv .0) (c .loop-test .left)
 
 pub perform-u16-spec : {M : Type 1} → statement M
 perform-u16-spec =

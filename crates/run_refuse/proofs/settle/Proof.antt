@@ -6,19 +6,19 @@ use Rattle.run_refuse.proofs.settle.Statement.{statement}
 use Rattle.run_refuse.proofs.settle.Tie as tie
 
 returns : tie.Need-returns
-returns c = out-of-range _ _ _ _ _ _ (c .before .in-range .ensures) (not-true _ (c .if1 .taken))
+returns c = out-of-range _ _ _ _ _ _ _ (c .before .in-range .ensures) (not-true _ (c .if1 .taken))
 
 returns-2 : tie.Need-returns-2
 returns-2 c =
     let b4 = c .before .before .before .before in
-    read _ _ _ _ _ _ (b4 .before .before .in-range .ensures) (not-false _ (b4 .before .if1 .left))
-    (reading-is _ (b4 .read .ensures)) (c .before .enum-told .given .1) (form-plan _ (b4 .read .ensures) _ _ (c .settle-form .ensures))
+    read _ _ _ _ _ _ _ (b4 .before .before .in-range .ensures) (not-false _ (b4 .before .if1 .left))
+    (reading-is _ _ (b4 .read .ensures)) (c .before .enum-told .given .1) (form-plan _ _ (b4 .read .ensures) _ _ (c .settle-form .ensures))
 
 returns-3 : tie.Need-returns-3
 returns-3 c =
     let b4 = c .before .before .before .before in
-    malformed _ _ _ _ _ _ (b4 .before .before .in-range .ensures) (not-false _ (b4 .before .if1 .left))
-    (reading-is _ (b4 .read .ensures)) (c .before .reading .given .1)
+    malformed _ _ _ _ _ _ _ (b4 .before .before .in-range .ensures) (not-false _ (b4 .before .if1 .left))
+    (reading-is _ _ (b4 .read .ensures)) (c .before .reading .given .1)
 
 pub settle-spec : {M : Type 1} → statement M
 settle-spec =

@@ -6,19 +6,19 @@ use Rattle.run_refuse.proofs.settle_row.Statement.{statement}
 use Rattle.run_refuse.proofs.settle_row.Tie as tie
 
 returns : tie.Need-returns
-returns c = row-out-of-range _ _ _ _ (c .before .row-in-range .ensures) (not-true _ (c .if1 .taken))
+returns c = row-out-of-range _ _ _ _ _ (c .before .row-in-range .ensures) (not-true _ (c .if1 .taken))
 
 returns-2 : tie.Need-returns-2
 returns-2 c =
     let b4 = c .before .before .before .before in
-    row-read _ _ _ _ (b4 .before .before .row-in-range .ensures) (not-false _ (b4 .before .if1 .left))
-    (reading-is _ (b4 .read .ensures)) (c .before .enum-told .given .1) (row-plan _ (b4 .read .ensures) (c .settle-row-read .ensures))
+    row-read _ _ _ _ _ (b4 .before .before .row-in-range .ensures) (not-false _ (b4 .before .if1 .left))
+    (reading-is _ _ (b4 .read .ensures)) (c .before .enum-told .given .1) (row-plan _ _ (b4 .read .ensures) (c .settle-row-read .ensures))
 
 returns-3 : tie.Need-returns-3
 returns-3 c =
     let b4 = c .before .before .before .before in
-    row-malformed _ _ _ _ (b4 .before .before .row-in-range .ensures) (not-false _ (b4 .before .if1 .left))
-    (reading-is _ (b4 .read .ensures)) (c .before .reading .given .1)
+    row-malformed _ _ _ _ _ (b4 .before .before .row-in-range .ensures) (not-false _ (b4 .before .if1 .left))
+    (reading-is _ _ (b4 .read .ensures)) (c .before .reading .given .1)
 
 pub settle-row-spec : {M : Type 1} → statement M
 settle-row-spec =

@@ -7,8 +7,8 @@ use native.Mathlib.Omega.{arith}
 use borrow.Author.Needs.{needs}
 use denote.Ref.{now}
 use lib.ListN.{length}
-use Rattle.dng.specs.List.{Item, readFrom, itemsOf}
-use Rattle.dng.specs.Run.{rowOn}
+use Rattle.dng.specs.List.{Item, readFrom}
+use Rattle.dng.specs.Run.{keptOf, keptIn, rowOn}
 use Rattle.list_read.proofs.Fold.{begin, item, stop, end}
 use Rattle.list_read.proofs.Bounds.{sound}
 use Rattle.run_row.specs.Rows.{frameOf}
@@ -17,13 +17,13 @@ use Rattle.run_row.proofs.perform.Statement.{statement}
 use Rattle.run_row.proofs.perform.Tie as tie
 
 abbrev Inv-loop : tie.InvT-loop
-Inv-loop list row₀ g width scale n k₀ c₀ row k c =
+Inv-loop list row₀ g width scale preview n k₀ c₀ row k c =
     (k ≤ n) × (length row ≡ length row₀) ×
-    (rowOn (frameOf g scale) (g .x0) (g .planes) (g .y) list (readFrom list (n - k) c) row
-    ≡ rowOn (frameOf g scale) (g .x0) (g .planes) (g .y) list (itemsOf list) row₀)
+    (rowOn (frameOf g scale) (g .x0) (g .planes) (g .y) list (keptOf preview (readFrom list (n - k) c)) row
+    ≡ rowOn (frameOf g scale) (g .x0) (g .planes) (g .y) list (keptIn preview list) row₀)
 
 abbrev μ-loop : tie.MeasureT-loop
-μ-loop list row₀ g width scale n k₀ c₀ row k c = n - k
+μ-loop list row₀ g width scale preview n k₀ c₀ row k c = n - k
 
 loop-holds : tie.Need-loop-holds Inv-loop μ-loop
 loop-holds c =
@@ -32,7 +32,7 @@ loop-holds c =
       omega arith,
       refl,
       ap
-          (λ (l : List Item). rowOn (frameOf g (b3 .args .scale)) (g .x0) (g .planes) (g .y) (now (b3 .args .list)) l (now (b3 .args .row)))
+          (λ (l : List Item). rowOn (frameOf g (b3 .args .scale)) (g .x0) (g .planes) (g .y) (now (b3 .args .list)) (keptOf (b3 .args .preview) l) (now (b3 .args .row)))
           (begin _ (c .count .ensures)),
     )
 
@@ -51,7 +51,7 @@ loop-again c =
     let b8 = b4 .before .before .before .before in (
       omega arith,
       c .before .before .perform-one .kept .1 .0 ∙ b8 .before .loop .inv .1,
-      more _ _ _ _ _ _ _ (item _ _ _ _ (b8 .loop-test .taken) (b4 .before .before .before .step .ensures) (b4 .before .entry .given .1)) _
+      more _ _ _ _ _ _ _ _ (item _ _ _ _ (b8 .loop-test .taken) (b4 .before .before .before .step .ensures) (b4 .before .entry .given .1)) _
           (c .before .before .perform-one .ensures) ∙ b8 .before .loop .inv .2,
     )
 
@@ -61,7 +61,7 @@ same-length c = c .before .before .before .before .loop .inv .1
 returns : tie.Need-returns Inv-loop μ-loop
 returns c =
     let b4 = c .before .before .before .before in
-    sym (none _ _ _ _ _
+    sym (none _ _ _ _ _ _
     (stop _ _ _ _ (c .before .before .before .loop-test .taken) (c .before .before .step .ensures) (c .enum-told .given .1)) _)
     ∙ b4 .loop .inv .2
 
@@ -71,7 +71,7 @@ same-length-2 c = c .before .loop .inv .1
 returns-2 : tie.Need-returns-2 Inv-loop μ-loop
 returns-2 c =
     let b5 = c .before .before .before .before .before in
-    sym (none _ _ _ _ _
+    sym (none _ _ _ _ _ _
     (end (now (b5 .args .list)) (c .before .before .count .result) (c .before .loop .k) (c .before .loop .c) (c .loop-test .left)) _)
     ∙ c .before .loop .inv .2
 

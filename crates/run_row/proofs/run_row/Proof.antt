@@ -9,7 +9,7 @@ place-of-requires : tie.Need-place-of-requires
 place-of-requires c κs =
     let b4 = c .before .before .before .before in
     let a = b4 .before .before .before .args in
-    goes-narrow (a .w) (a .scale) (a .y) (now (a .list)) (now (a .row)) (b4 .settle-row .ensures) (c .before .before .skipped .given .1)
+    goes-narrow (a .w) (a .scale) (a .preview) (a .y) (now (a .list)) (now (a .row)) (b4 .settle-row .ensures) (c .before .before .skipped .given .1)
 
 perform-requires : tie.Need-perform-requires
 perform-requires c κs =
@@ -18,15 +18,15 @@ perform-requires c κs =
     let t = m .before .before in
     let a = t .before .before .before .args in
     let settled = t .settle-row .ensures in (
-      goes-fits (a .w) (a .scale) (a .y) (now (a .list)) (now (a .row)) settled (m .skipped .given .1) (p .place-of .ensures),
-      goes-spans (a .w) (a .scale) (a .y) (now (a .list)) (now (a .row)) settled (m .skipped .given .1) (p .place-of .ensures)
+      goes-fits (a .w) (a .scale) (a .preview) (a .y) (now (a .list)) (now (a .row)) settled (m .skipped .given .1) (p .place-of .ensures),
+      goes-spans (a .w) (a .scale) (a .preview) (a .y) (now (a .list)) (now (a .row)) settled (m .skipped .given .1) (p .place-of .ensures)
           (c .larger .ensures),
     )
 
 returns : tie.Need-returns
 returns c =
     let a = c .before .before .before .before .before .before .args in
-    refused (a .w) (a .scale) (a .y) (now (a .list)) (now (a .row)) (c .before .before .before .settle-row .ensures)
+    refused (a .w) (a .scale) (a .preview) (a .y) (now (a .list)) (now (a .row)) (c .before .before .before .settle-row .ensures)
     (c .before .answer .given .1)
 
 returns-2 : tie.Need-returns-2
@@ -35,7 +35,7 @@ returns-2 c =
     let m = p .before .before .before in
     let t = m .before .before in
     let a = t .before .before .before .args in
-    done (a .w) (a .scale) (a .y) (now (a .list)) (now (a .row)) (t .settle-row .ensures) (m .skipped .given .1)
+    done (a .w) (a .scale) (a .preview) (a .y) (now (a .list)) (now (a .row)) (t .settle-row .ensures) (m .skipped .given .1)
     (p .place-of .ensures) (c .before .before .perform .ensures)
 
 pub run-row-spec : {M : Type 1} → statement M

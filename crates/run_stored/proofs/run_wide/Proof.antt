@@ -28,7 +28,7 @@ returns c =
     let run = ran over in
     let first = widened run in
     let a = start first .args in
-    rounded (a .w) (atOne (a .period)) (record { marks = length (a .marks .now) }) (a .list .now) (a .names .now) (a .samples .now)
+    rounded (a .w) (atOne (a .period) (a .preview)) (record { marks = length (a .marks .now) }) (a .list .now) (a .names .now) (a .samples .now)
     (first .widen .ensures) (run .run-f32 .ensures) (over .held .ensures) (back .narrow .ensures)
 
 pub run-wide-spec : {M : Type 1} → statement M

@@ -25,14 +25,14 @@ perform-f32-requires : tie.Need-perform-f32-requires
 perform-f32-requires c κs =
     let plan = goOn c .before .before in
     let s = start plan in
-    goes (f32Kind (frameOf (s .args .w) (s .args .set .scale))) takesAll skipped (s .args .w) (s .args .set .period) (room s)
+    goes (f32Kind (frameOf (s .args .w) (s .args .set .scale))) takesAll skipped (s .args .w) (s .args .set .period) (s .args .set .preview) (room s)
     (now (s .args .list)) (now (s .args .samples)) (now (s .args .names)) (plan .settle-f32 .ensures) (goOn c .n .given .1)
 
 returns : tie.Need-returns
 returns c =
     let plan = c .before .before .before in
     let s = start plan in
-    refused (f32Kind (frameOf (s .args .w) (s .args .set .scale))) takesAll skipped (s .args .w) (s .args .set .period) (room s)
+    refused (f32Kind (frameOf (s .args .w) (s .args .set .scale))) takesAll skipped (s .args .w) (s .args .set .period) (s .args .set .preview) (room s)
     (now (s .args .list)) (now (s .args .samples)) (now (s .args .names)) (plan .settle-f32 .ensures) (c .before .answer .given .1)
 
 returns-2 : tie.Need-returns-2
@@ -43,7 +43,7 @@ returns-2 c =
     let go = goOn (all .before) in
     let plan = go .before .before in
     let s = start plan in
-    ended (f32Kind (frameOf (s .args .w) (s .args .set .scale))) takesAll skipped (s .args .w) (s .args .set .period) (room s)
+    ended (f32Kind (frameOf (s .args .w) (s .args .set .scale))) takesAll skipped (s .args .w) (s .args .set .period) (s .args .set .preview) (room s)
     (now (s .args .list)) (now (s .args .samples)) (now (s .args .names)) (plan .settle-f32 .ensures) (go .n .given .1)
     (all .perform-f32 .result) (all .perform-f32 .ensures) (done .is-done .ensures) (named .name .ensures) (c .answer-of .ensures)
 

@@ -24,14 +24,14 @@ perform-u16-requires : tie.Need-perform-u16-requires
 perform-u16-requires c κs =
     let plan = goOn c .before .before in
     let s = start plan in
-    goes u16Kind takes16 skipped16 (s .args .w) (s .args .period) (room s)
+    goes u16Kind takes16 skipped16 (s .args .w) (s .args .period) (s .args .preview) (room s)
     (now (s .args .list)) (now (s .args .samples)) (now (s .args .names)) (plan .settle-u16 .ensures) (goOn c .n .given .1)
 
 returns : tie.Need-returns
 returns c =
     let plan = c .before .before .before in
     let s = start plan in
-    refused u16Kind takes16 skipped16 (s .args .w) (s .args .period) (room s)
+    refused u16Kind takes16 skipped16 (s .args .w) (s .args .period) (s .args .preview) (room s)
     (now (s .args .list)) (now (s .args .samples)) (now (s .args .names)) (plan .settle-u16 .ensures) (c .before .answer .given .1)
 
 returns-2 : tie.Need-returns-2
@@ -42,7 +42,7 @@ returns-2 c =
     let go = goOn (all .before) in
     let plan = go .before .before in
     let s = start plan in
-    ended u16Kind takes16 skipped16 (s .args .w) (s .args .period) (room s)
+    ended u16Kind takes16 skipped16 (s .args .w) (s .args .period) (s .args .preview) (room s)
     (now (s .args .list)) (now (s .args .samples)) (now (s .args .names)) (plan .settle-u16 .ensures) (go .n .given .1)
     (all .perform-u16 .result) (all .perform-u16 .ensures) (done .is-done .ensures) (named .name .ensures) (c .answer-of .ensures)
 

@@ -17,7 +17,7 @@ returns : tie.Need-returns
 returns c =
     let cleared = c .before .before in
     let one = tried cleared .attempt-u16 in
-    ran (length (now (start (tried cleared) .args .marks))) (one .kept .1 .1 .1 .1 .0) (one .ensures) (cleared .clear .ensures)
+    ran (length (now (start (tried cleared) .args .marks))) (one .kept .1 .1 .1 .1 .1 .0) (one .ensures) (cleared .clear .ensures)
 
 pub run-u16-spec : {M : Type 1} → statement M
 run-u16-spec =
