@@ -4,9 +4,11 @@
 use Prim.Native.Nat.{ℕ}
 use mathlib.Core.Bool.{Bool, true, false, _&&_, _||_}
 use mathlib.Core.List.{List, [], _∷_}
+use mathlib.Core.Logic.{_↔_}
 use mathlib.Core.Path.{_≡_}
 use lib.Dec.{eqb}
 use lib.Ieee.{Float}
+use lib.ListN.{drop}
 use Rattle.dng.specs.declared.Window.{Window}
 use Rattle.dng.specs.declared.Opcode.{Opcode}
 use Rattle.dng.specs.declared.Opcode.the-variants.{WarpRectilinear, WarpFisheye, FixVignetteRadial, FixBadPixelsConstant, FixBadPixelsList, TrimBounds, MapTable, MapPolynomial, GainMap, DeltaPerRow, DeltaPerColumn, ScalePerRow, ScalePerColumn, Other}
@@ -60,6 +62,15 @@ wholeList fw fh preview list = wholeItems fw fh (keptIn preview list)
 -- of a frame, by the number that the run over it answered
 abbrev pub wholeFrame : (fullWidth fullHeight : ℕ) → (preview : Bool) → List ℕ → (number : ℕ) → Bool
 wholeFrame fw fh preview list number = eqb number 0 && wholeList fw fh preview list
+
+-- A frame is whole exactly when its run answered 0 and each opcode that is left and has no optional flag had its
+-- effect. proofs/Exactly proves it.
+abbrev pub Exactly-whole : Type 0
+Exactly-whole =
+    (fw fh : ℕ) (preview : Bool) (list : List ℕ) (number : ℕ)
+    → (wholeFrame fw fh preview list number ≡ true)
+    ↔ ((number ≡ 0) × ((n : ℕ) (i : Item) (rest : List Item) → drop n (keptIn preview list) ≡ i ∷ rest
+    → optionalOf (i .entry) ≡ false → hadEffect fw fh (i .op) ≡ true))
 
 -- The verdict is not too strict: an opcode that had no effect changed no sample and no total, in the f32 run as in the
 -- whole-number run. proofs/Quiet proves it.
