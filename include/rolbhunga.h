@@ -9,6 +9,12 @@
  * type, also where the length is 0. No two buffers of a call overlap, and no other thread touches them until it
  * returns; what is `const` is never written.
  *
+ * A preview leaves out the opcodes whose flag bit 1 says that a preview may skip them. The list is read whole all the
+ * same, after 1 is tested; then the flagged entries are dropped, and forms, names, totals and verdict speak of what is
+ * left. `entry` and `opcode` still count the whole list. `preview` is a bool, 0 or 1 as C and C++ make it; of any other
+ * byte the code looks at bit 0 alone. It is new in `rolbhunga_settings`, whose size is as before, and an argument of
+ * the four functions that take no settings: a caller that was compiled with an older header must be compiled again.
+ *
  * Answers (the field `number`)
  *     0  done
  *     1  a number is out of its range: width, height, stride and period at most 65,536; planes 1 to 8; x0, y0,
@@ -36,6 +42,7 @@
 #ifndef ROLBHUNGA_H
 #define ROLBHUNGA_H
 
+#include <stdbool.h>
 #include <stddef.h>
 #include <stdint.h>
 
@@ -89,10 +96,12 @@ typedef struct rolbhunga_row_window {
 
 /* period: the distance of the neighbours that a repair takes the mean of, 2 for a Bayer image; 0 counts as 1.
  * scale: what a sample is multiplied by to reach the list's 16-bit values, 1 for stored values, 65535 for values from 0
- * to 1. */
+ * to 1.
+ * preview: whether the run is a preview. */
 typedef struct rolbhunga_settings {
     size_t period;
     float scale;
+    bool preview;
 } rolbhunga_settings;
 
 /* names: how many bytes of the skip buffer were written. repaired, left: the marked positions of all repairs that got a
@@ -107,7 +116,7 @@ typedef struct rolbhunga_numbers {
     uint64_t left;
 } rolbhunga_numbers;
 
-/* skipped: how many opcodes of the list the f32 run would name. */
+/* skipped: how many opcodes of the list, or of what a preview leaves of it, the f32 run would name. */
 typedef struct rolbhunga_row_numbers {
     uint32_t number;
     size_t entry;
@@ -131,12 +140,13 @@ rolbhunga_numbers rolbhunga_run_f32(const uint8_t *list, size_t list_len, float 
 /* The same on u16 samples, for lists of MapTable, opcodes that are not applied, and at most one repair. An empty
  * MapTable has no name here. */
 rolbhunga_numbers rolbhunga_run_u16(const uint8_t *list, size_t list_len, uint16_t *samples, size_t samples_len, rolbhunga_window window,
-                                    size_t period, uint32_t *marks, size_t marks_len, uint8_t *names, size_t names_len);
+                                    size_t period, bool preview, uint32_t *marks, size_t marks_len, uint8_t *names,
+                                    size_t names_len);
 
 /* Runs a list on one row, the row y of the image, as the f32 run would; for lists with no repair and no empty MapTable.
  * Answers 0, 1, 20 to 25 or 3. */
 rolbhunga_row_numbers rolbhunga_run_row(const uint8_t *list, size_t list_len, float *row, size_t row_len, rolbhunga_row_window window,
-                                        size_t y, float scale);
+                                        size_t y, float scale, bool preview);
 
 /* The same three on samples that stand in bytes, little-endian. `work` is typed room, an entry for each whole sample;
  * it holds only zeros at every return. Bytes left over after the last whole sample stay. On 1, 20 to 25, 3, 4 and 100
@@ -147,11 +157,12 @@ rolbhunga_numbers rolbhunga_bytes_f32(const uint8_t *list, size_t list_len, uint
                                       uint8_t *names, size_t names_len);
 
 rolbhunga_numbers rolbhunga_bytes_u16(const uint8_t *list, size_t list_len, uint8_t *bytes, size_t bytes_len, rolbhunga_window window,
-                                      size_t period, uint16_t *work, size_t work_len, uint32_t *marks, size_t marks_len,
-                                      uint8_t *names, size_t names_len);
+                                      size_t period, bool preview, uint16_t *work, size_t work_len, uint32_t *marks,
+                                      size_t marks_len, uint8_t *names, size_t names_len);
 
 rolbhunga_row_numbers rolbhunga_bytes_row(const uint8_t *list, size_t list_len, uint8_t *bytes, size_t bytes_len,
-                                          rolbhunga_row_window window, size_t y, float scale, float *work, size_t work_len);
+                                          rolbhunga_row_window window, size_t y, float scale, bool preview, float *work,
+                                          size_t work_len);
 
 /* ---- a list inside a DNG file
  *

@@ -23,7 +23,7 @@ int main(void) {
     uint8_t list[sizeof repair];
     rolbhunga_window w = {3, 1, 1, 3, 0, 0, 3, 1};
     rolbhunga_row_window rw = {3, 1, 0, 3, 1};
-    rolbhunga_settings set = {1, 1.0f};
+    rolbhunga_settings set = {1, 1.0f, false}, shown = {1, 1.0f, true};
     float f[3] = {10.0f, 0.0f, 19.0f}, work[3] = {1.0f, 2.0f, 3.0f};
     uint16_t u[3] = {10, 0, 19}, work16[3] = {1, 2, 3};
     uint32_t marks[1] = {7};
@@ -50,7 +50,7 @@ int main(void) {
     is("short body", n.number, ROLBHUNGA_INSIDE);
     is("short body after", n.entry, 0);
     is("short body at", n.offset, 24);
-    r = rolbhunga_run_row(list, sizeof list, f, 3, rw, 0, 1.0f);
+    r = rolbhunga_run_row(list, sizeof list, f, 3, rw, 0, 1.0f, false);
     is("row, short body", r.number, ROLBHUNGA_INSIDE);
     is("row, short body at", r.offset, 24);
     n = rolbhunga_run_f32(list, sizeof list, f, 3, w, set, marks, 1, names, 2);
@@ -82,18 +82,18 @@ int main(void) {
     is("f32 next", names[1], 0xee);
     is("f32 run, scratch", marks[0], 0);
 
-    n = rolbhunga_run_u16(list, sizeof list, u, 3, w, 1, marks, 1, names, 2);
+    n = rolbhunga_run_u16(list, sizeof list, u, 3, w, 1, false, marks, 1, names, 2);
     is("u16", n.number, ROLBHUNGA_DONE);
     is("u16 mean", u[1], 15);
 
-    r = rolbhunga_run_row(list, sizeof list, f, 3, rw, 0, 1.0f);
+    r = rolbhunga_run_row(list, sizeof list, f, 3, rw, 0, 1.0f, false);
     is("row of a repair", r.number, ROLBHUNGA_NOT_TAKEN);
     list[3] = 0;
-    r = rolbhunga_run_row(list, sizeof list, f, 3, rw, 0, 1.0f);
+    r = rolbhunga_run_row(list, sizeof list, f, 3, rw, 0, 1.0f, false);
     is("row", r.number, ROLBHUNGA_DONE);
-    r = rolbhunga_bytes_row(list, sizeof list, b, 12, rw, 0, 1.0f, work, 2);
+    r = rolbhunga_bytes_row(list, sizeof list, b, 12, rw, 0, 1.0f, false, work, 2);
     is("bytes of a row, little room", r.number, ROLBHUNGA_WORK);
-    r = rolbhunga_bytes_row(list, sizeof list, b, 12, rw, 0, 1.0f, work, 3);
+    r = rolbhunga_bytes_row(list, sizeof list, b, 12, rw, 0, 1.0f, false, work, 3);
     is("bytes of a row", r.number, ROLBHUNGA_DONE);
     list[3] = 2;
 
@@ -102,10 +102,52 @@ int main(void) {
     n = rolbhunga_bytes_f32(list, sizeof list, b, 12, w, set, work, 3, marks, 1, names, 2);
     is("bytes f32", n.number, ROLBHUNGA_DONE);
     is("bytes f32 mean", memcmp(b + 4, "\0\0\x68\x41", 4), 0);
-    n = rolbhunga_bytes_u16(list, sizeof list, b16, 7, w, 1, work16, 3, marks, 1, names, 2);
+    n = rolbhunga_bytes_u16(list, sizeof list, b16, 7, w, 1, false, work16, 3, marks, 1, names, 2);
     is("bytes u16", n.number, ROLBHUNGA_DONE);
     is("bytes u16 mean", b16[2], 15);
     is("bytes left over", b16[6], 0xcc);
+
+    /* the repair may be skipped for a preview: what is left is the warp, or the whole list */
+    is("settings", sizeof set, 16);
+    list[15] = 2;
+    f[1] = 0.0f;
+    n = rolbhunga_run_f32(list, sizeof list, f, 3, w, shown, marks, 0, names, 2);
+    is("preview f32", n.number, ROLBHUNGA_DONE);
+    is("preview f32 names", n.names, 1);
+    is("preview f32 repaired", n.repaired, 0);
+    is("preview f32 sample", f[1] == 0.0f, 1);
+    n = rolbhunga_run_f32(list, sizeof list, f, 3, w, set, marks, 0, names, 2);
+    is("no preview f32", n.number, ROLBHUNGA_MARKS);
+    u[1] = 0;
+    n = rolbhunga_run_u16(list, sizeof list, u, 3, w, 1, true, marks, 0, names, 2);
+    is("preview u16", n.number, ROLBHUNGA_DONE);
+    n = rolbhunga_run_u16(list, sizeof list, u, 3, w, 1, false, marks, 0, names, 2);
+    is("no preview u16", n.number, ROLBHUNGA_MARKS);
+    r = rolbhunga_run_row(list, sizeof list, f, 3, rw, 0, 1.0f, true);
+    is("preview row", r.number, ROLBHUNGA_DONE);
+    is("preview row skipped", r.skipped, 1);
+    r = rolbhunga_run_row(list, sizeof list, f, 3, rw, 0, 1.0f, false);
+    is("no preview row", r.number, ROLBHUNGA_NOT_TAKEN);
+    n = rolbhunga_bytes_f32(list, sizeof list, b, 12, w, shown, work, 3, marks, 0, names, 2);
+    is("preview bytes f32", n.number, ROLBHUNGA_DONE);
+    n = rolbhunga_bytes_u16(list, sizeof list, b16, 7, w, 1, true, work16, 3, marks, 0, names, 2);
+    is("preview bytes u16", n.number, ROLBHUNGA_DONE);
+    r = rolbhunga_bytes_row(list, sizeof list, b, 12, rw, 0, 1.0f, true, work, 3);
+    is("preview bytes row", r.number, ROLBHUNGA_DONE);
+    r = rolbhunga_bytes_row(list, sizeof list, b, 12, rw, 0, 1.0f, false, work, 3);
+    is("no preview bytes row", r.number, ROLBHUNGA_NOT_TAKEN);
+    list[31 + 8] = 2;
+    n = rolbhunga_run_f32(list, sizeof list, f, 3, w, shown, marks, 0, names, 0);
+    is("nothing left", n.number, ROLBHUNGA_DONE);
+    is("nothing left, names", n.names, 0);
+    /* the list is read whole, and its opcodes keep their numbers */
+    n = rolbhunga_run_f32(list, sizeof list - 1, f, 3, w, shown, marks, 0, names, 0);
+    is("preview, cut", n.number, ROLBHUNGA_ENDS);
+    list[31] = 4;
+    list[31 + 8] = 0;
+    n = rolbhunga_run_f32(list, sizeof list, f, 3, w, shown, marks, 0, names, 0);
+    is("preview, short body", n.number, ROLBHUNGA_INSIDE);
+    is("preview, short body after", n.entry, 1);
 
     g = rolbhunga_find(dng, sizeof dng, 2);
     is("find", g.number, ROLBHUNGA_DONE);

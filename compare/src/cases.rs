@@ -71,7 +71,7 @@ fn frame(r: &mut Rng, size: usize) -> Frame {
         5 => 0.5,
         _ => 1.0,
     };
-    let mut f = Frame { width, height, planes, stride, x0, y0, full_width, full_height, period, scale };
+    let mut f = Frame { width, height, planes, stride, x0, y0, full_width, full_height, period, scale, preview: false };
     if r.once(12) {
         out_of_range(r, &mut f);
     }

@@ -4,6 +4,7 @@
 use crate::cases::{Case, Lengths};
 use crate::doc01;
 use crate::oracle::{self, same, Oracle, Read, Want};
+use crate::previews;
 use rolbhunga::ffi::{self, Numbers, RowNumbers};
 use rolbhunga::{Answer, Frame, Reading, Reason, Room, RowAnswer, WORK};
 use std::collections::BTreeMap;
@@ -217,7 +218,7 @@ fn bytes_f32(c: &Case, w: &Want<f32>) -> Result<(), String> {
             bytes.as_mut_ptr(),
             bytes.len(),
             window(&c.frame),
-            ffi::Settings { period: c.frame.period, scale: c.frame.scale },
+            ffi::Settings { period: c.frame.period, scale: c.frame.scale, preview: c.frame.preview },
             work.as_mut_ptr(),
             work.len(),
             r.marks.as_mut_ptr(),
@@ -255,6 +256,7 @@ fn bytes_u16(c: &Case, w: &Want<u16>) -> Result<(), String> {
             bytes.len(),
             window(&c.frame),
             c.frame.period,
+            c.frame.preview,
             work.as_mut_ptr(),
             work.len(),
             r.marks.as_mut_ptr(),
@@ -302,6 +304,7 @@ fn bytes_row(c: &Case, want: RowNumbers, row: Option<&[f32]>) -> Result<(), Stri
             row_window(&c.frame),
             c.y,
             c.frame.scale,
+            c.frame.preview,
             work.as_mut_ptr(),
             work.len(),
         )
@@ -363,6 +366,20 @@ pub fn count(c: &Case, o: &Oracle, n: &mut Counts) {
     add(n, "answers 100 u16".into(), (c.u.work < c.wholes.len()) as u64);
     add(n, "answers 100 row".into(), (c.row_work < c.row.len()) as u64);
     if let Read::Whole(ops) = &o.read {
+        if c.frame.preview {
+            let (_, numbers) = previews::left(&c.list);
+            let all = previews::count(&c.list);
+            add(n, "previews of lists with opcodes".into(), (all > 0) as u64);
+            add(n, "previews that drop an opcode".into(), (numbers.len() < all) as u64);
+            add(n, "previews that drop all".into(), (numbers.is_empty() && all > 0) as u64);
+            let drops = numbers.len() < all;
+            add(n, "previews that drop opcodes, the u16 run done".into(), (drops && u.numbers.number == 0) as u64);
+            add(n, "previews that drop opcodes, the row done".into(), (drops && row.number == 0) as u64);
+            // the number in the whole list is not the number among what is left
+            let behind = |w: &Numbers| (w.number == 5 && numbers.get(w.opcode) != Some(&w.opcode)) as u64;
+            let stopped = behind(&f.numbers) + behind(&u.numbers);
+            add(n, "previews stopped by 5 behind a dropped opcode".into(), stopped);
+        }
         if ops.iter().any(oracle::is_empty_table) {
             add(n, "allowed: an empty table named by f32".into(), (f.numbers.number == 0) as u64);
             let alone = !ops.iter().any(|op| op.is_pixel_opcode() && !op.is_row_local());

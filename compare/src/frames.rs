@@ -2,8 +2,9 @@
 // the Rust makes of them. compare/README.md has the format.
 use crate::cases::{Case, Lengths};
 use crate::check::{float_bytes, float_result, whole_bytes};
-use crate::made;
-use crate::oracle::{self, Oracle};
+use crate::oracle::{self, Oracle, Read};
+use crate::rng::Rng;
+use crate::{made, preview, previews};
 use rolbhunga::ffi::Numbers;
 use std::collections::BTreeMap;
 use std::fs;
@@ -37,24 +38,28 @@ fn written(l: &Lengths, names: &[u8]) -> Vec<u8> {
     b
 }
 
+// A form and 4: as a preview. Reading is none.
 fn replays(c: &Case, o: &Oracle) -> Vec<Replay> {
     let mut v = Vec::new();
+    let form = |n| if c.frame.preview { 4 + n } else { n };
     let nothing = Lengths::default();
-    let read = oracle::want_read(o);
-    v.push(Replay { form: 0, lengths: nothing, before: vec![], numbers: read, names: vec![], after: vec![] });
+    if !c.frame.preview {
+        let read = oracle::want_read(o);
+        v.push(Replay { form: 0, lengths: nothing, before: vec![], numbers: read, names: vec![], after: vec![] });
+    }
     let w = oracle::want_f32(c, o);
     let before = float_bytes(&c.floats, 0);
     let after = w.samples.map_or(before.clone(), |s| float_bytes(&float_result(s), 0));
-    v.push(Replay { form: 1, lengths: c.f, before, numbers: w.numbers, names: written(&c.f, w.names), after });
+    v.push(Replay { form: form(1), lengths: c.f, before, numbers: w.numbers, names: written(&c.f, w.names), after });
     let w = oracle::want_u16(c, o);
     let before = whole_bytes(&c.wholes, 0);
     let after = whole_bytes(w.samples.unwrap_or(&c.wholes), 0);
-    v.push(Replay { form: 2, lengths: c.u, before, numbers: w.numbers, names: written(&c.u, w.names), after });
+    v.push(Replay { form: form(2), lengths: c.u, before, numbers: w.numbers, names: written(&c.u, w.names), after });
     let (w, row) = oracle::want_row(c, o);
     let before = float_bytes(&c.row, 0);
     let after = row.map_or(before.clone(), |s| float_bytes(&float_result(s), 0));
     let numbers = Numbers { entry: w.entry, offset: w.offset, names: w.skipped, ..oracle::numbers(w.number) };
-    v.push(Replay { form: 3, lengths: nothing, before, numbers, names: vec![], after });
+    v.push(Replay { form: form(3), lengths: nothing, before, numbers, names: vec![], after });
     v
 }
 
@@ -85,7 +90,7 @@ fn shows(c: &Case, r: &Replay) -> Vec<(String, usize)> {
         [id] => vec![(format!("{form} id {id}"), 5)],
         _ => vec![(format!("{form} several"), 40)],
     };
-    if form != 2 && r.after.chunks(4).any(odd) {
+    if form % 4 != 2 && r.after.chunks(4).any(odd) {
         v.push((format!("{form} odd"), 25));
     }
     if r.numbers.left > 0 && r.numbers.repaired > 0 {
@@ -94,56 +99,101 @@ fn shows(c: &Case, r: &Replay) -> Vec<(String, usize)> {
     v
 }
 
+// Previews that drop something, or would if the list could be read.
+fn shows_left(c: &Case, o: &Oracle, r: &Replay) -> Vec<(String, usize)> {
+    let (form, number) = (r.form, r.numbers.number);
+    if matches!(o.read, Read::Malformed(_)) {
+        return vec![(format!("{form} {number}"), 2)];
+    }
+    let (_, numbers) = previews::left(&c.list);
+    if previews::count(&c.list) == numbers.len() {
+        return vec![];
+    }
+    let changed = if r.before == r.after { "" } else { " with a change" };
+    let left = numbers.len().min(2);
+    vec![(format!("{form} {number}, left {left}{changed}"), 4)]
+}
+
+#[derive(Default)]
+struct Stored {
+    count: u32,
+    calls: Vec<u8>,
+    lines: String,
+    seen: BTreeMap<String, usize>,
+}
+
+impl Stored {
+    // Keeps a call that shows something of which there is not enough yet.
+    fn offer(&mut self, c: &Case, r: &Replay, kinds: Vec<(String, usize)>) {
+        let wanted = kinds.iter().any(|(k, most)| self.seen.get(k).map_or(true, |n| n < most));
+        if !wanted || r.lengths.marks > 64 || r.lengths.names > 64 {
+            return;
+        }
+        for (k, _) in kinds {
+            *self.seen.entry(k).or_insert(0) += 1;
+        }
+        self.keep(c, r);
+    }
+
+    fn keep(&mut self, c: &Case, r: &Replay) {
+        self.count += 1;
+        let (g, calls) = (&c.frame, &mut self.calls);
+        put(calls, r.form);
+        put(calls, c.list.len());
+        calls.extend_from_slice(&c.list);
+        for n in [g.width, g.height, g.planes, g.stride, g.x0, g.y0, g.full_width, g.full_height, g.period] {
+            put(calls, n);
+        }
+        put(calls, g.scale.to_bits() as usize);
+        for n in [c.y, r.lengths.marks, r.lengths.names, r.before.len()] {
+            put(calls, n);
+        }
+        calls.extend_from_slice(&r.before);
+        let n = r.numbers;
+        self.lines += &format!(
+            "{} {} {} {} {} {} {} {} {} {}\n",
+            r.form,
+            n.number,
+            n.entry,
+            n.offset,
+            n.opcode,
+            n.names,
+            n.repaired,
+            n.left,
+            hex(&r.names),
+            hex(&r.after)
+        );
+    }
+}
+
 pub fn write(folder: &str, seed: u64) {
-    let (mut count, mut cases, mut lines) = (0, Vec::new(), String::new());
-    let mut seen: BTreeMap<String, usize> = BTreeMap::new();
+    let mut stored = Stored::default();
     let mut number = 0;
-    while number < 40_000 && cases.len() < 120_000 {
+    while number < 40_000 && stored.calls.len() < 120_000 {
         let (c, o) = made(seed, number, true);
         number += 1;
-        if !fits(&c) {
-            continue;
-        }
-        for r in replays(&c, &o) {
-            let kinds = shows(&c, &r);
-            let wanted = kinds.iter().any(|(k, most)| seen.get(k).map_or(true, |n| n < most));
-            if !wanted || r.lengths.marks > 64 || r.lengths.names > 64 {
-                continue;
+        if fits(&c) {
+            for r in replays(&c, &o) {
+                stored.offer(&c, &r, shows(&c, &r));
             }
-            for (k, _) in kinds {
-                *seen.entry(k).or_insert(0) += 1;
-            }
-            count += 1;
-            let g = &c.frame;
-            put(&mut cases, r.form);
-            put(&mut cases, c.list.len());
-            cases.extend_from_slice(&c.list);
-            for n in [g.width, g.height, g.planes, g.stride, g.x0, g.y0, g.full_width, g.full_height, g.period] {
-                put(&mut cases, n);
-            }
-            put(&mut cases, g.scale.to_bits() as usize);
-            for n in [c.y, r.lengths.marks, r.lengths.names, r.before.len()] {
-                put(&mut cases, n);
-            }
-            cases.extend_from_slice(&r.before);
-            let n = r.numbers;
-            lines += &format!(
-                "{} {} {} {} {} {} {} {} {} {}\n",
-                r.form,
-                n.number,
-                n.entry,
-                n.offset,
-                n.opcode,
-                n.names,
-                n.repaired,
-                n.left,
-                hex(&r.names),
-                hex(&r.after)
-            );
         }
     }
-    let mut all = (count as u32).to_be_bytes().to_vec();
-    all.extend(cases);
+    for c in previews::cases() {
+        for r in replays(&c, &Oracle::of(&c)) {
+            stored.keep(&c, &r);
+        }
+    }
+    for number in 0..4_000 {
+        let (c, o) = preview(&made(seed, number, true).0, &mut Rng::new(!seed, number));
+        if fits(&c) {
+            for r in replays(&c, &o) {
+                stored.offer(&c, &r, shows_left(&c, &o, &r));
+            }
+        }
+    }
+    let Stored { count, calls, lines, .. } = stored;
+    let mut all = count.to_be_bytes().to_vec();
+    all.extend(calls);
     fs::create_dir_all(folder).expect("the folder can be made");
     fs::write(format!("{folder}/stdin"), &all).expect("stdin can be written");
     fs::write(format!("{folder}/stdout"), &lines).expect("stdout can be written");

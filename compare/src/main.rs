@@ -7,6 +7,7 @@ mod frames;
 mod limits;
 mod lists;
 mod oracle;
+mod previews;
 mod reasons;
 mod rng;
 mod shrink;
@@ -29,8 +30,20 @@ fn made(seed: u64, number: u64, plain: bool) -> (Case, Oracle) {
     if !plain && own.once(3) {
         lists::sharpen(&mut own, &mut c.list);
     }
+    if !plain && own.once(8) {
+        previews::wild(&mut own, &mut c.list);
+    }
     let o = Oracle::of(&c);
     c.set_lengths(&mut r, &o);
+    (c, o)
+}
+
+// The same case as a preview, its buffers by what is left.
+fn preview(c: &Case, r: &mut Rng) -> (Case, Oracle) {
+    let mut c = c.clone();
+    c.frame.preview = true;
+    let o = Oracle::of(&c);
+    c.set_lengths(r, &o);
     (c, o)
 }
 
@@ -50,15 +63,18 @@ fn sweep(seed: u64, from: u64, to: u64, step: u64) -> (Counts, u64) {
     let mut k = from;
     while k < to {
         let (c, o) = made(seed, k, false);
-        check::count(&c, &o, &mut n);
-        if let Err(why) = check::check(&c, &o) {
-            wrong += 1;
-            if first() {
-                println!("case {k}: {why}");
-                exit(1);
-            }
-            if wrong <= 3 {
-                report(&format!("case {k} of seed {seed}"), &c, &why);
+        let shown = preview(&c, &mut Rng::new(seed ^ 0x7072_6576, k));
+        for (what, (c, o)) in [("case", (c, o)), ("preview", shown)] {
+            check::count(&c, &o, &mut n);
+            if let Err(why) = check::check(&c, &o) {
+                wrong += 1;
+                if first() {
+                    println!("{what} {k}: {why}");
+                    exit(1);
+                }
+                if wrong <= 3 {
+                    report(&format!("{what} {k} of seed {seed}"), &c, &why);
+                }
             }
         }
         k += step;
@@ -66,26 +82,52 @@ fn sweep(seed: u64, from: u64, to: u64, step: u64) -> (Counts, u64) {
     (n, wrong)
 }
 
-// Damaged copies of a list with all kinds, over a window of 3 by 2: the answer, why and at which byte, from every call.
+// Damaged copies of a list with all kinds, over a window of 3 by 2: the answer, why and at which byte, from every call;
+// then as a preview, and as a preview that would drop every entry.
 fn damaged(seed: u64) -> (u64, u64) {
     let (mut copies, mut wrong) = (0, 0);
     for (what, list) in damage::lists() {
-        let mut c = limits::case(list, Frame::new(3, 2, 1));
-        let o = Oracle::of(&c);
-        c.set_lengths(&mut Rng::new(seed, copies), &o);
-        copies += 1;
-        if let Err(why) = check::check(&c, &o) {
-            wrong += 1;
-            if first() {
-                println!("{what}: {why}");
-                exit(1);
-            }
-            if wrong <= 3 {
-                report(what, &c, &why);
+        let flagged = previews::flagged(&list, |_, flags| flags | 2);
+        for (list, preview) in [(list.clone(), false), (list, true), (flagged, true)] {
+            let mut c = limits::case(list, Frame::new(3, 2, 1).preview(preview));
+            let o = Oracle::of(&c);
+            c.set_lengths(&mut Rng::new(seed, copies), &o);
+            copies += 1;
+            if let Err(why) = check::check(&c, &o) {
+                wrong += 1;
+                if first() {
+                    println!("{what}: {why}");
+                    exit(1);
+                }
+                if wrong <= 3 {
+                    report(what, &c, &why);
+                }
             }
         }
     }
     (copies, wrong)
+}
+
+const AT_A_LIMIT: u64 = 8;
+
+// A case at a limit with buffers exactly as long as needed and by chance; the same as previews that drop nothing, every
+// second entry, and all.
+fn at_limit(c: &Case, seed: u64, k: u64) -> (Case, Oracle) {
+    let mut c = c.clone();
+    c.frame.preview = k >= 4;
+    match k {
+        5 => c.list = previews::flagged(&c.list, |k, _| 2 * (k as u32 % 2)),
+        6 => c.list = previews::flagged(&c.list, |k, _| 3 - 2 * (k as u32 % 2)),
+        7 => c.list = previews::flagged(&c.list, |_, _| 2),
+        _ => {}
+    }
+    let o = Oracle::of(&c);
+    if matches!(k, 0 | 5 | 7) {
+        c.set_exact(&o);
+    } else {
+        c.set_lengths(&mut Rng::new(seed, k), &o);
+    }
+    (c, o)
 }
 
 // FIRST=1: the first difference ends it, as compare/slips wants it.
@@ -117,22 +159,24 @@ fn main() {
     }
     let mut wrong = 0;
     let mut fixed = 0;
-    for (what, mut c) in limits::cases() {
-        let o = Oracle::of(&c);
-        c.set_exact(&o);
-        for k in 0..4 {
-            if k > 0 {
-                c.set_lengths(&mut Rng::new(seed, k), &o);
+    let mut hold = |what: &str, c: &Case, o: &Oracle| {
+        fixed += 1;
+        if let Err(why) = check::check(c, o) {
+            wrong += 1;
+            if first() {
+                println!("{what}: {why}");
+                exit(1);
             }
-            fixed += 1;
-            if let Err(why) = check::check(&c, &o) {
-                wrong += 1;
-                if first() {
-                    println!("{what}: {why}");
-                    exit(1);
-                }
-                report(what, &c, &why);
-            }
+            report(what, c, &why);
+        }
+    };
+    for c in previews::cases() {
+        hold("a preview", &c, &Oracle::of(&c));
+    }
+    for (what, c) in limits::cases() {
+        for k in 0..AT_A_LIMIT {
+            let (c, o) = at_limit(&c, seed, k);
+            hold(what, &c, &o);
         }
     }
     println!("limits: {fixed} cases, {wrong} differ");
@@ -161,7 +205,7 @@ fn main() {
         println!("{v:>12}  {k}");
     }
     let rest = format!("{fixed} at the limits, {copies} damaged copies, {cuts} cuts into tiles");
-    println!("compared {cases} cases of seed {seed}, seven calls each, {rest}: {wrong} differ");
+    println!("compared {cases} cases of seed {seed}, seven calls each, twice, {rest}: {wrong} differ");
     if wrong > 0 {
         exit(1);
     }

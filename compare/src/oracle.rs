@@ -4,11 +4,13 @@
 // why a list is malformed.
 use crate::cases::{Case, Lengths};
 use crate::doc01::{self, Need};
+use crate::previews;
 use crate::reasons::{self, Refusal};
 use dng_opcodes::{apply, apply_u16, parse, u16_exact, Opcode, PlaneImage, RowOps};
 use rolbhunga::ffi::{Numbers, RowNumbers};
 use rolbhunga::Frame;
 
+// The opcodes are those that a preview leaves where the case is one.
 pub enum Read {
     Whole(Vec<Opcode>),
     Malformed(Refusal),
@@ -182,9 +184,33 @@ fn run_row(ops: &[Opcode], f: &Frame, y: usize, row: &[u32]) -> Option<Vec<f32>>
     Some(data)
 }
 
+// The list is read whole; then the Rust is asked for the runs over the list without what a preview drops, and a repair
+// gets the number that it has in the whole list.
+fn left_of(c: &Case) -> (Read, Vec<usize>) {
+    match read(&c.list) {
+        Read::Whole(_) if c.frame.preview => {
+            let (list, numbers) = previews::left(&c.list);
+            let ops = parse(&list).expect("what is left of a list that is read");
+            assert_eq!(ops.len(), numbers.len(), "an opcode for each number");
+            (Read::Whole(ops), numbers)
+        }
+        Read::Whole(ops) => {
+            let numbers = (0..ops.len()).collect();
+            (Read::Whole(ops), numbers)
+        }
+        refused => (refused, Vec::new()),
+    }
+}
+
+fn renumber<T>(run: &mut Option<Run<T>>, numbers: &[usize]) {
+    for r in run.iter_mut().flat_map(|run| &mut run.repairs) {
+        r.opcode = numbers[r.opcode];
+    }
+}
+
 impl Oracle {
     pub fn of(c: &Case) -> Oracle {
-        let read = read(&c.list);
+        let (read, numbers) = left_of(c);
         let mut o = Oracle { read, f32: None, u16: None, row: None };
         if let Read::Whole(ops) = &o.read {
             if doc01::in_range(&c.frame) {
@@ -195,6 +221,8 @@ impl Oracle {
                 o.row = run_row(ops, &c.frame, c.y, &c.row);
             }
         }
+        renumber(&mut o.f32, &numbers);
+        renumber(&mut o.u16, &numbers);
         o
     }
 

@@ -44,6 +44,7 @@ fn smaller(c: &Case) -> Vec<Case> {
     put(&|d| d.frame.full_height = d.frame.height);
     put(&|d| d.frame.period = 1);
     put(&|d| d.frame.scale = 1.0);
+    put(&|d| d.frame.preview = false);
     put(&|d| d.y = 0);
     put(&|d| d.over = 0);
     for n in [0, c.floats.len() / 2, c.floats.len().saturating_sub(1)] {
@@ -92,6 +93,7 @@ fn weight(c: &Case) -> usize {
     let filled = |n: usize, zeros: usize| 4 * n - zeros;
     numbers
         + (g.scale != 1.0) as usize
+        + g.preview as usize
         + 8 * c.list.len()
         - c.list.iter().filter(|b| **b == 0).count()
         + filled(c.floats.len(), c.floats.iter().filter(|b| **b == 0).count())

@@ -1,8 +1,10 @@
 // Tiles give the frame (document 02, M-110): a frame cut by chance into rectangles, each run as its own window in an
-// order by chance, against one run of the frame, bit for bit, in f32 and in u16. The lists have no repair.
+// order by chance, against one run of the frame, bit for bit, in f32 and in u16. The lists have no repair, but for
+// those that a preview drops; half of the cuts are previews.
 use crate::check::Counts;
 use crate::lists::{self, Around};
 use crate::oracle::same;
+use crate::previews;
 use crate::rng::{f32_bits, Rng};
 use rolbhunga::{Answer, Frame, Scratch, Tile};
 
@@ -40,7 +42,8 @@ fn frame(r: &mut Rng) -> Frame {
         _ => (x0 + width, y0 + height),
     };
     let scale = r.pick(&[1.0, 1.0, 65535.0, 65535.0, 0.5, 0.0, f32::INFINITY, f32::NAN]);
-    Frame { width, height, planes, stride, x0, y0, full_width, full_height, period: r.below(4), scale }
+    let (period, preview) = (r.below(4), r.once(2));
+    Frame { width, height, planes, stride, x0, y0, full_width, full_height, period, scale, preview }
 }
 
 // Any cut into rectangles: the first position that is free yet, in reading order, and from there as far right and down
@@ -98,14 +101,26 @@ fn shuffle(r: &mut Rng, tiles: &mut [Tile]) {
     }
 }
 
-fn tables(r: &mut Rng, a: &Around) -> Vec<u8> {
-    let entries: Vec<_> = (0..r.within(1, 3))
-        .map(|_| {
-            let id = r.pick(&[7, 7, 7, 1, 2, 6, 14]);
-            (id, lists::body(r, id, a))
-        })
-        .collect();
-    lists::list_of(&entries)
+// With any opcodes between, which a preview drops.
+fn tables(r: &mut Rng, a: &Around, preview: bool) -> Vec<u8> {
+    let mut l = Vec::new();
+    let n = r.within(1, 3);
+    lists::word(&mut l, n as u32);
+    for _ in 0..n {
+        let dropped = preview && r.once(2);
+        let id = if dropped { lists::any_id(r) } else { r.pick(&[7, 7, 7, 1, 2, 6, 14]) };
+        let body = lists::body(r, id, a);
+        lists::entry(&mut l, id, 2 * dropped as u32 + r.below(2) as u32, &body);
+    }
+    l
+}
+
+fn no_repairs(r: &mut Rng, a: &Around, preview: bool) -> Vec<u8> {
+    if preview {
+        previews::repairs_flagged(&lists::list(r, a, 0))
+    } else {
+        lists::list(r, a, 2)
+    }
 }
 
 fn made(r: &mut Rng, n: &mut Counts) -> Cut {
@@ -124,8 +139,13 @@ fn made(r: &mut Rng, n: &mut Counts) -> Cut {
         tiles.push(empty(r, &frame));
     }
     shuffle(r, &mut tiles);
-    let list = lists::list(r, &a, 2);
-    let tables = tables(r, &a);
+    let list = no_repairs(r, &a, frame.preview);
+    let tables = tables(r, &a, frame.preview);
+    if frame.preview {
+        add(n, "tiles cuts of previews", 1);
+        let dropped = |l: &[u8]| previews::left(l).0.len() < l.len();
+        add(n, "tiles cuts of previews that drop an opcode", (dropped(&list) || dropped(&tables)) as u64);
+    }
     let floats = (0..length).map(|_| f32::from_bits(f32_bits(r))).collect();
     let wholes = (0..length).map(|_| if r.once(4) { r.next() as u16 } else { r.below(30) as u16 }).collect();
     Cut { frame, floats, wholes, list, tables, tiles }
@@ -156,6 +176,15 @@ macro_rules! tiled {
             let mut room = Scratch::new(0, rolbhunga::MAX_OPCODES);
             let mut one = before.to_vec();
             let Answer::Done { names, .. } = c.frame.$run(list, &mut one, &mut room.room()) else { return None };
+            let equal: fn(&$sample, &$sample) -> bool = $equal;
+            if c.frame.preview {
+                let mut without = before.to_vec();
+                let a = c.frame.preview(false).$run(&previews::left(list).0, &mut without, &mut room.room());
+                let alike = one.iter().zip(&without).all(|(a, b)| equal(a, b));
+                if a != (Answer::Done { names, repaired: 0, left: 0 }) || !alike {
+                    return Some(Err(format!("a preview is not the run over what is left, which answers {a:?}")));
+                }
+            }
             let mut s = before.to_vec();
             for t in tiles {
                 let (t, mut room, lent) = own(r, t, names, s.len());
@@ -165,7 +194,6 @@ macro_rules! tiled {
                     return Some(Err(format!("{t:?} answers {a:?}")));
                 }
             }
-            let equal: fn(&$sample, &$sample) -> bool = $equal;
             Some(match (0..s.len()).find(|&i| !equal(&s[i], &one[i])) {
                 Some(i) => Err(format!("sample {i} is {:?} by tiles, {:?} in one run", s[i], one[i])),
                 None => Ok(()),

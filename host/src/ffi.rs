@@ -34,6 +34,7 @@ pub struct RowWindow {
 pub struct Settings {
     pub period: usize,
     pub scale: f32,
+    pub preview: bool,
 }
 
 #[repr(C)]
@@ -90,6 +91,7 @@ extern "C" {
         samples_len: usize,
         window: Window,
         period: usize,
+        preview: bool,
         marks: *mut u32,
         marks_len: usize,
         names: *mut u8,
@@ -104,6 +106,7 @@ extern "C" {
         window: RowWindow,
         y: usize,
         scale: f32,
+        preview: bool,
     ) -> RowNumbers;
 
     pub fn rolbhunga_bytes_f32(
@@ -128,6 +131,7 @@ extern "C" {
         bytes_len: usize,
         window: Window,
         period: usize,
+        preview: bool,
         work: *mut u16,
         work_len: usize,
         marks: *mut u32,
@@ -144,6 +148,7 @@ extern "C" {
         window: RowWindow,
         y: usize,
         scale: f32,
+        preview: bool,
         work: *mut f32,
         work_len: usize,
     ) -> RowNumbers;

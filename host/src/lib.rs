@@ -95,7 +95,8 @@ pub enum Answer {
     NotTaken,
     /// 4: the skip buffer is shorter than the skipped opcodes.
     Names,
-    /// 5: the repair `opcode` marks more positions than there is room for; nothing of it is written.
+    /// 5: the repair `opcode` marks more positions than there is room for; nothing of it is written. Opcodes are
+    /// numbered in the whole list, also in a preview.
     Marks { opcode: usize },
     // 6 is withdrawn
     /// 100, of the forms over bytes alone: the work room has fewer entries than the bytes have samples.
@@ -116,7 +117,7 @@ impl Answer {
         }
     }
 
-    /// The verdict: the run answers 0 and skips nothing.
+    /// The verdict: the run answers 0 and skips nothing of the list, or of what a preview leaves of it.
     pub fn is_whole(self) -> bool {
         matches!(self, Answer::Done { names: 0, .. })
     }
@@ -181,7 +182,7 @@ impl RowAnswer {
         }
     }
 
-    /// The verdict: the row is done and nothing of the list was skipped.
+    /// The verdict: the row is done and nothing of the list, or of what a preview leaves of it, was skipped.
     pub fn is_whole(self) -> bool {
         matches!(self, RowAnswer::Done { skipped: 0 })
     }
@@ -319,10 +320,11 @@ pub struct Frame {
     pub full_height: usize,
     pub period: usize,
     pub scale: f32,
+    pub preview: bool,
 }
 
 impl Frame {
-    /// A whole image of `planes` samples to a pixel, its rows without gaps, period 1 and scale 1.
+    /// A whole image of `planes` samples to a pixel, its rows without gaps, period 1 and scale 1, and no preview.
     pub fn new(width: usize, height: usize, planes: usize) -> Frame {
         Frame {
             width,
@@ -335,6 +337,7 @@ impl Frame {
             full_height: height,
             period: 1,
             scale: 1.0,
+            preview: false,
         }
     }
 
@@ -371,7 +374,30 @@ impl Frame {
         self
     }
 
-    /// The window of one row of this frame.
+    /// Whether the runs are previews, which leave out the opcodes whose flag bit 1 says that a preview may skip them.
+    /// The list is read whole all the same; forms, names, totals and verdict then speak of the opcodes that are left,
+    /// and the number in [`Answer::Marks`] still counts the whole list.
+    ///
+    /// ```
+    /// use rolbhunga::{Answer, Frame, Scratch};
+    ///
+    /// // Two repairs, of 0 and of 10, the second with flags 2: the whole-number form takes one.
+    /// let words: [u32; 13] = [2, 4, 0x0103_0000, 0, 8, 0, 0, 4, 0x0103_0000, 2, 8, 10, 0];
+    /// let list: Vec<u8> = words.iter().flat_map(|w| w.to_be_bytes()).collect();
+    /// let mut samples = [10, 0, 19];
+    /// let frame = Frame::new(3, 1, 1);
+    /// let mut scratch = Scratch::enough(&frame);
+    /// assert_eq!(frame.run_u16(&list, &mut samples, &mut scratch.room()), Answer::NotTaken);
+    /// let answer = frame.preview(true).run_u16(&list, &mut samples, &mut scratch.room());
+    /// assert_eq!(answer, Answer::Done { names: 0, repaired: 1, left: 0 });
+    /// assert_eq!(samples, [10, 15, 19]);
+    /// ```
+    pub fn preview(mut self, preview: bool) -> Frame {
+        self.preview = preview;
+        self
+    }
+
+    /// The window of one row of this frame, and a preview where this is one.
     pub fn row(&self) -> Row {
         Row {
             width: self.width,
@@ -380,6 +406,7 @@ impl Frame {
             full_width: self.full_width,
             full_height: self.full_height,
             scale: self.scale,
+            preview: self.preview,
         }
     }
 
@@ -406,7 +433,7 @@ impl Frame {
     }
 
     fn settings(&self) -> ffi::Settings {
-        ffi::Settings { period: self.period, scale: self.scale }
+        ffi::Settings { period: self.period, scale: self.scale, preview: self.preview }
     }
 
     /// Runs a list on f32 samples.
@@ -439,6 +466,7 @@ impl Frame {
                 samples.len(),
                 self.window(),
                 self.period,
+                self.preview,
                 room.marks.as_mut_ptr(),
                 room.marks.len(),
                 room.names.as_mut_ptr(),
@@ -480,6 +508,7 @@ impl Frame {
                 bytes.len(),
                 self.window(),
                 self.period,
+                self.preview,
                 work.as_mut_ptr(),
                 work.len(),
                 room.marks.as_mut_ptr(),
@@ -492,7 +521,7 @@ impl Frame {
 }
 
 /// A rectangle of a frame, as a value: a frame of its own, with its own x0 and y0 and the other's stride, planes,
-/// full sizes, period and scale, and where its first sample lies among the other's. [`Frame::tile`] makes it.
+/// full sizes, period, scale and preview, and where its first sample lies among the other's. [`Frame::tile`] makes it.
 ///
 /// **Tiles give the frame.** Take a list without repairs, as every list of the row form is and every list of tables
 /// on u16 samples; a frame inside the limits with a width of at least 1 and a stride of at least its width; samples
@@ -568,6 +597,7 @@ pub struct Row {
     pub full_width: usize,
     pub full_height: usize,
     pub scale: f32,
+    pub preview: bool,
 }
 
 impl Row {
@@ -593,6 +623,7 @@ impl Row {
                 self.window(),
                 y,
                 self.scale,
+                self.preview,
             )
         })
     }
@@ -609,6 +640,7 @@ impl Row {
                 self.window(),
                 y,
                 self.scale,
+                self.preview,
                 work.as_mut_ptr(),
                 work.len(),
             )

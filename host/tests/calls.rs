@@ -6,9 +6,15 @@ fn words(w: &[u32]) -> Vec<u8> {
 }
 
 fn list(entries: &[(u32, Vec<u8>)]) -> Vec<u8> {
+    let plain: Vec<_> = entries.iter().map(|e| (0, e.clone())).collect();
+    flagged(&plain)
+}
+
+// Entries behind their flags.
+fn flagged(entries: &[(u32, (u32, Vec<u8>))]) -> Vec<u8> {
     let mut l = words(&[entries.len() as u32]);
-    for (id, body) in entries {
-        l.extend(words(&[*id, 0, 0, body.len() as u32]));
+    for (flags, (id, body)) in entries {
+        l.extend(words(&[*id, 0x0103_0000, *flags, body.len() as u32]));
         l.extend(body);
     }
     l
@@ -218,4 +224,90 @@ fn tiles_are_the_frame() {
     let far = f.tile(usize::MAX, usize::MAX, usize::MAX, 2);
     assert_eq!(far.run_f32(&l, &mut [1.0], &mut Scratch::new(0, 0).room()), Answer::Range);
     assert_eq!(f.tile(0, 9, 3, 1).run_f32(&l, &mut [1.0], &mut Scratch::new(0, 0).room()).number(), 0);
+}
+
+// Two repairs, of which the whole-number form takes one: each flag, in a preview and not.
+#[test]
+fn previews() {
+    let f = Frame::new(3, 1, 1);
+    let done = Answer::Done { names: 0, repaired: 1, left: 0 };
+    for flags in 0..8 {
+        let l = flagged(&[(0, constant(0)), (flags, constant(10))]);
+        let mut u = [10, 0, 19];
+        assert_eq!(f.run_u16(&l, &mut u, &mut Scratch::enough(&f).room()), Answer::NotTaken);
+        let left_out = flags & 2 == 2;
+        let a = f.preview(true).run_u16(&l, &mut u, &mut Scratch::enough(&f).room());
+        assert_eq!((a, u), if left_out { (done, [10, 15, 19]) } else { (Answer::NotTaken, [10, 0, 19]) });
+        let mut s = [10.0, 0.0, 19.0];
+        let a = run_f32(f.preview(true), &l, &mut s);
+        let both = Answer::Done { names: 0, repaired: 2, left: 0 };
+        assert_eq!((a, s), if left_out { (done, [10.0, 14.5, 19.0]) } else { (both, [14.5, 14.5, 19.0]) });
+        assert_eq!(run_f32(f.preview(false), &l, &mut [10.0, 0.0, 19.0]), both);
+    }
+}
+
+// Opcodes are numbered in the whole list; names are of what is left; a list of which nothing is left is whole.
+#[test]
+fn what_previews_leave() {
+    let f = Frame::new(3, 1, 1).preview(true);
+    let l = flagged(&[(2, constant(0)), (0, constant(0))]);
+    let mut s = [10.0, 0.0, 19.0];
+    let a = f.run_f32(&l, &mut s, &mut Scratch::new(0, 0).room());
+    assert_eq!((a, s), (Answer::Marks { opcode: 1 }, [10.0, 0.0, 19.0]));
+    let l = flagged(&[(2, (2, vec![])), (1, (99, vec![])), (3, (6, words(&[0; 4]))), (0, (2, vec![]))]);
+    let mut x = Scratch { marks: vec![], names: vec![0xee; 3] };
+    assert_eq!(f.run_f32(&l, &mut [], &mut x.room()), Answer::Done { names: 2, repaired: 0, left: 0 });
+    assert_eq!(x.names, [0, 2, 0xee]);
+    assert_eq!(f.run_f32(&l, &mut [], &mut Scratch::new(0, 1).room()), Answer::Names);
+    let a = f.preview(false).run_u16(&l, &mut [], &mut x.room());
+    assert_eq!((a, x.names), (Answer::Names, vec![0, 2, 0xee]));
+    let l = flagged(&[(2, constant(0)), (3, (2, vec![])), (0xffff_fffe, table(ALL, &[]))]);
+    assert!(run_f32(f, &l, &mut s).is_whole());
+    assert_eq!(f.row().run(&l, &mut s, 0), RowAnswer::Done { skipped: 0 });
+    assert_eq!(f.preview(false).row().run(&l, &mut s, 0), RowAnswer::NotTaken);
+    assert_eq!(s, [10.0, 0.0, 19.0]);
+}
+
+// The ranges come first, then reading: an entry that would be left out is read.
+#[test]
+fn previews_read_all() {
+    let l = flagged(&[(0, constant(0)), (2, (4, words(&[0])))]);
+    let why = Answer::Malformed { entry: 1, reason: Reason::Inside, offset: 48 };
+    let f = Frame::new(3, 1, 1).preview(true);
+    assert_eq!(run_f32(f, &l, &mut [10.0, 0.0, 19.0]), why);
+    assert_eq!(run_f32(f.period(65_537), &l, &mut [10.0, 0.0, 19.0]), Answer::Range);
+    assert_eq!(f.row().run(&l, &mut [1.0], 0).number(), 23);
+}
+
+// Rows, tiles and bytes are previews where their frame is one.
+#[test]
+fn parts_of_a_preview() {
+    let scales = |by: f32| (12, [words(&ALL), words(&[2, by.to_bits(), by.to_bits()])].concat());
+    let l = flagged(&[(0, scales(2.0)), (2, scales(3.0))]);
+    let f = Frame::new(2, 2, 1);
+    for (preview, by) in [(false, 6.0), (true, 2.0)] {
+        let f = f.preview(preview);
+        let mut s = [1.0; 4];
+        for (y, row) in s.chunks_mut(2).enumerate() {
+            assert_eq!(f.row().run(&l, row, y), RowAnswer::Done { skipped: 0 });
+        }
+        assert_eq!(s, [by; 4]);
+        let mut s = [1.0; 4];
+        for t in [f.tile(1, 0, 1, 2), f.tile(0, 0, 1, 2)] {
+            assert!(t.run_f32(&l, &mut s, &mut Scratch::new(0, 0).room()).is_whole());
+        }
+        assert_eq!(s, [by; 4]);
+        let mut b = 1.0f32.to_le_bytes();
+        let one = Frame::new(1, 1, 1).preview(preview);
+        assert!(one.bytes_f32(&l, &mut b, &mut [0.0], &mut Scratch::new(0, 0).room()).is_whole());
+        assert_eq!(b, by.to_le_bytes());
+        let mut b = 1.0f32.to_le_bytes();
+        assert!(one.row().run_bytes(&l, &mut b, 0, &mut [0.0]).is_whole());
+        assert_eq!(b, by.to_le_bytes());
+    }
+    let l = flagged(&[(0, constant(0)), (2, constant(10))]);
+    let mut b = [10, 0, 0, 0, 19, 0];
+    let f = Frame::new(3, 1, 1).preview(true);
+    assert!(f.bytes_u16(&l, &mut b, &mut [0; 3], &mut Scratch::new(1, 0).room()).is_whole());
+    assert_eq!(b, [10, 0, 15, 0, 19, 0]);
 }

@@ -1,6 +1,7 @@
-// correct [--period N] [--f32 WIDTH HEIGHT] LIST FRAME OUT: runs the opcode list LIST on FRAME and writes the result to
-// OUT. FRAME is a binary greymap (PGM, P5) or, where a size is given, raw little-endian f32, which are run at scale 1.
-// The window is the whole frame, at 0, 0. OUT is written under another name first, so that it is never half written.
+// correct [--period N] [--preview] [--f32 WIDTH HEIGHT] LIST FRAME OUT: runs the opcode list LIST on FRAME and writes
+// the result to OUT. FRAME is a binary greymap (PGM, P5) or, where a size is given, raw little-endian f32, which are run
+// at scale 1. The window is the whole frame, at 0, 0. A preview leaves out the opcodes whose flag says that it may.
+// OUT is written under another name first, so that it is never half written.
 use dng::Answer;
 use dng::Settings;
 use dng::Window;
@@ -22,10 +23,11 @@ fn front(s: &[u8], n: usize) -> &[u8] {
 
 // ---- the arguments
 
-// The period, the size of a raw f32 frame if one is given, and which argument LIST is: 0 where the arguments are not in
-// order.
+// The period, whether this is a preview, the size of a raw f32 frame if one is given, and which argument LIST is: 0
+// where the arguments are not in order.
 struct Options {
     period: usize,
+    preview: bool,
     raw: bool,
     width: usize,
     height: usize,
@@ -67,6 +69,7 @@ fn number_arg(i: usize) -> usize {
 fn period_option() -> Options {
     let none = Options {
         period: 1,
+        preview: false,
         raw: false,
         width: 0,
         height: 0,
@@ -75,6 +78,7 @@ fn period_option() -> Options {
     if is_arg(1, b"--period") {
         Options {
             period: number_arg(2),
+            preview: false,
             raw: false,
             width: 0,
             height: 0,
@@ -82,6 +86,25 @@ fn period_option() -> Options {
         }
     } else {
         none
+    }
+}
+
+fn preview_option(o: Options) -> Options {
+    let at = o.first;
+    if 8 < at {
+        return o;
+    }
+    if is_arg(at, b"--preview") {
+        Options {
+            period: o.period,
+            preview: true,
+            raw: o.raw,
+            width: o.width,
+            height: o.height,
+            first: at + 1,
+        }
+    } else {
+        o
     }
 }
 
@@ -93,6 +116,7 @@ fn raw_option(o: Options) -> Options {
     if is_arg(at, b"--f32") {
         Options {
             period: o.period,
+            preview: o.preview,
             raw: true,
             width: number_arg(at + 1),
             height: number_arg(at + 2),
@@ -278,6 +302,7 @@ fn finish(
 fn mend_raster(
     out: usize,
     period: usize,
+    preview: bool,
     list: &[u8],
     width: usize,
     height: usize,
@@ -290,7 +315,7 @@ fn mend_raster(
     say_pgm::decode(raster, maxval, &mut *samples);
     let w = window_of(width, height);
     let mut names = [0u8; 4096];
-    match run_stored::mend(list, &mut *samples, wide, w, period, marks, &mut names) {
+    match run_stored::mend(list, &mut *samples, wide, w, period, preview, marks, &mut names) {
         Mended::Whole { answer } => {
             finish(
                 out,
@@ -329,6 +354,7 @@ fn mend_raster(
 fn mend_file(
     out: usize,
     period: usize,
+    preview: bool,
     list: &[u8],
     n: usize,
     file: &mut [u8],
@@ -353,6 +379,7 @@ fn mend_file(
                         mend_raster(
                             out,
                             period,
+                            preview,
                             list,
                             width,
                             height,
@@ -383,6 +410,7 @@ fn mend_file(
 fn run_raw(
     out: usize,
     period: usize,
+    preview: bool,
     list: &[u8],
     width: usize,
     height: usize,
@@ -393,7 +421,11 @@ fn run_raw(
     say_pgm::decode_f32(raster, &mut *samples);
     let mut names = [0u8; 4096];
     let w = window_of(width, height);
-    let set = Settings { period, scale: 1.0 };
+    let set = Settings {
+        period,
+        scale: 1.0,
+        preview,
+    };
     let a = run_window::run_f32(list, &mut *samples, w, set, marks, &mut names);
     if is_done(a) {
         say_pgm::encode_f32(samples, &mut *raster);
@@ -408,6 +440,7 @@ fn run_raw(
 fn run_raw_file(
     out: usize,
     period: usize,
+    preview: bool,
     list: &[u8],
     width: usize,
     height: usize,
@@ -430,7 +463,17 @@ fn run_raw_file(
         if bytes <= file.len() {
             let raster = &mut file[0..bytes];
             let part = &mut samples[0..count];
-            run_raw(out, period, list, width, height, raster, part, marks);
+            run_raw(
+                out,
+                period,
+                preview,
+                list,
+                width,
+                height,
+                raster,
+                part,
+                marks,
+            );
         }
     }
 }
@@ -459,6 +502,7 @@ fn mend_args(
         run_raw_file(
             first + 2,
             o.period,
+            o.preview,
             front(list, long),
             o.width,
             o.height,
@@ -471,6 +515,7 @@ fn mend_args(
         mend_file(
             first + 2,
             o.period,
+            o.preview,
             front(list, long),
             n,
             file,
@@ -496,9 +541,9 @@ fn mend_in(
 // All room is here: six megabytes, which the default stack of eight holds. A list has at most 262,143 bytes, a frame
 // at most 524,288 samples, a repair at most 131,072 positions.
 fn main() {
-    let o = raw_option(period_option());
+    let o = raw_option(preview_option(period_option()));
     if !is_in_order(o) {
-        say(b"correct [--period N] [--f32 WIDTH HEIGHT] LIST FRAME OUT");
+        say(b"correct [--period N] [--preview] [--f32 WIDTH HEIGHT] LIST FRAME OUT");
         return;
     }
     let mut list = [0u8; 262144];

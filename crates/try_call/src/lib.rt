@@ -47,6 +47,11 @@ impl Call {
 
     pub const ROW: u32 = 3;
 
+    // a form and 4: the same call as a preview; reading takes no notice of it
+    pub const PREVIEW: u32 = 4;
+
+    pub const LAST: u32 = 7;
+
     pub const MAX_LENT: usize = 64;
 
     pub const MAX_SAMPLE_BYTES: usize = 256;
@@ -141,13 +146,13 @@ fn fields(s: &[u8], at: usize, list: Span, samples: Span) -> Call
     }
 }
 
-// Whether the form is one of the four, and what is to be lent fits the arrays that are lent.
+// Whether the form is one of the four, as a preview or not, and what is to be lent fits the arrays that are lent.
 fn is_small(c: Call) -> bool
     requires { ⌜ c .samples .start ≤ c .samples .end ⌝ }
     ensures { λ r. ⌜ r ≡ smallOf c ⌝ }
 {
     let p = c.samples;
-    (c.form <= Call::ROW)
+    (c.form <= Call::LAST)
         & (c.marks <= Call::MAX_LENT)
         & (c.names <= Call::MAX_LENT)
         & (p.end - p.start <= Call::MAX_SAMPLE_BYTES)

@@ -52,6 +52,10 @@ fn print_numbers(form: u32, n: Numbers) {
 
 // ---- a call
 
+fn is_preview(c: Call) -> bool {
+    Call::PREVIEW <= c.form
+}
+
 fn run_f32(list: &[u8], bytes: &mut [u8], c: Call, names: &mut [u8]) -> Numbers
     requires { ⌜ c .marks ≤ 64 ⌝ }
 {
@@ -62,6 +66,7 @@ fn run_f32(list: &[u8], bytes: &mut [u8], c: Call, names: &mut [u8]) -> Numbers
     let set = Settings {
         period: c.period,
         scale: c.scale,
+        preview: is_preview(c),
     };
     rolbhunga::rolbhunga_bytes_f32(list, bytes, w, set, &mut work, &mut marks[0..m], names)
 }
@@ -73,8 +78,16 @@ fn run_u16(list: &[u8], bytes: &mut [u8], c: Call, names: &mut [u8]) -> Numbers
     let mut marks = [0u32; 64];
     let m = c.marks;
     let w = c.window;
-    let period = c.period;
-    rolbhunga::rolbhunga_bytes_u16(list, bytes, w, period, &mut work, &mut marks[0..m], names)
+    rolbhunga::rolbhunga_bytes_u16(
+        list,
+        bytes,
+        w,
+        c.period,
+        is_preview(c),
+        &mut work,
+        &mut marks[0..m],
+        names,
+    )
 }
 
 fn row_window(w: Window) -> RowWindow {
@@ -90,8 +103,9 @@ fn row_window(w: Window) -> RowWindow {
 // A row names nothing: in its line the count of skipped opcodes stands for the names.
 fn run_row(list: &[u8], bytes: &mut [u8], c: Call) -> Numbers {
     let mut work = [0.0f32; 64];
-    let w = c.window;
-    let r = rolbhunga::rolbhunga_bytes_row(list, bytes, row_window(w), c.y, c.scale, &mut work);
+    let w = row_window(c.window);
+    let preview = is_preview(c);
+    let r = rolbhunga::rolbhunga_bytes_row(list, bytes, w, c.y, c.scale, preview, &mut work);
     Numbers {
         number: r.number,
         entry: r.entry,
@@ -106,7 +120,7 @@ fn run_row(list: &[u8], bytes: &mut [u8], c: Call) -> Numbers {
 fn run(list: &[u8], bytes: &mut [u8], c: Call, names: &mut [u8]) -> Numbers
     requires { ⌜ c .marks ≤ 64 ⌝ }
 {
-    let form = c.form;
+    let form = c.form % Call::PREVIEW;
     match form {
         Call::READ => rolbhunga::rolbhunga_read(list),
         Call::F32 => run_f32(list, bytes, c, names),
@@ -167,7 +181,7 @@ fn show_all(s: &[u8]) -> bool {
 }
 
 fn main() {
-    let mut input = [0u8; 131072];
+    let mut input = [0u8; 262144];
     let n = io::read_full(STDIN_FILENO, &mut input);
     if !show_all(&input[..n]) {
         io::write_all(STDOUT_FILENO, b"broken input\n");

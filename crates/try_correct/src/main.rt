@@ -1,7 +1,7 @@
 // Small frames, mended: prints what `correct` would print, and the samples, which no test can see in the file that it
 // writes. The input is a case after another, each of four parts with their lengths before them: a title, a list, a
 // frame, and six words: 0 for a greymap and 1 for three raw f32; the period; how many entries there are for samples as
-// f32, for marks and for names; and 0. compare/frames writes it.
+// f32, for marks and for names; and 1 for a preview, else 0. compare/frames writes it.
 use dng::Answer;
 use dng::Settings;
 use dng::Window;
@@ -105,6 +105,7 @@ struct Setup {
     wide: usize,
     marks: usize,
     names: usize,
+    preview: bool,
 }
 
 fn held(n: u32, most: usize) -> usize
@@ -126,6 +127,7 @@ fn setup_of(words: &[u8]) -> Setup
         wide,
         marks,
         names,
+        preview: num_words::u32_at(words, 20) == 1,
     }
 }
 
@@ -156,6 +158,7 @@ fn mend_raster(
         &mut wide[0..a],
         w,
         t.period,
+        t.preview,
         &mut marks[0..b],
         &mut names[0..c],
     );
@@ -201,7 +204,7 @@ fn mend_file(list: &[u8], file: &mut [u8], samples: &mut [u16], t: Setup)
 
 // ---- a raw frame of at most three f32
 
-fn run_raw(list: &[u8], raster: &mut [u8], samples: &mut [f32]) {
+fn run_raw(list: &[u8], raster: &mut [u8], samples: &mut [f32], preview: bool) {
     say_pgm::decode_f32(raster, &mut *samples);
     let mut marks = [0u32; 8];
     let mut names = [0u8; 8];
@@ -209,6 +212,7 @@ fn run_raw(list: &[u8], raster: &mut [u8], samples: &mut [f32]) {
     let set = Settings {
         period: 1,
         scale: 1.0,
+        preview,
     };
     let a = run_window::run_f32(list, &mut *samples, w, set, &mut marks, &mut names);
     print_answer(a, Form::Float, &names, 0);
@@ -233,7 +237,7 @@ fn show(list: &[u8], frame: &[u8], words: &[u8]) {
         mend_file(list, &mut file[0..n], &mut samples, t);
     } else {
         if n == 12 {
-            run_raw(list, &mut file[0..n], &mut floats);
+            run_raw(list, &mut file[0..n], &mut floats, t.preview);
         }
     }
 }

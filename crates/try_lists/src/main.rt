@@ -1,5 +1,5 @@
 // What is said of the lists that stand in its input, each under its title: how it is read, which forms take it and how
-// many opcodes each skips, and its note. The input is a length and the title, a length and the list, again and again;
+// many opcodes each skips, the same for a preview, and its note. The input is a length and the title, a length and the list, again and again;
 // words are big-endian. compare/lists writes it.
 use dng::Reading;
 use libc::STDIN_FILENO;
@@ -42,6 +42,21 @@ fn print_survey(s: Survey) {
     io::write_all(STDOUT_FILENO, b"\n");
 }
 
+fn print_found(list: &[u8]) {
+    let found = list_survey::read(list, false);
+    let reading = found.reading;
+    print_reading(reading);
+    let survey = found.survey;
+    print_survey(survey);
+}
+
+fn print_preview(list: &[u8]) {
+    let found = list_survey::read(list, true);
+    io::write_all(STDOUT_FILENO, b"a preview");
+    let survey = found.survey;
+    print_survey(survey);
+}
+
 fn print_note(list: &[u8]) {
     let mut text = [0u8; 1024];
     let end = say_note::note(list, &mut text);
@@ -52,11 +67,8 @@ fn print_list(title: &[u8], list: &[u8]) {
     io::write_all(STDOUT_FILENO, b"-- ");
     io::write_all(STDOUT_FILENO, title);
     io::write_all(STDOUT_FILENO, b"\n");
-    let found = list_survey::read(list);
-    let reading = found.reading;
-    print_reading(reading);
-    let survey = found.survey;
-    print_survey(survey);
+    print_found(list);
+    print_preview(list);
     print_note(list);
 }
 
