@@ -117,8 +117,8 @@ typedef struct rolbhunga_numbers {
     uint64_t left;
 } rolbhunga_numbers;
 
-/* skipped: how many opcodes of the list, or of what a preview leaves of it, the f32 run would name. It is a count and no
- * verdict; a row has none. */
+/* skipped: how many opcodes of the list, or of what a preview leaves of it, the f32 run would name. It is a count and
+ * no verdict; a row has none. */
 typedef struct rolbhunga_row_numbers {
     uint32_t number;
     size_t entry;
@@ -156,8 +156,8 @@ rolbhunga_row_numbers rolbhunga_run_row(const uint8_t *list, size_t list_len, fl
  * and so had a repair that left positions as they were (`left` tells of them). In a preview the opcodes that are left
  * count, and no others.
  * full_width, full_height and preview are those of the run, in either form; a vignette goes by the full size alone,
- * whatever the window. A caller by rows asks once, when all rows are done, with 0. Any number but 0 is not whole; with 0
- * and a list that is malformed, which no run answers with 0, the entries before the malformed one count. */
+ * whatever the window. A caller by rows asks once, when all rows are done, with 0. Any number but 0 is not whole; with
+ * 0 and a list that is malformed, which no run answers with 0, the entries before the malformed one count. */
 bool rolbhunga_whole(const uint8_t *list, size_t list_len, uint32_t full_width, uint32_t full_height, bool preview,
                      uint32_t number);
 
