@@ -1,7 +1,8 @@
 // correct [--period N] [--preview] [--f32 WIDTH HEIGHT] LIST FRAME OUT: runs the opcode list LIST on FRAME and writes
-// the result to OUT. FRAME is a binary greymap (PGM, P5) or, where a size is given, raw little-endian f32, which are run
-// at scale 1. The window is the whole frame, at 0, 0. A preview leaves out the opcodes whose flag says that it may.
-// OUT is written under another name first, so that it is never half written.
+// the result to OUT. FRAME is a binary greymap (PGM, P5) or, where a size is given, raw little-endian f32, which are
+// run at scale 1. The window is the whole frame, at 0, 0. A preview leaves out the opcodes whose flag says that it may.
+// OUT is written under another name first, so that it is never half written. What is printed ends with the verdict;
+// what was skipped and the positions that stay unrepaired are facts of their own, above it.
 use dng::Answer;
 use dng::Settings;
 use dng::Window;
