@@ -318,7 +318,16 @@ fn mend_raster(
     say_pgm::decode(raster, maxval, &mut *samples);
     let w = window_of(width, height);
     let mut names = [0u8; 4096];
-    let m = run_stored::mend(list, &mut *samples, wide, w, period, preview, marks, &mut names);
+    let m = run_stored::mend(
+        list,
+        &mut *samples,
+        wide,
+        w,
+        period,
+        preview,
+        marks,
+        &mut names,
+    );
     let whole = run_stored::is_whole(list, width as u32, height as u32, preview, m);
     match m {
         Mended::Whole { answer } => {

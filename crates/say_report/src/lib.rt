@@ -210,14 +210,7 @@ fn put_malformed(out: &mut [u8], entry: u64, why: Refusal) -> usize
     put_line(&mut *out, a, b"whole entries before: ", entry)
 }
 
-fn put_answer(
-    out: &mut [u8],
-    a: Answer,
-    form: Form,
-    names: &[u8],
-    held: u64,
-    whole: bool,
-) -> usize
+fn put_answer(out: &mut [u8], a: Answer, form: Form, names: &[u8], held: u64, whole: bool) -> usize
     requires { ⌜ 512 ≤ length (now out) ⌝ }
     ensures { λ r. ⌜ Within 512 (now (out .entry)) 0 (textOf a form (now (names .entry)) held whole) r
         (now (out .exit)) ⌝ }
