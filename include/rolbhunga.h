@@ -106,7 +106,8 @@ typedef struct rolbhunga_settings {
 } rolbhunga_settings;
 
 /* names: how many bytes of the skip buffer were written. repaired, left: the marked positions of all repairs that got a
- * new value, and those that had no sound neighbour. */
+ * new value, and those that had no sound neighbour. None of them tells whether the frame is whole: rolbhunga_whole
+ * does. */
 typedef struct rolbhunga_numbers {
     uint32_t number;
     size_t entry;
@@ -117,7 +118,8 @@ typedef struct rolbhunga_numbers {
     uint64_t left;
 } rolbhunga_numbers;
 
-/* skipped: how many opcodes of the list, or of what a preview leaves of it, the f32 run would name. */
+/* skipped: how many opcodes of the list, or of what a preview leaves of it, the f32 run would name. It is a count and
+ * no verdict; a row has none. */
 typedef struct rolbhunga_row_numbers {
     uint32_t number;
     size_t entry;
@@ -149,7 +151,18 @@ rolbhunga_numbers rolbhunga_run_u16(const uint8_t *list, size_t list_len, uint16
 rolbhunga_row_numbers rolbhunga_run_row(const uint8_t *list, size_t list_len, float *row, size_t row_len, rolbhunga_row_window window,
                                         size_t y, float scale, bool preview);
 
-/* The same three on samples that stand in bytes, little-endian. `work` is typed room, an entry for each whole sample;
+/* Whether a frame is whole: the run over it answered 0 (`number`), and every opcode that has not the flag bit 0,
+ * "optional", had its effect. An opcode that is skipped, a MapTable with no entries, and a FixVignetteRadial whose
+ * distance to the farthest corner is not above 0 and finite had none; an opcode whose region selects no sample had it,
+ * and so had a repair that left positions as they were (`left` tells of them). In a preview the opcodes that are left
+ * count, and no others.
+ * full_width, full_height and preview are those of the run, in either form; a vignette goes by the full size alone,
+ * whatever the window. A caller by rows asks once, when all rows are done, with 0. Any number but 0 is not whole; with
+ * 0 and a list that is malformed, which no run answers with 0, the entries before the malformed one count. */
+bool rolbhunga_whole(const uint8_t *list, size_t list_len, uint32_t full_width, uint32_t full_height, bool preview,
+                     uint32_t number);
+
+/* The three runs on samples that stand in bytes, little-endian. `work` is typed room, an entry for each whole sample;
  * it holds only zeros at every return. Bytes left over after the last whole sample stay. On 1, 20 to 25, 3, 4 and 100
  * the bytes are as they were; otherwise every f32 sample is written back, and a NaN is then the pattern 7fc00000 hex,
  * whatever it was before. */

@@ -16,6 +16,13 @@ static void is(const char *what, unsigned long long got, unsigned long long want
 static const uint8_t repair[] = {0, 0, 0, 2, 0, 0, 0, 4, 1, 3, 0, 0, 0, 0, 0, 0, 0, 0, 0, 8, 0, 0, 0, 0, 0, 0, 0, 0,
                                  0, 0, 0, 2, 1, 3, 0, 0, 0, 0, 0, 0, 0, 0, 0, 0};
 
+/* FixVignetteRadial with k0 to k4 0, about (0.5, 2^1000), whose square is past every number where there is a height,
+ * and 0 where there is none */
+static const uint8_t vignette[4 + 16 + 56] = {0, 0, 0, 1, 0, 0, 0, 3, 1, 3, 0, 0, 0, 0, 0, 0, 0, 0, 0, 56,
+                                              0, 0, 0, 0, 0, 0, 0, 0, 0, 0, 0, 0, 0, 0, 0, 0, 0, 0, 0, 0,
+                                              0, 0, 0, 0, 0, 0, 0, 0, 0, 0, 0, 0, 0, 0, 0, 0, 0, 0, 0, 0,
+                                              63, 224, 0, 0, 0, 0, 0, 0, 0x7e, 0x70, 0, 0, 0, 0, 0, 0};
+
 /* MM, 42, a directory at 8 with OpcodeList2, type 7, two bytes in the entry */
 static const uint8_t dng[] = {77, 77, 0, 42, 0, 0, 0, 8, 0, 1, 199, 65, 0, 7, 0, 0, 0, 2, 5, 6, 0, 0, 0, 0, 0, 0};
 
@@ -170,6 +177,24 @@ int main(void) {
     is("preview bytes row", r.number, ROLBHUNGA_DONE);
     r = rolbhunga_bytes_row(list, sizeof list, b, 12, rw, 0, 1.0f, false, work, 3);
     is("no preview bytes row", r.number, ROLBHUNGA_NOT_TAKEN);
+    /* the warp, with each flag, and what a preview leaves of it */
+    list[15] = 0;
+    is("a warp", rolbhunga_whole(list, sizeof list, 3, 1, false, ROLBHUNGA_DONE), 0);
+    list[31 + 8] = 1;
+    is("an optional warp", rolbhunga_whole(list, sizeof list, 3, 1, false, ROLBHUNGA_DONE), 1);
+    is("a refusal", rolbhunga_whole(list, sizeof list, 3, 1, false, ROLBHUNGA_MARKS), 0);
+    list[31 + 8] = 2;
+    is("a warp for previews", rolbhunga_whole(list, sizeof list, 3, 1, false, ROLBHUNGA_DONE), 0);
+    is("left out", rolbhunga_whole(list, sizeof list, 3, 1, true, ROLBHUNGA_DONE), 1);
+    list[31 + 8] = 0;
+    list[3] = 1;
+    is("a repair", rolbhunga_whole(list, sizeof list, 3, 1, false, ROLBHUNGA_DONE), 1);
+    list[3] = 2;
+    list[15] = 2;
+    is("a vignette on 2 by 3", rolbhunga_whole(vignette, sizeof vignette, 2, 3, false, ROLBHUNGA_DONE), 0);
+    is("a vignette on 7 by 0", rolbhunga_whole(vignette, sizeof vignette, 7, 0, false, ROLBHUNGA_DONE), 1);
+    is("a vignette on 0 by 7", rolbhunga_whole(vignette, sizeof vignette, 0, 7, false, ROLBHUNGA_DONE), 0);
+    is("a vignette on 0 by 0", rolbhunga_whole(vignette, sizeof vignette, 0, 0, false, ROLBHUNGA_DONE), 0);
     list[31 + 8] = 2;
     n = rolbhunga_run_f32(list, sizeof list, f, 3, w, shown, marks, 0, names, 0);
     is("nothing left", n.number, ROLBHUNGA_DONE);

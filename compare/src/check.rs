@@ -5,6 +5,8 @@ use crate::cases::{Case, Lengths};
 use crate::doc01;
 use crate::oracle::{self, same, Oracle, Read, Want};
 use crate::previews;
+use crate::rng::Rng;
+use crate::verdict;
 use rolbhunga::ffi::{self, Numbers, RowNumbers};
 use rolbhunga::{Answer, Frame, Reading, Reason, Room, RowAnswer, WORK};
 use std::collections::BTreeMap;
@@ -80,9 +82,10 @@ impl Buffers {
     }
 }
 
-fn answer_of(n: Numbers) -> Answer {
+fn answer_of(c: &Case, n: Numbers) -> Answer {
+    let whole = verdict::of_frame(&c.list, &c.frame, n.number);
     match n.number {
-        0 => Answer::Done { names: n.names, repaired: n.repaired, left: n.left },
+        0 => Answer::Done { names: n.names, repaired: n.repaired, left: n.left, whole },
         1 => Answer::Range,
         3 => Answer::NotTaken,
         4 => Answer::Names,
@@ -185,7 +188,7 @@ fn cleared_f32(work: &Lent<f32>) -> Result<(), String> {
 fn typed_f32(c: &Case, w: &Want<f32>) -> Result<(), String> {
     let mut b = Buffers::new(&c.f);
     let mut s = Lent::new(c.floats.iter().map(|&x| f32::from_bits(x)), 7.0);
-    told(c.frame.run_f32(&c.list, s.lend(), &mut b.room()), answer_of(w.numbers))?;
+    told(c.frame.run_f32(&c.list, s.lend(), &mut b.room()), answer_of(c, w.numbers))?;
     floats_are(s.now(), &c.floats, w.samples)?;
     if !s.guarded() {
         return Err("wrote past the samples".into());
@@ -196,7 +199,7 @@ fn typed_f32(c: &Case, w: &Want<f32>) -> Result<(), String> {
 fn typed_u16(c: &Case, w: &Want<u16>) -> Result<(), String> {
     let mut b = Buffers::new(&c.u);
     let mut s = Lent::new(c.wholes.iter().copied(), 0x7777);
-    told(c.frame.run_u16(&c.list, s.lend(), &mut b.room()), answer_of(w.numbers))?;
+    told(c.frame.run_u16(&c.list, s.lend(), &mut b.room()), answer_of(c, w.numbers))?;
     wholes_are(s.now(), w.samples.unwrap_or(&c.wholes))?;
     if !s.guarded() {
         return Err("wrote past the samples".into());
@@ -345,6 +348,8 @@ pub fn check(c: &Case, o: &Oracle) -> Result<(), String> {
     let (w, row) = oracle::want_row(c, o);
     named("run_row", typed_row(c, w, row))?;
     named("bytes_row", bytes_row(c, w, row))?;
+    // sizes and numbers of its own, the same ones for the same list
+    verdict::check(&c.list, &c.frame, &mut Rng::new(c.list.len() as u64, c.y as u64))?;
     if list != c.list {
         return Err("the list was changed".into());
     }
@@ -395,6 +400,12 @@ pub fn count(c: &Case, o: &Oracle, n: &mut Counts) {
             if row.number == 0 {
                 add(n, format!("row done {}", op.name()), 1);
             }
+        }
+    }
+    for (form, w) in [("f32", f.numbers), ("u16", u.numbers)] {
+        if w.number == 0 {
+            let (whole, names) = (verdict::of_frame(&c.list, &c.frame, 0), w.names > 0);
+            add(n, format!("verdicts {form}, whole {whole}, names {names}"), 1);
         }
     }
     if f.numbers.number == 0 {

@@ -13,6 +13,7 @@ mod reasons;
 mod rng;
 mod shrink;
 mod tiles;
+mod verdict;
 
 use cases::Case;
 use check::Counts;
@@ -184,6 +185,13 @@ fn main() {
         }
     }
     println!("limits: {fixed} cases, {wrong} differ");
+    match verdict::clauses() {
+        Ok(n) => println!("verdicts: {n} asked, clause by clause, 0 differ"),
+        Err(why) => {
+            wrong += 1;
+            println!("difference in verdicts: {why}");
+        }
+    }
     let (copies, astray) = damaged(seed);
     println!("damaged copies: {copies}, {astray} differ");
     wrong += astray;

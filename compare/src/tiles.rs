@@ -175,13 +175,13 @@ macro_rules! tiled {
         fn $name(r: &mut Rng, c: &Cut, list: &[u8], before: &[$sample], tiles: &[Tile]) -> Option<Result<(), String>> {
             let mut room = Scratch::new(0, rolbhunga::MAX_OPCODES);
             let mut one = before.to_vec();
-            let Answer::Done { names, .. } = c.frame.$run(list, &mut one, &mut room.room()) else { return None };
+            let Answer::Done { names, whole, .. } = c.frame.$run(list, &mut one, &mut room.room()) else { return None };
             let equal: fn(&$sample, &$sample) -> bool = $equal;
             if c.frame.preview {
                 let mut without = before.to_vec();
                 let a = c.frame.preview(false).$run(&previews::left(list).0, &mut without, &mut room.room());
                 let alike = one.iter().zip(&without).all(|(a, b)| equal(a, b));
-                if a != (Answer::Done { names, repaired: 0, left: 0 }) || !alike {
+                if a != (Answer::Done { names, repaired: 0, left: 0, whole }) || !alike {
                     return Some(Err(format!("a preview is not the run over what is left, which answers {a:?}")));
                 }
             }
@@ -190,7 +190,7 @@ macro_rules! tiled {
                 let (t, mut room, lent) = own(r, t, names, s.len());
                 let start = t.start.min(s.len());
                 let a = t.frame.$run(list, &mut s[start..start + lent], &mut room.room());
-                if a != (Answer::Done { names, repaired: 0, left: 0 }) {
+                if a != (Answer::Done { names, repaired: 0, left: 0, whole }) {
                     return Some(Err(format!("{t:?} answers {a:?}")));
                 }
             }

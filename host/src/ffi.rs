@@ -98,6 +98,15 @@ extern "C" {
         names_len: usize,
     ) -> Numbers;
 
+    pub fn rolbhunga_whole(
+        list: *const u8,
+        list_len: usize,
+        full_width: u32,
+        full_height: u32,
+        preview: bool,
+        number: u32,
+    ) -> bool;
+
     pub fn rolbhunga_run_row(
         list: *const u8,
         list_len: usize,

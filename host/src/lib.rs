@@ -15,7 +15,7 @@
 //! let frame = Frame::new(3, 1, 1);
 //! let mut scratch = Scratch::enough(&frame);
 //! let answer = frame.run_f32(&list, &mut samples, &mut scratch.room());
-//! assert_eq!(answer, Answer::Done { names: 0, repaired: 1, left: 0 });
+//! assert_eq!(answer, Answer::Done { names: 0, repaired: 1, left: 0, whole: true });
 //! assert_eq!(samples, [10.0, 14.5, 19.0]);
 //! ```
 pub mod black;
@@ -32,6 +32,9 @@ pub const WORK: u32 = 100;
 
 /// The opcodes that a list can have at most, so that so many bytes of names are always enough.
 pub const MAX_OPCODES: usize = 4096;
+
+// What full_width and full_height can be at most.
+const MAX_FULL: usize = 16_777_216;
 
 /// Why a list is malformed.
 #[derive(Debug, Clone, Copy, PartialEq, Eq, Hash)]
@@ -87,7 +90,8 @@ fn malformed(f: &mut fmt::Formatter<'_>, entry: usize, reason: Reason, offset: u
 #[derive(Debug, Clone, Copy, PartialEq, Eq)]
 pub enum Answer {
     /// 0: done. The skip buffer starts with `names` bytes, one for each skipped opcode (its id, 0 for an unknown one).
-    Done { names: usize, repaired: u64, left: u64 },
+    /// `whole` is the verdict, of which neither the names nor the totals tell: [`Answer::is_whole`].
+    Done { names: usize, repaired: u64, left: u64, whole: bool },
     /// 1: a number of the frame is out of its range.
     Range,
     /// 20 to 25: the list is malformed, after `entry` entries that were read whole. `offset` is the byte, from the
@@ -119,14 +123,30 @@ impl Answer {
         }
     }
 
-    /// The verdict: the run answers 0 and skips nothing of the list, or of what a preview leaves of it.
+    /// The verdict: the run answers 0, and every opcode of the list, or of what a preview leaves of it, that has not
+    /// the flag bit 0, "optional", had its effect. One that is skipped, an empty MapTable, and a vignette whose
+    /// distance to the farthest corner of the full image is not above 0 and finite had none; one whose region selects
+    /// no sample had it. Positions that stay unrepaired (`left`) are not in it.
+    ///
+    /// ```
+    /// use rolbhunga::{Answer, Frame, Scratch};
+    ///
+    /// // A WarpFisheye, which no run applies: with flags 0, then with flags 1, which permit it.
+    /// let run = |flags: u32| {
+    ///     let words: [u32; 5] = [1, 2, 0x0103_0000, flags, 0];
+    ///     let list: Vec<u8> = words.iter().flat_map(|w| w.to_be_bytes()).collect();
+    ///     Frame::new(1, 1, 1).run_u16(&list, &mut [7], &mut Scratch::new(0, 1).room())
+    /// };
+    /// assert_eq!(run(0), Answer::Done { names: 1, repaired: 0, left: 0, whole: false });
+    /// assert!(run(1).is_whole());
+    /// ```
     pub fn is_whole(self) -> bool {
-        matches!(self, Answer::Done { names: 0, .. })
+        matches!(self, Answer::Done { whole: true, .. })
     }
 
-    fn of(n: ffi::Numbers) -> Answer {
+    fn of(n: ffi::Numbers, whole: bool) -> Answer {
         match n.number {
-            0 => Answer::Done { names: n.names, repaired: n.repaired, left: n.left },
+            0 => Answer::Done { names: n.names, repaired: n.repaired, left: n.left, whole },
             1 => Answer::Range,
             3 => Answer::NotTaken,
             4 => Answer::Names,
@@ -143,8 +163,10 @@ impl Answer {
 impl fmt::Display for Answer {
     fn fmt(&self, f: &mut fmt::Formatter<'_>) -> fmt::Result {
         match *self {
-            Answer::Done { names, repaired, left } => {
-                write!(f, "0: done; skipped opcodes: {names}, repaired: {repaired}, left: {left}")
+            Answer::Done { names, repaired, left, whole } => {
+                let not = if whole { "" } else { "not " };
+                write!(f, "0: done; skipped opcodes: {names}, repaired: {repaired}, left: {left}; ")?;
+                write!(f, "the frame is {not}whole")
             }
             Answer::Range => f.write_str("1: a number is outside its range"),
             Answer::Malformed { entry, reason, offset } => malformed(f, entry, reason, offset),
@@ -156,7 +178,8 @@ impl fmt::Display for Answer {
     }
 }
 
-/// What a row call answers. On all but `Done` the row is as it was.
+/// What a row call answers. On all but `Done` the row is as it was. A row has no verdict: [`Row::is_whole`] gives the
+/// frame's.
 #[derive(Debug, Clone, Copy, PartialEq, Eq)]
 pub enum RowAnswer {
     /// 0: done. `skipped` opcodes of the list are named by the f32 run and not applied.
@@ -182,11 +205,6 @@ impl RowAnswer {
             RowAnswer::NotTaken => 3,
             RowAnswer::Work => WORK,
         }
-    }
-
-    /// The verdict: the row is done and nothing of the list, or of what a preview leaves of it, was skipped.
-    pub fn is_whole(self) -> bool {
-        matches!(self, RowAnswer::Done { skipped: 0 })
     }
 
     fn of(n: ffi::RowNumbers) -> RowAnswer {
@@ -264,6 +282,15 @@ pub fn read(list: &[u8]) -> Reading {
             Some(reason) => Reading::Malformed { entry: n.entry, reason, offset: n.offset },
             None => unreachable!("no answer of reading has the number {other}"),
         },
+    }
+}
+
+// The verdict of a frame whose run answered `number`. No run answers 0 to a size that is past the limits.
+fn whole(list: &[u8], full_width: usize, full_height: usize, preview: bool, number: u32) -> bool {
+    let fits = full_width <= MAX_FULL && full_height <= MAX_FULL;
+    // The list is lent for the call and only read.
+    fits && unsafe {
+        ffi::rolbhunga_whole(list.as_ptr(), list.len(), full_width as u32, full_height as u32, preview, number)
     }
 }
 
@@ -392,7 +419,7 @@ impl Frame {
     /// let mut scratch = Scratch::enough(&frame);
     /// assert_eq!(frame.run_u16(&list, &mut samples, &mut scratch.room()), Answer::NotTaken);
     /// let answer = frame.preview(true).run_u16(&list, &mut samples, &mut scratch.room());
-    /// assert_eq!(answer, Answer::Done { names: 0, repaired: 1, left: 0 });
+    /// assert_eq!(answer, Answer::Done { names: 0, repaired: 1, left: 0, whole: true });
     /// assert_eq!(samples, [10, 15, 19]);
     /// ```
     pub fn preview(mut self, preview: bool) -> Frame {
@@ -439,10 +466,14 @@ impl Frame {
         ffi::Settings { period: self.period, scale: self.scale, preview: self.preview }
     }
 
+    fn answer(&self, list: &[u8], n: ffi::Numbers) -> Answer {
+        Answer::of(n, whole(list, self.full_width, self.full_height, self.preview, n.number))
+    }
+
     /// Runs a list on f32 samples.
     pub fn run_f32(&self, list: &[u8], samples: &mut [f32], room: &mut Room<'_>) -> Answer {
         // Every slice is lent for the call alone, and no two of them overlap.
-        Answer::of(unsafe {
+        self.answer(list, unsafe {
             ffi::rolbhunga_run_f32(
                 list.as_ptr(),
                 list.len(),
@@ -461,7 +492,7 @@ impl Frame {
     /// Runs a list on u16 samples. The scale counts as 1.
     pub fn run_u16(&self, list: &[u8], samples: &mut [u16], room: &mut Room<'_>) -> Answer {
         // As for `run_f32`.
-        Answer::of(unsafe {
+        self.answer(list, unsafe {
             ffi::rolbhunga_run_u16(
                 list.as_ptr(),
                 list.len(),
@@ -482,7 +513,7 @@ impl Frame {
     /// holds only zeros afterwards; bytes left over stay. After a run a NaN is the pattern 7fc00000 hex.
     pub fn bytes_f32(&self, list: &[u8], bytes: &mut [u8], work: &mut [f32], room: &mut Room<'_>) -> Answer {
         // As for `run_f32`.
-        Answer::of(unsafe {
+        self.answer(list, unsafe {
             ffi::rolbhunga_bytes_f32(
                 list.as_ptr(),
                 list.len(),
@@ -503,7 +534,7 @@ impl Frame {
     /// Runs a list on u16 samples that stand in bytes, little-endian. `work` as for [`Frame::bytes_f32`].
     pub fn bytes_u16(&self, list: &[u8], bytes: &mut [u8], work: &mut [u16], room: &mut Room<'_>) -> Answer {
         // As for `run_f32`.
-        Answer::of(unsafe {
+        self.answer(list, unsafe {
             ffi::rolbhunga_bytes_u16(
                 list.as_ptr(),
                 list.len(),
@@ -612,6 +643,21 @@ impl Row {
             full_width: self.full_width,
             full_height: self.full_height,
         }
+    }
+
+    /// The verdict of a frame whose rows were all run by this list and answered [`RowAnswer::Done`], as
+    /// [`Answer::is_whole`] has it; asked once. A malformed list, and a full size past the limits, which every row
+    /// refuses, are never whole.
+    ///
+    /// ```
+    /// use rolbhunga::Frame;
+    ///
+    /// let row = Frame::new(2, 1, 1).row();
+    /// assert!(row.is_whole(&[0, 0, 0, 0]));
+    /// assert!(!row.is_whole(&[0, 0, 0, 1]));
+    /// ```
+    pub fn is_whole(&self, list: &[u8]) -> bool {
+        whole(list, self.full_width, self.full_height, self.preview, read(list).number())
     }
 
     /// Runs a list on the image's row `y`, as the f32 run would. `row` has at most width·planes samples.

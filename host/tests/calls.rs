@@ -82,12 +82,13 @@ fn reasons() {
 fn means() {
     let (f, l) = (Frame::new(3, 1, 1), list(&[constant(0)]));
     let mut s = [10.0, 0.0, 19.0];
-    assert_eq!(run_f32(f, &l, &mut s), Answer::Done { names: 0, repaired: 1, left: 0 });
+    assert_eq!(run_f32(f, &l, &mut s), Answer::Done { names: 0, repaired: 1, left: 0, whole: true });
     assert_eq!(s, [10.0, 14.5, 19.0]);
     let mut u = [10, 0, 19];
     let a = f.run_u16(&l, &mut u, &mut Scratch::enough(&f).room());
-    assert_eq!((a, u), (Answer::Done { names: 0, repaired: 1, left: 0 }, [10, 15, 19]));
-    assert_eq!(run_f32(Frame::new(1, 1, 1), &l, &mut [0.0]), Answer::Done { names: 0, repaired: 0, left: 1 });
+    assert_eq!((a, u), (Answer::Done { names: 0, repaired: 1, left: 0, whole: true }, [10, 15, 19]));
+    let left = Answer::Done { names: 0, repaired: 0, left: 1, whole: true };
+    assert_eq!(run_f32(Frame::new(1, 1, 1), &l, &mut [0.0]), left);
 }
 
 #[test]
@@ -102,10 +103,11 @@ fn tables() {
 fn an_empty_table() {
     let (f, l) = (Frame::new(1, 1, 1), list(&[table(ALL, &[])]));
     let mut scratch = Scratch::new(0, 1);
-    assert_eq!(f.run_f32(&l, &mut [1.0], &mut scratch.room()), Answer::Done { names: 1, repaired: 0, left: 0 });
+    let a = f.run_f32(&l, &mut [1.0], &mut scratch.room());
+    assert_eq!(a, Answer::Done { names: 1, repaired: 0, left: 0, whole: false });
     assert_eq!(scratch.names, [7]);
     let a = f.run_u16(&l, &mut [1], &mut scratch.room());
-    assert_eq!(a, Answer::Done { names: 0, repaired: 0, left: 0 });
+    assert_eq!(a, Answer::Done { names: 0, repaired: 0, left: 0, whole: false });
     assert_eq!(f.row().run(&l, &mut [1.0], 0), RowAnswer::NotTaken);
 }
 
@@ -139,7 +141,8 @@ fn refusals() {
 fn one_mark() {
     let mut s = [10.0, 20.0, 0.0, 0.0, 19.0, 29.0];
     let a = Frame::new(3, 1, 2).run_f32(&list(&[constant(0)]), &mut s, &mut Scratch::new(1, 0).room());
-    assert_eq!((a, s), (Answer::Done { names: 0, repaired: 1, left: 0 }, [10.0, 20.0, 14.5, 24.5, 19.0, 29.0]));
+    assert_eq!(a, Answer::Done { names: 0, repaired: 1, left: 0, whole: true });
+    assert_eq!(s, [10.0, 20.0, 14.5, 24.5, 19.0, 29.0]);
     let l = list(&[constant(0), (5, words(&[0, 0, 1, 0, 0, 1, 2]))]);
     let mut s = [10.0, 0.0, 19.0];
     let a = Frame::new(3, 1, 1).run_f32(&l, &mut s, &mut Scratch::new(1, 0).room());
@@ -159,7 +162,8 @@ fn bytes() {
     assert_eq!(f.bytes_f32(&l, &mut b, &mut [1.0; 2], &mut room), Answer::Work);
     assert_eq!(b, before);
     let mut work = [1.0; 4];
-    assert_eq!(f.bytes_f32(&l, &mut b, &mut work, &mut room), Answer::Done { names: 0, repaired: 1, left: 0 });
+    let a = f.bytes_f32(&l, &mut b, &mut work, &mut room);
+    assert_eq!(a, Answer::Done { names: 0, repaired: 1, left: 0, whole: true });
     assert_eq!(&b[4..8], 14.5f32.to_le_bytes());
     assert_eq!((b[12], work), (0xab, [0.0; 4]));
     let mut b = [10, 0, 0, 0, 19, 0, 0xab];
@@ -178,7 +182,7 @@ fn rows_are_the_frame() {
     let f = Frame::new(4, 2, 1).at(2, 0).full(6, 2);
     let mut whole = [0.0, 1.0, 2.0, 3.0, 0.0, 0.0, 9.0, 0.0];
     let mut rows = whole;
-    assert_eq!(run_f32(f, &l, &mut whole), Answer::Done { names: 1, repaired: 0, left: 0 });
+    assert_eq!(run_f32(f, &l, &mut whole), Answer::Done { names: 1, repaired: 0, left: 0, whole: false });
     for (y, row) in rows.chunks_mut(4).enumerate() {
         assert_eq!(f.row().run(&l, row, y), RowAnswer::Done { skipped: 1 });
     }
@@ -196,14 +200,14 @@ fn tiles_are_the_frame() {
     let f = Frame::new(3, 2, 2).stride(4).at(2, 1).full(9, 9);
     let before: Vec<f32> = (0..14).map(|v| v as f32).collect();
     let mut whole = before.clone();
-    assert_eq!(run_f32(f, &l, &mut whole), Answer::Done { names: 1, repaired: 0, left: 0 });
+    assert_eq!(run_f32(f, &l, &mut whole), Answer::Done { names: 1, repaired: 0, left: 0, whole: false });
     let tiles = [f.tile(2, 1, 1, 1), f.tile(0, 0, 2, 2), f.tile(1, 1, 0, 9), f.tile(2, 0, 1, 1)];
     assert_eq!((tiles[1].start, tiles[0].start, tiles[1].span(), tiles[2].span()), (0, 12, 12, 0));
     for order in [[0, 1, 2, 3], [3, 2, 1, 0], [1, 3, 0, 2]] {
         let mut tiled = before.clone();
         for t in order.map(|i| tiles[i]) {
             let a = t.run_f32(&l, &mut tiled, &mut Scratch::new(0, 1).room());
-            assert_eq!(a, Answer::Done { names: 1, repaired: 0, left: 0 });
+            assert_eq!(a, Answer::Done { names: 1, repaired: 0, left: 0, whole: false });
         }
         assert_eq!(whole, tiled);
         // each lent up to its last sample alone
@@ -231,7 +235,7 @@ fn tiles_are_the_frame() {
 #[test]
 fn previews() {
     let f = Frame::new(3, 1, 1);
-    let done = Answer::Done { names: 0, repaired: 1, left: 0 };
+    let done = Answer::Done { names: 0, repaired: 1, left: 0, whole: true };
     for flags in 0..8 {
         let l = flagged(&[(0, constant(0)), (flags, constant(10))]);
         let mut u = [10, 0, 19];
@@ -241,7 +245,7 @@ fn previews() {
         assert_eq!((a, u), if left_out { (done, [10, 15, 19]) } else { (Answer::NotTaken, [10, 0, 19]) });
         let mut s = [10.0, 0.0, 19.0];
         let a = run_f32(f.preview(true), &l, &mut s);
-        let both = Answer::Done { names: 0, repaired: 2, left: 0 };
+        let both = Answer::Done { names: 0, repaired: 2, left: 0, whole: true };
         assert_eq!((a, s), if left_out { (done, [10.0, 14.5, 19.0]) } else { (both, [14.5, 14.5, 19.0]) });
         assert_eq!(run_f32(f.preview(false), &l, &mut [10.0, 0.0, 19.0]), both);
     }
@@ -257,7 +261,7 @@ fn what_previews_leave() {
     assert_eq!((a, s), (Answer::Marks { opcode: 1 }, [10.0, 0.0, 19.0]));
     let l = flagged(&[(2, (2, vec![])), (1, (99, vec![])), (3, (6, words(&[0; 4]))), (0, (2, vec![]))]);
     let mut x = Scratch { marks: vec![], names: vec![0xee; 3] };
-    assert_eq!(f.run_f32(&l, &mut [], &mut x.room()), Answer::Done { names: 2, repaired: 0, left: 0 });
+    assert_eq!(f.run_f32(&l, &mut [], &mut x.room()), Answer::Done { names: 2, repaired: 0, left: 0, whole: false });
     assert_eq!(x.names, [0, 2, 0xee]);
     assert_eq!(f.run_f32(&l, &mut [], &mut Scratch::new(0, 1).room()), Answer::Names);
     let a = f.preview(false).run_u16(&l, &mut [], &mut x.room());
@@ -303,7 +307,8 @@ fn parts_of_a_preview() {
         assert!(one.bytes_f32(&l, &mut b, &mut [0.0], &mut Scratch::new(0, 0).room()).is_whole());
         assert_eq!(b, by.to_le_bytes());
         let mut b = 1.0f32.to_le_bytes();
-        assert!(one.row().run_bytes(&l, &mut b, 0, &mut [0.0]).is_whole());
+        assert_eq!(one.row().run_bytes(&l, &mut b, 0, &mut [0.0]).number(), 0);
+        assert!(one.row().is_whole(&l));
         assert_eq!(b, by.to_le_bytes());
     }
     let l = flagged(&[(0, constant(0)), (2, constant(10))]);
@@ -311,4 +316,74 @@ fn parts_of_a_preview() {
     let f = Frame::new(3, 1, 1).preview(true);
     assert!(f.bytes_u16(&l, &mut b, &mut [0; 3], &mut Scratch::new(1, 0).room()).is_whole());
     assert_eq!(b, [10, 0, 15, 0, 19, 0]);
+}
+
+fn vignette(cx: f64, cy: f64) -> (u32, Vec<u8>) {
+    (3, [0.0, 0.0, 0.0, 0.0, 0.0, cx, cy].iter().flat_map(|d: &f64| d.to_be_bytes()).collect())
+}
+
+// What had no effect, and what had it: each flag, in a preview and not, in the forms that take it and by rows.
+#[test]
+fn verdicts() {
+    let f = Frame::new(3, 1, 1);
+    let nowhere = [9, 9, 9, 9, 0, 1, 1, 1];
+    let cases = [
+        ((2, vec![]), false),
+        ((6, words(&[0; 4])), false),
+        ((99, vec![]), false),
+        (table(ALL, &[]), false),
+        (vignette(f64::NAN, 0.5), false),
+        (vignette(0.5, 0.5), true),
+        (table(nowhere, &[7]), true),
+        (table(ALL, &[7]), true),
+        (constant(0), true),
+        (constant(1), true),
+    ];
+    for (entry, effect) in cases {
+        for flags in 0..8 {
+            let l = flagged(&[(0, constant(99)), (flags, entry.clone())]);
+            for preview in [false, true] {
+                let f = f.preview(preview);
+                let want = effect || flags & 1 == 1 || preview && flags & 2 == 2;
+                let a = run_f32(f, &l, &mut [1.0, 0.0, 3.0]);
+                assert_eq!((a.number(), a.is_whole()), (0, want));
+                let a = f.run_u16(&l, &mut [1, 0, 3], &mut Scratch::enough(&f).room());
+                assert_eq!(a.is_whole(), want && a.number() == 0);
+                assert_eq!(f.row().is_whole(&l), want);
+            }
+        }
+    }
+}
+
+// A vignette goes by the full size, whatever the window.
+#[test]
+fn full_sizes() {
+    let l = list(&[vignette(0.5, 0.5)]);
+    let whole = |f: Frame| {
+        let a = run_f32(f, &l, &mut []);
+        assert_eq!(a.number(), 0);
+        assert_eq!(f.row().is_whole(&l), a.is_whole());
+        a.is_whole()
+    };
+    assert!(!whole(Frame::new(0, 0, 1)));
+    assert!(!whole(Frame::new(9, 9, 1).full(0, 0)));
+    assert!(whole(Frame::new(0, 0, 1).full(7, 0)));
+    assert!(whole(Frame::new(0, 0, 1).full(16_777_216, 16_777_216)));
+    assert!(!Frame::new(0, 0, 1).full(16_777_217, 1).row().is_whole(&l));
+    assert!(!Frame::new(0, 0, 1).full(1, 1 << 32).row().is_whole(&l));
+}
+
+// Refusals are never whole, and what is left unrepaired is not in the verdict; in words it stands beside it.
+#[test]
+fn beside_the_verdict() {
+    let f = Frame::new(1, 1, 1);
+    let l = list(&[constant(0)]);
+    let a = run_f32(f, &l, &mut [0.0]);
+    assert_eq!(a, Answer::Done { names: 0, repaired: 0, left: 1, whole: true });
+    assert_eq!(a.to_string(), "0: done; skipped opcodes: 0, repaired: 0, left: 1; the frame is whole");
+    assert!(!f.run_f32(&l, &mut [0.0], &mut Scratch::new(0, 0).room()).is_whole());
+    assert!(!run_f32(f, &l[..3], &mut [0.0]).is_whole());
+    assert!(!f.row().is_whole(&l[..3]));
+    let a = run_f32(f, &list(&[(2, vec![])]), &mut [0.0]);
+    assert_eq!(a.to_string(), "0: done; skipped opcodes: 1, repaired: 0, left: 0; the frame is not whole");
 }

@@ -1,7 +1,8 @@
 // correct [--period N] [--preview] [--f32 WIDTH HEIGHT] LIST FRAME OUT: runs the opcode list LIST on FRAME and writes
-// the result to OUT. FRAME is a binary greymap (PGM, P5) or, where a size is given, raw little-endian f32, which are run
-// at scale 1. The window is the whole frame, at 0, 0. A preview leaves out the opcodes whose flag says that it may.
-// OUT is written under another name first, so that it is never half written.
+// the result to OUT. FRAME is a binary greymap (PGM, P5) or, where a size is given, raw little-endian f32, which are
+// run at scale 1. The window is the whole frame, at 0, 0. A preview leaves out the opcodes whose flag says that it may.
+// OUT is written under another name first, so that it is never half written. What is printed ends with the verdict;
+// what was skipped and the positions that stay unrepaired are facts of their own, above it.
 use dng::Answer;
 use dng::Settings;
 use dng::Window;
@@ -250,9 +251,9 @@ fn print_text(text: &[u8; 512], n: usize) {
     io::write_all(STDOUT_FILENO, front(text, n));
 }
 
-fn print_answer(a: Answer, form: Form, names: &[u8], held: usize) {
+fn print_answer(a: Answer, form: Form, names: &[u8], held: usize, whole: bool) {
     let mut text = [0u8; 512];
-    let n = say_report::write(&mut text, a, form, names, held as u64);
+    let n = say_report::write(&mut text, a, form, names, held as u64, whole);
     print_text(&text, n);
 }
 
@@ -270,13 +271,14 @@ fn window_of(width: usize, height: usize) -> Window {
     }
 }
 
-// A refusal is printed and nothing is written; otherwise the frame is, and then the answer.
+// A refusal is printed and nothing is written; otherwise the frame is, and then the answer with the verdict.
 fn finish(
     out: usize,
     a: Answer,
     form: Form,
     names: &[u8],
     wide_held: usize,
+    whole: bool,
     samples: &[u16],
     width: usize,
     height: usize,
@@ -291,10 +293,11 @@ fn finish(
                 form,
                 names,
                 run_stored::held_above(maxval, wide_held, over),
+                whole,
             );
         }
     } else {
-        print_answer(a, form, names, 0);
+        print_answer(a, form, names, 0, whole);
     }
 }
 
@@ -315,7 +318,7 @@ fn mend_raster(
     say_pgm::decode(raster, maxval, &mut *samples);
     let w = window_of(width, height);
     let mut names = [0u8; 4096];
-    match run_stored::mend(
+    let m = run_stored::mend(
         list,
         &mut *samples,
         wide,
@@ -324,7 +327,9 @@ fn mend_raster(
         preview,
         marks,
         &mut names,
-    ) {
+    );
+    let whole = run_stored::is_whole(list, width as u32, height as u32, preview, m);
+    match m {
         Mended::Whole { answer } => {
             finish(
                 out,
@@ -332,6 +337,7 @@ fn mend_raster(
                 Form::Whole,
                 &names,
                 0,
+                whole,
                 samples,
                 width,
                 height,
@@ -346,6 +352,7 @@ fn mend_raster(
                 Form::Rounded,
                 &names,
                 held,
+                whole,
                 samples,
                 width,
                 height,
@@ -436,13 +443,15 @@ fn run_raw(
         preview,
     };
     let a = run_window::run_f32(list, &mut *samples, w, set, marks, &mut names);
+    let n = run_answers::numbers(a);
+    let whole = run_verdict::whole_frame(list, width as u32, height as u32, preview, n.number);
     if is_done(a) {
         say_pgm::encode_f32(samples, &mut *raster);
         if write_frame(out, b"", raster) {
-            print_answer(a, Form::Float, &names, 0);
+            print_answer(a, Form::Float, &names, 0, whole);
         }
     } else {
-        print_answer(a, Form::Float, &names, 0);
+        print_answer(a, Form::Float, &names, 0, whole);
     }
 }
 

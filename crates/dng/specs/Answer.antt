@@ -4,7 +4,7 @@ use Prim.Native.Nat.{ℕ, _*_}
 use mathlib.Core.Bool.{Bool, true, false, _&&_, cond}
 use mathlib.Core.List.{List, _++_}
 use mathlib.Core.Path.{_≡_}
-use lib.Dec.{leb, eqb}
+use lib.Dec.{leb}
 use lib.Ieee.{Float}
 use lib.ListN.{length, drop, replicate}
 use Rattle.dng.specs.declared.Window.{Window}
@@ -167,19 +167,3 @@ unfoldable pub rowOut : RowWindow → Float → (preview : Bool) → (y : ℕ) �
 rowOut w scale preview y list row =
     cond (rowInRange w y (length row)) (rowRead w scale preview y list row (readingOf list))
     (record { answer = Row.Range; row = row })
-
--- ---- the verdict: a frame is whole when a run answers 0 and skips nothing
-
-abbrev pub wholeFrame : Answer → Bool
-wholeFrame (Ans.Done n r l) = eqb n 0
-wholeFrame Ans.Range = false
-wholeFrame (Ans.Malformed k why) = false
-wholeFrame Ans.NotTaken = false
-wholeFrame Ans.Names = false
-wholeFrame (Ans.Marks k) = false
-
-abbrev pub wholeRow : RowAnswer → Bool
-wholeRow (Row.Done n) = eqb n 0
-wholeRow Row.Range = false
-wholeRow (Row.Malformed k why) = false
-wholeRow Row.NotTaken = false

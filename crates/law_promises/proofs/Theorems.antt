@@ -23,10 +23,10 @@ use Rattle.list_read.proofs.Offsets.{offset-held}
 use Rattle.dng.specs.Run.{keptIn, Progress, going, marksFull, skipped, namesOf}
 use Rattle.dng.specs.declared.RowAnswer.{RowAnswer}
 use Rattle.dng.specs.declared.RowAnswer.the-variants as Row
-use Rattle.dng.specs.Answer.{inRange, rowInRange, Out, finished, numbersOf, rowNumbersOf, readingNumbersOf, rowOut, wholeFrame, wholeRow}
+use Rattle.dng.specs.Answer.{inRange, rowInRange, Out, finished, numbersOf, rowNumbersOf, readingNumbersOf, rowOut}
 use Rattle.run_row.specs.Rows.{RowRan}
 use Rattle.run_row.proofs.Laws.{determined as rows-determined, kept as rows-kept}
-use Rattle.law_promises.specs.Promises.{Forms, Determined, Call, End, outOf, Meets, skips, performed, Goes, When, RowWhen, MarksOver, Exactly-when, Row-exactly-when, Keeps, Row-keeps, Numbered, Locates, RefusedFor, By-reason, Adds-up, Scratch, Row-calls, Whole-calls, Whole-calls-alike, Verdict, Row-verdict}
+use Rattle.law_promises.specs.Promises.{Forms, Determined, Call, End, outOf, Meets, skips, performed, Goes, When, RowWhen, MarksOver, Exactly-when, Row-exactly-when, Keeps, Row-keeps, Numbered, Locates, RefusedFor, By-reason, Adds-up, Scratch, Row-calls, Whole-calls, Whole-calls-alike}
 use Rattle.law_promises.proofs.Answers.{named, goes-on, when, only, kept, reason-least, row-when, row-only}
 use Rattle.law_promises.proofs.Stops.{shown, marks-stop}
 use Rattle.law_promises.proofs.Answers as Answers
@@ -194,48 +194,3 @@ whole-calls = Calls.whole-calls
 
 pub whole-calls-alike : Whole-calls-alike
 whole-calls-alike = Calls.whole-calls-alike
-
--- ---- 6
-
-pub verdict : Verdict
-verdict A c e m = (there (e .answer) (λ n r l. settled n r l), back (e .answer) (λ n r l. settled n r l))
-  where
-    settled : (n r l : ℕ) → e .answer ≡ Ans.Done n r l → n ≡ skips c
-    settled n r l p = let h : When c (Ans.Done n r l) = answers c e m (Ans.Done n r l) .0 p in h .1
-
-    -- any answer that is e's
-    there : (a : Answer) → ((n r l : ℕ) → a ≡ Ans.Done n r l → n ≡ skips c) → wholeFrame a ≡ true → (numbersOf a .number ≡ 0) × (skips c ≡ 0)
-    there (Ans.Done n r l) f h = (refl, sym (f n r l refl) ∙ eqb-true n 0 h)
-    there Ans.Range f h = absurd (false≢true h)
-    there (Ans.Malformed k why) f h = absurd (false≢true h)
-    there Ans.NotTaken f h = absurd (false≢true h)
-    there Ans.Names f h = absurd (false≢true h)
-    there (Ans.Marks k) f h = absurd (false≢true h)
-
-    back : (a : Answer) → ((n r l : ℕ) → a ≡ Ans.Done n r l → n ≡ skips c) → (numbersOf a .number ≡ 0) × (skips c ≡ 0) → wholeFrame a ≡ true
-    back (Ans.Done n r l) f h = eq-eqb n 0 (f n r l refl ∙ h .1)
-    back Ans.Range f h = absurd (omega (arith, h .0))
-    back (Ans.Malformed k why) f h = absurd (omega (arith, h .0, reason-least (why .reason)))
-    back Ans.NotTaken f h = absurd (omega (arith, h .0))
-    back Ans.Names f h = absurd (omega (arith, h .0))
-    back (Ans.Marks k) f h = absurd (omega (arith, h .0))
-
-pub row-verdict : Row-verdict
-row-verdict w scale preview y list row r t ran = (there r counted, back r counted)
-  where
-    counted : (n : ℕ) → r ≡ Row.Done n → n ≡ length (namesOf skipped (keptIn preview list))
-    counted n p = let h : RowWhen w preview y (length row) list (Row.Done n) = row-exactly-when w scale preview y list row r t ran (Row.Done n) .0 p in h .3
-
-    there : (a : RowAnswer) → ((n : ℕ) → a ≡ Row.Done n → n ≡ length (namesOf skipped (keptIn preview list))) → wholeRow a ≡ true → (rowNumbersOf a .number ≡ 0)
-        × (length (namesOf skipped (keptIn preview list)) ≡ 0)
-    there (Row.Done n) f h = (refl, sym (f n refl) ∙ eqb-true n 0 h)
-    there Row.Range f h = absurd (false≢true h)
-    there (Row.Malformed k why) f h = absurd (false≢true h)
-    there Row.NotTaken f h = absurd (false≢true h)
-
-    back : (a : RowAnswer) → ((n : ℕ) → a ≡ Row.Done n → n ≡ length (namesOf skipped (keptIn preview list))) → (rowNumbersOf a .number ≡ 0)
-        × (length (namesOf skipped (keptIn preview list)) ≡ 0) → wholeRow a ≡ true
-    back (Row.Done n) f h = eq-eqb n 0 (f n refl ∙ h .1)
-    back Row.Range f h = absurd (omega (arith, h .0))
-    back (Row.Malformed k why) f h = absurd (omega (arith, h .0, reason-least (why .reason)))
-    back Row.NotTaken f h = absurd (omega (arith, h .0))

@@ -25,7 +25,7 @@ use Rattle.dng.specs.declared.Reading.the-variants as R
 use Rattle.dng.specs.List.{Item, reasonNumber, refusal, readingOf, itemsOf, bodyOf}
 use Rattle.dng.specs.Repair.{marksOf, markedIn, repairedIn, leftIn}
 use Rattle.dng.specs.Run.{drops, keptIn, Class, table, empty, local, repair, unapplied, classOf, Kind, f32Kind, u16Kind, skipped, skipped16, takes16, takesRows, namesOf, Progress, going, marksFull, Room, perform, performAll}
-use Rattle.dng.specs.Answer.{inRange, rowInRange, numbersOf, rowNumbersOf, readingNumbersOf, Out, runOut, takesAll, frameOf, f32Out, u16Out, Ran, RowOut, rowOut, wholeFrame, wholeRow}
+use Rattle.dng.specs.Answer.{inRange, rowInRange, numbersOf, rowNumbersOf, readingNumbersOf, Out, runOut, takesAll, frameOf, f32Out, u16Out, Ran, RowOut, rowOut}
 use Rattle.run_row.specs.Rows.{RowRan}
 use Rattle.law_rows.specs.RowForm.{rowPart, rowPut, rowWindowOf, RowForm·if}
 use Rattle.law_wholes.specs.WholeForm.{widened, narrowed, withoutTables, atOne, WholeForm·if}
@@ -391,18 +391,3 @@ Whole-calls-alike =
     → Meets (u16Out w period preview room list s names) room e
     → Meets (f32Out w (atOne period preview) room list (widened s) names′) room e′
     → Wholes-alike preview list e e′
-
--- ---- 6. the verdict: a frame is whole when a run answers 0 and skips nothing
-
-abbrev pub Verdict : Type 1
-Verdict =
-    (A : Type 0) (c : Call A) (e : End A) → Meets (outOf c) (c .room) e
-    → (wholeFrame (e .answer) ≡ true) ↔ ((numbersOf (e .answer) .number ≡ 0) × (skips c ≡ 0))
-
--- a row call names nothing, and its answer carries the count
-abbrev pub Row-verdict : Type 0
-Row-verdict =
-    (w : RowWindow) (scale : Float) (preview : Bool) (y : ℕ) (list : List ℕ) (row : List Float) (r : RowAnswer)
-    (t : List Float)
-    → RowRan (rowOut w scale preview y list row) r t
-    → (wholeRow r ≡ true) ↔ ((rowNumbersOf r .number ≡ 0) × (length (namesOf skipped (keptIn preview list)) ≡ 0))

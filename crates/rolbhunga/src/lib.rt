@@ -27,6 +27,7 @@ ghost use Rattle.run_bytes.specs.Samples.{
   decoded,
   encoded,
 };
+ghost use Rattle.run_verdict.specs.Verdict.{wholeFrame};
 ghost use Rattle.rolbhunga.specs.Calls.{
   rowNumbersFor,
   rowDone,
@@ -228,6 +229,20 @@ pub extern "C" fn rolbhunga_run_u16(
         r (now (samples .exit)) (now (names .exit)) (now (marks .exit)) ⌝ }
 {
     run_answers::numbers(run_window::run_u16(list, samples, w, period, preview, marks, names))
+}
+
+// Whether a frame is whole: its run answered `number`. A caller by rows asks once, with 0.
+#[no_mangle]
+pub extern "C" fn rolbhunga_whole(
+    list: &[u8],
+    full_width: u32,
+    full_height: u32,
+    preview: bool,
+    number: u32,
+) -> bool
+    ensures { λ r. ⌜ r ≡ wholeFrame «full_width» «full_height» preview (now (list .entry)) number ⌝ }
+{
+    run_verdict::whole_frame(list, full_width, full_height, preview, number)
 }
 
 // ---- whole windows, samples in bytes

@@ -10,7 +10,7 @@ use dng::Settings;
 use dng::Window;
 ghost use mathlib.Core.Path.{_≡_};
 ghost use Rattle.dng.specs.List.{reasonNumber};
-ghost use Rattle.dng.specs.Answer.{inRange, rowInRange, malformedNumbers, numbersOf, readingNumbersOf, rowNumbersOf, wholeFrame, wholeRow};
+ghost use Rattle.dng.specs.Answer.{inRange, rowInRange, malformedNumbers, numbersOf, readingNumbersOf, rowNumbersOf};
 
 // Whether every number of a window and a period is in its range: refusal 1 where not.
 pub fn in_range(w: Window, period: usize) -> bool
@@ -145,34 +145,5 @@ pub fn row_numbers(a: RowAnswer) -> Numbers
         RowAnswer::Range => refused(1, 0),
         RowAnswer::Malformed { entry, why } => malformed_numbers(entry, why),
         RowAnswer::NotTaken => refused(3, 0),
-    }
-}
-
-// The verdict: a frame is whole when a run answers 0 and skips nothing.
-pub fn whole_frame(a: Answer) -> bool
-    ensures { λ r. ⌜ r ≡ wholeFrame a ⌝ }
-{
-    match a {
-        Answer::Done {
-            names,
-            repaired: _,
-            left: _,
-        } => names == 0,
-        Answer::Range => false,
-        Answer::Malformed { entry: _, why: _ } => false,
-        Answer::NotTaken => false,
-        Answer::Names => false,
-        Answer::Marks { opcode: _ } => false,
-    }
-}
-
-pub fn whole_row(a: RowAnswer) -> bool
-    ensures { λ r. ⌜ r ≡ wholeRow a ⌝ }
-{
-    match a {
-        RowAnswer::Done { skipped } => skipped == 0,
-        RowAnswer::Range => false,
-        RowAnswer::Malformed { entry: _, why: _ } => false,
-        RowAnswer::NotTaken => false,
     }
 }

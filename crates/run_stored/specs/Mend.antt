@@ -15,8 +15,9 @@ use Rattle.dng.specs.declared.Answer.{Answer}
 use Rattle.dng.specs.declared.Answer.the-variants as Ans
 use Rattle.dng.specs.Value.{nought}
 use Rattle.dng.specs.Run.{Room}
-use Rattle.dng.specs.Answer.{Out, f32Out, u16Out, numbersOf as paper, wholeFrame}
+use Rattle.dng.specs.Answer.{Out, f32Out, u16Out, numbersOf as paper}
 use Rattle.law_wholes.specs.WholeForm.{Below, widened, narrowed, atOne}
+use Rattle.run_verdict.specs.Verdict.{wholeFrame}
 use Rattle.say_pgm.specs.Pgm.{over}
 use Rattle.run_stored.specs.declared.Mended.{Mended}
 use Rattle.run_stored.specs.declared.Mended.the-variants.{Whole, Widened, NoRoom}
@@ -50,11 +51,9 @@ numbersOf (Whole a) = paper a
 numbersOf (Widened a n) = paper a
 numbersOf NoRoom = record { number = 80; entry = 0; offset = 0; opcode = 0; names = 0; repaired = 0; left = 0 }
 
--- the verdict: a frame is whole when a run answers 0 and skips nothing
-abbrev pub wholeMended : Mended → Bool
-wholeMended (Whole a) = wholeFrame a
-wholeMended (Widened a n) = wholeFrame a
-wholeMended NoRoom = false
+-- the verdict of a frame that was mended (run_verdict/specs/Verdict)
+abbrev pub wholeMended : (fullWidth fullHeight : ℕ) → (preview : Bool) → List ℕ → Mended → Bool
+wholeMended fw fh preview list m = wholeFrame fw fh preview list (numbersOf m .number)
 
 pub record MendOut : Type 0 where
   pub answer : Mended

@@ -197,15 +197,18 @@ pub fn numbers(m: Mended) -> Numbers
     }
 }
 
-// The verdict: mended whole when the run answers 0 and skips nothing.
-pub fn is_whole(m: Mended) -> bool
-    ensures { λ r. ⌜ r ≡ wholeMended m ⌝ }
+// The verdict: whether the frame that was mended is whole.
+pub fn is_whole(
+    list: &[u8],
+    full_width: u32,
+    full_height: u32,
+    preview: bool,
+    m: Mended,
+) -> bool
+    ensures { λ r. ⌜ r ≡ wholeMended «full_width» «full_height» preview (now (list .entry)) m ⌝ }
 {
-    match m {
-        Mended::Whole { answer } => run_answers::whole_frame(answer),
-        Mended::Widened { answer, held: _ } => run_answers::whole_frame(answer),
-        Mended::NoRoom => false,
-    }
+    let n = numbers(m);
+    run_verdict::whole_frame(list, full_width, full_height, preview, n.number)
 }
 
 // How many samples of a result are above maxval: `wide` of them were held to 65535 as they were rounded back, `over` of

@@ -56,11 +56,12 @@ pub record Within (k : ℕ) (b : List ℕ) (at : ℕ) (p : List ℕ) (r : ℕ) (
 abbrev pub first : ℕ → List ℕ → List ℕ
 first n b = take (min n (length b)) b
 
--- b: the skip buffer; n: how many names it holds
-unfoldable pub doneText : Form → List ℕ → (n repaired left held : ℕ) → List ℕ
-doneText form b n repaired left held =
+-- b: the skip buffer; n: how many names it holds. The verdict (document 02, M-103) is the caller's, since neither the
+-- names nor the totals decide it: what is skipped and what is left are facts of their own, beside it.
+unfoldable pub doneText : Form → List ℕ → (n repaired left held : ℕ) → (whole : Bool) → List ℕ
+doneText form b n repaired left held whole =
     ((((formText form ++ skippedText (first n b)) ++ line (text "repaired: ") repaired) ++ line (text "left: ") left)
-    ++ lineIf (text "held to the largest value: ") held) ++ verdictText (eqb n 0)
+    ++ lineIf (text "held to the largest value: ") held) ++ verdictText whole
 
 -- what was wrong with a list: cut short, or a number in it that cannot be right; the byte follows. A whole list that
 -- lost its end gives 20 or 22, so the others do not speak of a cut. Document 02, M-100
@@ -78,10 +79,10 @@ whyText Why.Degree = text "25: a degree cannot be right: it is above 8, at byte 
 unfoldable pub malformedText : ℕ → Refusal → List ℕ
 malformedText k why = line (whyText (why .reason)) (why .at) ++ line (text "whole entries before: ") k
 
-abbrev pub textOf : Answer → Form → List ℕ → (held : ℕ) → List ℕ
-textOf (Ans.Done n r l) form b held = doneText form b n r l held
-textOf Ans.Range form b held = ended (text "1: a number is outside its range")
-textOf (Ans.Malformed k why) form b held = malformedText k why
-textOf Ans.NotTaken form b held = ended (text "3: the form does not take the list")
-textOf Ans.Names form b held = ended (text "4: more skipped opcodes than names fit")
-textOf (Ans.Marks k) form b held = line (text "5: more bad pixels than the scratch holds, at opcode ") k
+abbrev pub textOf : Answer → Form → List ℕ → (held : ℕ) → (whole : Bool) → List ℕ
+textOf (Ans.Done n r l) form b held whole = doneText form b n r l held whole
+textOf Ans.Range form b held whole = ended (text "1: a number is outside its range")
+textOf (Ans.Malformed k why) form b held whole = malformedText k why
+textOf Ans.NotTaken form b held whole = ended (text "3: the form does not take the list")
+textOf Ans.Names form b held whole = ended (text "4: more skipped opcodes than names fit")
+textOf (Ans.Marks k) form b held whole = line (text "5: more bad pixels than the scratch holds, at opcode ") k

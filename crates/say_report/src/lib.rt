@@ -1,5 +1,6 @@
 // What a run answered, as text: a refusal is one line, of a malformed list two; a result has a line each for the form,
-// what was skipped, the totals and the verdict.
+// what was skipped, the totals and the verdict. The verdict is the caller's; what was skipped and what stays unrepaired
+// are said beside it.
 use dng::Answer;
 use dng::Reason;
 use dng::Refusal;
@@ -123,7 +124,8 @@ fn put_verdict(out: &mut [u8], at: usize, whole: bool) -> usize
     }
 }
 
-// What a run did: `n` names in the buffer, the totals, and how many samples were held to the largest value.
+// What a run did: `n` names in the buffer, the totals, how many samples were held to the largest value, and the
+// verdict.
 fn put_done(
     out: &mut [u8],
     form: Form,
@@ -132,9 +134,10 @@ fn put_done(
     repaired: u64,
     left: u64,
     held: u64,
+    whole: bool,
 ) -> usize
     requires { ⌜ 512 ≤ length (now out) ⌝ }
-    ensures { λ r. ⌜ Within 512 (now (out .entry)) 0 (doneText form (now (names .entry)) n repaired left held) r
+    ensures { λ r. ⌜ Within 512 (now (out .entry)) 0 (doneText form (now (names .entry)) n repaired left held whole) r
         (now (out .exit)) ⌝ }
 {
     let k = smaller(n, names.len());
@@ -143,7 +146,7 @@ fn put_done(
     let c = put_line(&mut *out, b, b"repaired: ", repaired);
     let d = put_line(&mut *out, c, b"left: ", left);
     let e = put_line_if(&mut *out, d, b"held to the largest value: ", held);
-    put_verdict(&mut *out, e, n == 0)
+    put_verdict(&mut *out, e, whole)
 }
 
 fn smaller(a: usize, b: usize) -> usize
@@ -207,16 +210,17 @@ fn put_malformed(out: &mut [u8], entry: u64, why: Refusal) -> usize
     put_line(&mut *out, a, b"whole entries before: ", entry)
 }
 
-fn put_answer(out: &mut [u8], a: Answer, form: Form, names: &[u8], held: u64) -> usize
+fn put_answer(out: &mut [u8], a: Answer, form: Form, names: &[u8], held: u64, whole: bool) -> usize
     requires { ⌜ 512 ≤ length (now out) ⌝ }
-    ensures { λ r. ⌜ Within 512 (now (out .entry)) 0 (textOf a form (now (names .entry)) held) r (now (out .exit)) ⌝ }
+    ensures { λ r. ⌜ Within 512 (now (out .entry)) 0 (textOf a form (now (names .entry)) held whole) r
+        (now (out .exit)) ⌝ }
 {
     match a {
         Answer::Done {
             names: n,
             repaired,
             left,
-        } => put_done(out, form, names, n, repaired, left, held),
+        } => put_done(out, form, names, n, repaired, left, held, whole),
         Answer::Range => put_text(out, b"1: a number is outside its range\n"),
         Answer::Malformed { entry, why } => put_malformed(out, entry as u64, why),
         Answer::NotTaken => put_text(out, b"3: the form does not take the list\n"),
@@ -240,9 +244,18 @@ fn put_text(out: &mut [u8], bytes: &[u8]) -> usize
     num_text::put(out, 0, bytes)
 }
 
-// The text of an answer at the start of a buffer, and where it ends.
-pub fn write(out: &mut [u8; 512], a: Answer, form: Form, names: &[u8], held: u64) -> usize
-    ensures { λ r. ⌜ Within 512 (now (out .entry)) 0 (textOf a form (now (names .entry)) held) r (now (out .exit)) ⌝ }
+// The text of an answer at the start of a buffer, and where it ends. `whole` is the frame's verdict, of which only a
+// result speaks.
+pub fn write(
+    out: &mut [u8; 512],
+    a: Answer,
+    form: Form,
+    names: &[u8],
+    held: u64,
+    whole: bool,
+) -> usize
+    ensures { λ r. ⌜ Within 512 (now (out .entry)) 0 (textOf a form (now (names .entry)) held whole) r
+        (now (out .exit)) ⌝ }
 {
-    put_answer(out, a, form, names, held)
+    put_answer(out, a, form, names, held, whole)
 }

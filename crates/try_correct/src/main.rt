@@ -25,13 +25,13 @@ fn print_text(text: &[u8; 512], n: usize) {
     io::write_all(STDOUT_FILENO, front(text, n));
 }
 
-fn print_answer(a: Answer, form: Form, names: &[u8], held: usize) {
+fn print_answer(a: Answer, form: Form, names: &[u8], held: usize, whole: bool) {
     let mut text = [0u8; 512];
-    let n = say_report::write(&mut text, a, form, names, held as u64);
+    let n = say_report::write(&mut text, a, form, names, held as u64, whole);
     print_text(&text, n);
 }
 
-fn print_mended(m: Mended, names: &[u8; 8], maxval: usize, over: usize) {
+fn print_mended(m: Mended, names: &[u8; 8], maxval: usize, over: usize, whole: bool) {
     match m {
         Mended::Whole { answer } => {
             print_answer(
@@ -39,6 +39,7 @@ fn print_mended(m: Mended, names: &[u8; 8], maxval: usize, over: usize) {
                 Form::Whole,
                 names,
                 run_stored::held_above(maxval, 0, over),
+                whole,
             );
         }
         Mended::Widened { answer, held } => {
@@ -47,6 +48,7 @@ fn print_mended(m: Mended, names: &[u8; 8], maxval: usize, over: usize) {
                 Form::Rounded,
                 names,
                 run_stored::held_above(maxval, held, over),
+                whole,
             );
         }
         Mended::NoRoom => {
@@ -163,7 +165,8 @@ fn mend_raster(
         &mut names[0..c],
     );
     let over = say_pgm::encode(samples, maxval, &mut *raster);
-    print_mended(m, &names, maxval, over);
+    let whole = run_stored::is_whole(list, width as u32, height as u32, t.preview, m);
+    print_mended(m, &names, maxval, over, whole);
     print_samples(samples);
     print_bytes(raster);
 }
@@ -215,7 +218,9 @@ fn run_raw(list: &[u8], raster: &mut [u8], samples: &mut [f32], preview: bool) {
         preview,
     };
     let a = run_window::run_f32(list, &mut *samples, w, set, &mut marks, &mut names);
-    print_answer(a, Form::Float, &names, 0);
+    let n = run_answers::numbers(a);
+    let whole = run_verdict::whole_frame(list, 3, 1, preview, n.number);
+    print_answer(a, Form::Float, &names, 0, whole);
     say_pgm::encode_f32(samples, &mut *raster);
     print_bytes(raster);
 }
