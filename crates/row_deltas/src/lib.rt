@@ -13,8 +13,6 @@ ghost use Rattle.dng.specs.Value.{nought, one, nth, delta, scaled};
 ghost use Rattle.row_deltas.specs.Bytes.{valueFrom};
 ghost use Rattle.row_deltas.specs.Spans.{Spans, Strides};
 use row_select::Walk;
-use row_select::less;
-use row_select::smaller;
 
 // A walk as places of a row: the first, past the last, and how far apart.
 struct Span {
@@ -29,7 +27,7 @@ fn span_of(k: Walk, n: usize) -> Span
 {
     Span {
         begin: k.col * k.planes + k.plane,
-        stop: smaller(n, less(k.right, k.x0) * k.planes),
+        stop: num_small::lesser(n, num_small::less(k.right, k.x0) * k.planes),
         step: k.pitch * k.planes,
     }
 }
@@ -72,7 +70,7 @@ fn add_steps(row: &mut [f32], begin: usize, stop: usize, step: usize, d: f32)
 
 fn scale_dense(row: &mut [f32], begin: usize, stop: usize, s: f32)
     requires { ⌜ stop ≤ length (now row) ⌝ }
-    ensures { λ _. ⌜ now (row .exit) ≡ each (stepped begin stop 1 (λ m v. scaled s v)) (now (row .entry)) ⌝ }
+    ensures { λ _. ⌜ now (row .exit) ≡ each (stepped begin stop 1 (λ m v. mul binary32 v s)) (now (row .entry)) ⌝ }
 {
     let mut i = begin;
     while i < stop {
@@ -83,7 +81,7 @@ fn scale_dense(row: &mut [f32], begin: usize, stop: usize, s: f32)
 
 fn scale_apart(row: &mut [f32], begin: usize, stop: usize, step: usize, s: f32)
     requires { ⌜ Strides (length (now row)) stop step ⌝ }
-    ensures { λ _. ⌜ now (row .exit) ≡ each (stepped begin stop step (λ m v. scaled s v)) (now (row .entry)) ⌝ }
+    ensures { λ _. ⌜ now (row .exit) ≡ each (stepped begin stop step (λ m v. mul binary32 v s)) (now (row .entry)) ⌝ }
 {
     let mut i = begin;
     while i < stop {
@@ -94,7 +92,7 @@ fn scale_apart(row: &mut [f32], begin: usize, stop: usize, step: usize, s: f32)
 
 fn scale_steps(row: &mut [f32], begin: usize, stop: usize, step: usize, s: f32)
     requires { ⌜ Strides (length (now row)) stop step ⌝ }
-    ensures { λ _. ⌜ now (row .exit) ≡ each (stepped begin stop step (λ m v. scaled s v)) (now (row .entry)) ⌝ }
+    ensures { λ _. ⌜ now (row .exit) ≡ each (stepped begin stop step (λ m v. mul binary32 v s)) (now (row .entry)) ⌝ }
 {
     if step == 1 {
         scale_dense(row, begin, stop, s);
@@ -173,7 +171,7 @@ fn value_rare(body: &[u8], at: usize, past: usize, missing: f32) -> f32
 fn value_from(body: &[u8], at: usize, past: usize, missing: f32) -> f32
     ensures { λ r. ⌜ r ≡ valueFrom (now (body .entry)) past missing at ⌝ }
 {
-    let sure = smaller(past, less(body.len(), 3));
+    let sure = num_small::lesser(past, num_small::less(body.len(), 3));
     if at < sure {
         num_words::f32_at(body, at)
     } else {

@@ -2,20 +2,18 @@
 use Prim.Native.Nat.{ℕ, _+_, _-_}
 use mathlib.Core.Path.{refl}
 use native.Mathlib.Omega.{arith}
-use lib.Ieee.{nan}
+use lib.Ieee.{nan, mul, binary32}
 use Rattle.row_select.proofs.Steps.{Steps, steps-begin, steps-next, steps-end}
-use Rattle.dng.specs.Value.{scaled}
 use Rattle.row_deltas.proofs.scale_apart.Statement.{statement}
 use Rattle.row_deltas.proofs.scale_apart.Tie as tie
 
 abbrev Inv-loop : tie.InvT-loop
-Inv-loop row₀ begin stop step s i₀ row i = (m : ℕ) × Steps begin stop step (λ j v. scaled s v) row₀ row m i
+Inv-loop row₀ begin stop step s i₀ row i = (m : ℕ) × Steps begin stop step (λ j v. mul binary32 v s) row₀ row m i
 
 abbrev μ-loop : tie.MeasureT-loop
 μ-loop row₀ begin stop step s i₀ row i = stop - i
 
 loop-again : tie.Need-loop-again Inv-loop μ-loop
-unfolding scaled
 loop-again c =
     let u = c .before .before .loop .inv in
     (u .0 + 1, steps-next nan (omega arith) (u .1) (omega arith) refl)

@@ -17,8 +17,8 @@ step-of s = omega (arith, by-planes (s .args .k) (s .args .n) (s .pre) (s .args 
 add-t4 : tie.Need-add-t4
 add-t4 c = omega (arith, first-of (c .before .before), c .before .before .pre .inside, c .before .before .pre .few)
 
-mul-smaller : tie.Need-mul-smaller
-mul-smaller c =
+mul-lesser : tie.Need-mul-lesser
+mul-lesser c =
     let s = c .before .before .before .before in
     omega (arith, by-planes (s .args .k) (s .args .n) (s .pre) (c .before .less .result), c .before .less .ensures, s .pre .right32)
 
@@ -27,7 +27,7 @@ returns c =
     let s = c .before .before .before .before .before .before in
     record {
       from = refl;
-      until = c .before .smaller .ensures ∙ ap (λ (q : ℕ). min (s .args .n) (q * s .args .k .planes)) (c .before .before .before .less .ensures);
+      until = c .before .lesser .ensures ∙ ap (λ (q : ℕ). min (s .args .n) (q * s .args .k .planes)) (c .before .before .before .less .ensures);
       apart = refl;
       goes = step-goes (s .args .k) (s .args .n) (s .pre);
       near = omega (arith, step-of s);
@@ -36,5 +36,5 @@ returns c =
 pub span-of-spec : {M : Type 1} → statement M
 span-of-spec =
     tie.close (tie.spec
-    (λ c. omega (arith, first-of (c .before))) add-t4 (λ c κs. search needs) mul-smaller (λ c κs. search needs)
+    (λ c. omega (arith, first-of (c .before))) add-t4 (λ c κs. search needs) mul-lesser (λ c κs. search needs)
     (λ c. omega (arith, step-of (c .before .before .before .before .before .before))) returns)
