@@ -70,7 +70,7 @@ fn add_steps(row: &mut [f32], begin: usize, stop: usize, step: usize, d: f32)
 
 fn scale_dense(row: &mut [f32], begin: usize, stop: usize, s: f32)
     requires { ⌜ stop ≤ length (now row) ⌝ }
-    ensures { λ _. ⌜ now (row .exit) ≡ each (stepped begin stop 1 (λ m v. mul binary32 v s)) (now (row .entry)) ⌝ }
+    ensures { λ _. ⌜ now (row .exit) ≡ each (stepped begin stop 1 (λ m v. scaled s v)) (now (row .entry)) ⌝ }
 {
     let mut i = begin;
     while i < stop {
@@ -81,7 +81,7 @@ fn scale_dense(row: &mut [f32], begin: usize, stop: usize, s: f32)
 
 fn scale_apart(row: &mut [f32], begin: usize, stop: usize, step: usize, s: f32)
     requires { ⌜ Strides (length (now row)) stop step ⌝ }
-    ensures { λ _. ⌜ now (row .exit) ≡ each (stepped begin stop step (λ m v. mul binary32 v s)) (now (row .entry)) ⌝ }
+    ensures { λ _. ⌜ now (row .exit) ≡ each (stepped begin stop step (λ m v. scaled s v)) (now (row .entry)) ⌝ }
 {
     let mut i = begin;
     while i < stop {
@@ -92,7 +92,7 @@ fn scale_apart(row: &mut [f32], begin: usize, stop: usize, step: usize, s: f32)
 
 fn scale_steps(row: &mut [f32], begin: usize, stop: usize, step: usize, s: f32)
     requires { ⌜ Strides (length (now row)) stop step ⌝ }
-    ensures { λ _. ⌜ now (row .exit) ≡ each (stepped begin stop step (λ m v. mul binary32 v s)) (now (row .entry)) ⌝ }
+    ensures { λ _. ⌜ now (row .exit) ≡ each (stepped begin stop step (λ m v. scaled s v)) (now (row .entry)) ⌝ }
 {
     if step == 1 {
         scale_dense(row, begin, stop, s);
