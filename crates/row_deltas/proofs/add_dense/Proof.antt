@@ -18,6 +18,7 @@ pub add-dense-spec : {M : Type 1} → statement M
 add-dense-spec =
     tie.close
     (tie.spec
-    Inv-loop μ-loop (λ c. begin) (λ c. omega arith) (λ c. omega arith) (λ c. omega arith)
-    (λ c. omega arith) (λ c. omega arith) (λ c. omega arith) (λ c. again (omega arith) (c .before .before .loop .inv) (omega arith) refl) (λ c. omega arith)
+    Inv-loop μ-loop (λ c. begin) (λ c. omega arith) (λ c. omega arith) (λ c. omega arith) (λ c. omega arith)
+    (λ c. omega arith) (λ c. omega arith)
+    (λ c. again (omega arith) (c .before .before .loop .inv) (omega arith) refl) (λ c. omega arith)
     (λ c. steps-end (c .before .loop .inv .1) (omega arith)))
