@@ -62,7 +62,13 @@ fn alone(
     if !fix_places::over(marks, n, i + 1, q + period) {
         return false;
     }
-    if !fix_places::free(marks, n, up, num_small::less(q, far + period), num_small::less(q + period, far)) {
+    if !fix_places::free(
+        marks,
+        n,
+        up,
+        num_small::less(q, far + period),
+        num_small::less(q + period, far),
+    ) {
         return false;
     }
     fix_places::free(marks, n, down, q + far - period, q + far + period)
