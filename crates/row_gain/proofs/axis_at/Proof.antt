@@ -4,14 +4,10 @@ use Rattle.row_gain.proofs.Laws.{floor-on}
 use Rattle.row_gain.proofs.axis_at.Statement.{statement}
 use Rattle.row_gain.proofs.axis_at.Tie as tie
 
--- places of the function, each reached from a later one
-abbrev at-place : tie.After-last-of → tie.After-place
-at-place c = c .before .before
-
 returns : tie.Need-returns
 returns c =
     let f =
-    floor-on _ _ _ _ _ (at-place (c .before .before) .before .ruler-of .ensures) _ _ (at-place (c .before .before) .place .ensures) _ _
+    floor-on _ _ _ _ _ (c .before .before .before .before .before .ruler-of .ensures) _ _ (c .before .before .before .before .place .ensures) _ _
     (c .before .before .before .floor .ensures) in
     record { lower-is = f .index-is; upper-is = cc (f .index-is); share-is = cc (f .rest-is) }
 

@@ -37,21 +37,11 @@ entry c = c .before .before .before .before .before .before .before .before .bef
 abbrev turn : tie.After-raised Inv-loop μ-loop → Turn
 turn c = c .before .before .before .before .before
 
--- places of the function, each reached from a later one
-abbrev start : tie.After-shared-slice-known3 Inv-loop μ-loop → tie.Start Inv-loop μ-loop
-start c = c .before .before .before .before
-
-abbrev at-end-of : tie.At-loop Inv-loop μ-loop → tie.After-end-of Inv-loop μ-loop
-at-end-of c = c .before .before .before
-
-abbrev turn-from-pair-for : tie.After-pair-for Inv-loop μ-loop → tie.In-loop Inv-loop μ-loop
-turn-from-pair-for c = c .before .before
-
 -- in a turn, the sample is one of the row's, before its end and before `right`, and the column is one of the block's w
 below : (c : Turn)
     → let a = entry c .args in
     c .before .loop .i < min (length (a .row .now)) ((a .k .right - a .k .x0) * a .k .planes)
-below c = omega (arith, c .loop-test .taken, c .before .before .before .lesser .ensures, at-end-of (c .before) .end-of .ensures)
+below c = omega (arith, c .loop-test .taken, c .before .before .before .lesser .ensures, c .before .before .before .before .end-of .ensures)
 
 inside : (c : Turn) → c .before .loop .i < length (c .before .loop .row)
 inside c = omega (arith, below c, c .before .loop .inv .0 .same)
@@ -66,11 +56,11 @@ numbered c =
 
 -- after the loop, where the row goes on, the block's columns are all done
 past : (c : tie.After-loop Inv-loop μ-loop)
-    → let a = start (at-end-of (c .before) .before) .args in
+    → let a = c .before .before .before .before .before .before .before .before .before .args in
     c .before .loop .i < min (length (a .row .now)) ((a .k .right - a .k .x0) * a .k .planes)
     → (x : ℕ) → a .k .x0 + c .before .loop .c ≤ x → a .k .x0 + a .from + a .w * a .k .pitch ≤ x
 past c h x q =
-    let a = start (at-end-of (c .before) .before) in
+    let a = c .before .before .before .before .before .before .before .before .before in
     let k = a .args .k in
     let e = a .args .from + a .args .w * k .pitch in
     let d = c .before .loop .c in
@@ -85,26 +75,26 @@ past c h x q =
       c .before .loop .inv .0 .place,
       c .loop-test .left,
       c .before .before .before .lesser .ensures,
-      at-end-of (c .before) .end-of .ensures,
+      c .before .before .before .before .end-of .ensures,
     ))
     (λ r. omega (arith, r, q))
 
 end-of-requires : tie.Need-end-of-requires Inv-loop μ-loop
-end-of-requires c κs = let w = start c .pre .0 in (w .right32, w .few)
+end-of-requires c κs = let w = c .before .before .before .before .pre .0 in (w .right32, w .few)
 
 mul-lesser : tie.Need-mul-lesser Inv-loop μ-loop
 mul-lesser c =
-    let a = start (c .before) in
+    let a = c .before .before .before .before .before in
     omega (arith, a .pre .0 .pitch32, mul-le-mul-right (a .args .k .pitch) (a .pre .1 .few))
 
 add-lesser : tie.Need-add-lesser Inv-loop μ-loop
 add-lesser c =
-    let a = start (c .before) in
+    let a = c .before .before .before .before .before in
     omega (arith, a .pre .0 .pitch32, a .pre .1 .near, mul-le-mul-right (a .args .k .pitch) (a .pre .1 .few))
 
 mul-lesser-2 : tie.Need-mul-lesser-2 Inv-loop μ-loop
 mul-lesser-2 c =
-    let a = start (c .before) in
+    let a = c .before .before .before .before .before in
     omega (
       arith,
       a .pre .0 .pitch32,
@@ -115,26 +105,26 @@ mul-lesser-2 c =
 
 mul-step : tie.Need-mul-step Inv-loop μ-loop
 mul-step c =
-    let a = start (c .before .before) in
+    let a = c .before .before .before .before .before .before in
     omega (arith, a .pre .0 .pitch32, mul-le-mul-left (a .args .k .pitch) (a .pre .0 .few))
 
 mul-i : tie.Need-mul-i Inv-loop μ-loop
 mul-i c =
-    let a = start (c .before .before) in
+    let a = c .before .before .before .before .before .before in
     omega (arith, a .pre .1 .near, mul-le-mul-left (a .args .from) (a .pre .0 .few))
 
 add-i : tie.Need-add-i Inv-loop μ-loop
 add-i c =
-    let a = start (c .before .before) in
+    let a = c .before .before .before .before .before .before in
     let w = a .pre .0 in
     omega (arith, w .inside, w .few, a .pre .1 .near, mul-le-mul-left (a .args .from) (w .few))
 
 pair-at-requires : tie.Need-pair-at-requires Inv-loop μ-loop
-pair-at-requires c κs = (start (c .before .before) .pre .3, omega arith)
+pair-at-requires c κs = (c .before .before .before .before .before .before .pre .3, omega arith)
 
 loop-holds : tie.Need-loop-holds Inv-loop μ-loop
 loop-holds c =
-    let a = start (c .before .before .before) in
+    let a = c .before .before .before .before .before .before .before in
     let w = a .pre .0 in
     let b = a .pre .1 in (
       upto-from (b .number) (w .some) (b .here ∙ ap (λ (q : ℕ). a .args .k .left + b .number * q) (omega (arith, w .spaced)))
@@ -166,7 +156,7 @@ mul-raised-2 : tie.Need-mul-raised-2 Inv-loop μ-loop
 mul-raised-2 c = let t = c .before .before .before in omega (arith, below t, entry t .pre .0 .short)
 
 slice-read-raised : tie.Need-slice-read-raised Inv-loop μ-loop
-slice-read-raised c = inside (turn-from-pair-for (c .before .before))
+slice-read-raised c = inside (c .before .before .before .before)
 
 mul-row : tie.Need-mul-row Inv-loop μ-loop
 mul-row c = omega (arith, below (turn c), entry (turn c) .pre .0 .short)
@@ -215,7 +205,7 @@ same-length c = c .before .loop .inv .0 .same
 returns : tie.Need-returns Inv-loop μ-loop
 unfolding walked
 returns c =
-    let a = start (at-end-of (c .before) .before) in
+    let a = c .before .before .before .before .before .before .before .before .before in
     let w = a .pre .0 in
     let k = a .args .k in
     let u = c .before .loop .inv in

@@ -22,10 +22,6 @@ Turn = tie.In-loop Inv-loop μ-loop
 abbrev entry : Turn → tie.Start Inv-loop μ-loop
 entry c = c .before .before .before .before .before .before
 
--- places of the function, each reached from a later one
-abbrev start : tie.After-ruler-of Inv-loop μ-loop → tie.Start Inv-loop μ-loop
-start c = c .before .before .before
-
 -- in a turn, the tables have an entry j, and the column is before the end
 inside : (c : Turn) → c .before .loop .j < length (entry c .args .hs .now)
 inside c =
@@ -42,7 +38,7 @@ add-lesser c =
     omega (arith, a .pre .start, a .pre .pitch32, mul-le-mul-right (a .args .pitch) (a .pre .few))
 
 loop-holds : tie.Need-loop-holds Inv-loop μ-loop
-loop-holds c = (filling-begin, omega (arith, start (c .before) .pre .spaced))
+loop-holds c = (filling-begin, omega (arith, c .before .before .before .before .pre .spaced))
 
 cast-place : tie.Need-cast-place Inv-loop μ-loop
 cast-place c = omega (arith, c .loop-test .taken, c .before .before .lesser .ensures, entry c .pre .end32)

@@ -6,17 +6,10 @@ use Rattle.row_gain.proofs.Rows.{walked-agree, along-is}
 use Rattle.row_gain.proofs.gain_block.Statement.{statement}
 use Rattle.row_gain.proofs.gain_block.Tie as tie
 
--- places of the function, each reached from a later one
-abbrev start : tie.After-block-along-arg → tie.Start
-start c = c .before .before .before .before .before .before
-
-abbrev at-strip-at : tie.After-block-along → tie.After-strip-at
-at-strip-at c = c .before .before
-
 returns : tie.Need-returns
 returns c =
-    let a = start (c .before .before .before) .args in
-    let is = at-strip-at (c .before .before) .strip-at .ensures in
+    let a = c .before .before .before .before .before .before .before .before .before .args in
+    let is = c .before .before .before .before .strip-at .ensures in
     c .before .before .block-along .ensures
     ∙ walked-agree (a .k) _ _ _
     (λ x v. within-agree _ _ _ _ x (a .k .plane) v (along-is _ (a .g) _ _ _ _ (a .full-width) _ _ is x (a .k .plane) v))

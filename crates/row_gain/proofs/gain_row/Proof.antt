@@ -5,14 +5,10 @@ use Rattle.row_gain.proofs.Rows.{walked-agree, along-is}
 use Rattle.row_gain.proofs.gain_row.Statement.{statement}
 use Rattle.row_gain.proofs.gain_row.Tie as tie
 
--- places of the function, each reached from a later one
-abbrev at-strip-at : tie.After-row-along → tie.After-strip-at
-at-strip-at c = c .before .before
-
 returns : tie.Need-returns
 returns c =
-    let a = at-strip-at (c .before .before) .before .before .before .args in
-    let is = at-strip-at (c .before .before) .strip-at .ensures in
+    let a = c .before .before .before .before .before .before .before .args in
+    let is = c .before .before .before .before .strip-at .ensures in
     c .before .before .row-along .ensures
     ∙ walked-agree (a .k) _ _ _ (λ x v. along-is _ (a .g) _ _ _ _ (a .full-width) _ _ is x (a .k .plane) v)
 

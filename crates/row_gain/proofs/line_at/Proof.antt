@@ -7,10 +7,6 @@ use Rattle.row_gain.specs.Strip.{lineOf}
 use Rattle.row_gain.proofs.line_at.Statement.{statement}
 use Rattle.row_gain.proofs.line_at.Tie as tie
 
--- places of the function, each reached from a later one
-abbrev start : tie.After-f32-at → tie.Start
-start c = c .before .before .before .before
-
 mul-ahead : tie.Need-mul-ahead
 mul-ahead c = let a = c .before .before in omega (arith, a .pre .0, mul-le-mul-right (a .args .s .step) (a .pre .1))
 
@@ -21,7 +17,7 @@ add-f32-at c =
 
 add-f32-at-2 : tie.Need-add-f32-at-2
 add-f32-at-2 c =
-    let a = start (c .before) in
+    let a = c .before .before .before .before .before in
     omega (arith, a .pre .0, mul-le-mul-right (a .args .s .step) (a .pre .1))
 
 returns : tie.Need-returns

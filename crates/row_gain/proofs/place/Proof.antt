@@ -6,13 +6,9 @@ use Rattle.row_gain.specs.Strip.{placeOn}
 use Rattle.row_gain.proofs.place.Statement.{statement}
 use Rattle.row_gain.proofs.place.Tie as tie
 
--- places of the function, each reached from a later one
-abbrev at-then1 : tie.After-held → tie.Then1
-at-then1 c = c .before .before .before .before .before
-
 returns : tie.Need-returns
 unfolding placeOn heldTo ofBits
-returns c = rw (at-then1 c .if1 .taken) (cc)
+returns c = rw (c .before .before .before .before .before .if1 .taken) (cc)
 
 returns-2 : tie.Need-returns-2
 unfolding placeOn ofBits

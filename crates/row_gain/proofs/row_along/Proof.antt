@@ -34,16 +34,6 @@ entry c = c .before .before .before .before .before .before .before
 abbrev turn : tie.After-raised Inv-loop μ-loop → Turn
 turn c = c .before .before .before .before .before .before
 
--- places of the function, each reached from a later one
-abbrev start : tie.After-end-of Inv-loop μ-loop → tie.Start Inv-loop μ-loop
-start c = c .before .before .before .before
-
-abbrev at-floor : tie.After-to-f32 Inv-loop μ-loop → tie.After-floor Inv-loop μ-loop
-at-floor c = c .before .before
-
-abbrev at-ruler-of : tie.At-loop Inv-loop μ-loop → tie.After-ruler-of Inv-loop μ-loop
-at-ruler-of c = c .before .before .before
-
 -- in a turn, the sample is one of the row's, before its end and before `right`
 below : (c : Turn)
     → let a = entry c .args in
@@ -65,7 +55,7 @@ found : (c : tie.After-floor Inv-loop μ-loop)
     FloorIs (position (a .k .x0 + t .before .loop .c) (a .full) (a .origin) (a .spacing) (a .n)) (c .floor .result .index)
     (c .floor .result .rest)
 found c =
-    let r = at-ruler-of (c .before .before .before) .ruler-of .ensures in
+    let r = c .before .before .before .before .before .before .ruler-of .ensures in
     floor-on _ _ _ _ _ r _ _ (c .before .place .ensures) _ _ (c .floor .ensures)
 
 end-of-requires : tie.Need-end-of-requires Inv-loop μ-loop
@@ -73,26 +63,26 @@ end-of-requires c κs = let w = c .before .before .before .pre .0 in (w .right32
 
 mul-step : tie.Need-mul-step Inv-loop μ-loop
 mul-step c =
-    let a = start c in
+    let a = c .before .before .before .before in
     omega (arith, a .pre .0 .pitch32, mul-le-mul-left (a .args .k .pitch) (a .pre .0 .few))
 
 mul-i : tie.Need-mul-i Inv-loop μ-loop
 mul-i c =
-    let a = start c in
+    let a = c .before .before .before .before in
     let w = a .pre .0 in
     omega (arith, w .left32, w .pitch32, first-bound _ _ _ _ _ (w .first), mul-le-mul-left (a .args .k .col) (w .few))
 
 add-i : tie.Need-add-i Inv-loop μ-loop
 add-i c =
-    let a = start c in
+    let a = c .before .before .before .before in
     let w = a .pre .0 in
     omega (arith, w .left32, w .pitch32, w .inside, w .few, first-bound _ _ _ _ _ (w .first), mul-le-mul-left (a .args .k .col) (w .few))
 
 pair-at-requires : tie.Need-pair-at-requires Inv-loop μ-loop
-pair-at-requires c κs = (start c .pre .1, omega arith)
+pair-at-requires c κs = (c .before .before .before .before .pre .1, omega arith)
 
 loop-holds : tie.Need-loop-holds Inv-loop μ-loop
-loop-holds c = let w = start (c .before) .pre .0 in (upto-begin (w .some) (w .first), c .pair-at .ensures .0)
+loop-holds c = let w = c .before .before .before .before .before .pre .0 in (upto-begin (w .some) (w .first), c .pair-at .ensures .0)
 
 add-place : tie.Need-add-place Inv-loop μ-loop
 add-place c = omega (arith, column c)
@@ -107,7 +97,7 @@ pair-for-requires c κs =
     (a .pre .1, omega (arith, a .pre .2, h), c .before .before .before .loop .inv .1)
 
 slice-read-raised : tie.Need-slice-read-raised Inv-loop μ-loop
-slice-read-raised c = inside (at-floor (c .before) .before .before)
+slice-read-raised c = inside (c .before .before .before .before .before)
 
 mul-row : tie.Need-mul-row Inv-loop μ-loop
 mul-row c = omega (arith, below (turn c), entry (turn c) .pre .0 .short)
@@ -133,7 +123,7 @@ loop-less c =
 loop-again : tie.Need-loop-again Inv-loop μ-loop
 loop-again c =
     let w = entry (turn c) .pre .0 in
-    let f = found (at-floor (c .before .before)) in
+    let f = found (c .before .before .before .before) in
     let q = c .before .before .before .pair-for .ensures in (
       upto-next-by nan _ _ (omega (arith, w .spaced)) refl (w .inside) (turn c .before .loop .inv .0) (below (turn c))
           (c .raised .ensures
@@ -148,7 +138,7 @@ same-length c = c .before .loop .inv .0 .same
 returns : tie.Need-returns Inv-loop μ-loop
 unfolding walked
 returns c =
-    let w = start (c .before .before .before) .pre .0 in
+    let w = c .before .before .before .before .before .before .before .pre .0 in
     upto-end (w .inside) (c .before .loop .inv .0) (omega (arith, c .loop-test .left, c .before .before .before .end-of .ensures))
 
 pub row-along-spec : {M : Type 1} → statement M
