@@ -4,14 +4,14 @@ use fix_scratch::Kept;
 use fix_scratch::Marked;
 ghost use mathlib.Core.Path.{_≡_};
 ghost use mathlib.Core.Bool.{true, false};
-ghost use Prim.Native.Nat.{ℕ, _≤_, _<_, _-_, _^_};
+ghost use Prim.Native.Nat.{ℕ, _≤_, _<_, _^_};
 ghost use Rattle.dng.specs.Repair.{anyBelow, positions};
 ghost use Rattle.fix_scratch.specs.Marks.{Gathered, Fits};
 ghost use Rattle.fix_scratch.specs.Scratch.{Front, Joined};
 ghost use Rattle.fix_listed.specs.Listed.{block, Inside, Within, rowAt, columnAt, inImage, atPoint, inRect, listedIn};
 
-// Columns c0 up to c1 of rows r0 up to r1, row by row.
-fn rows(
+// Columns c0 up to c1 of rows r0 up to r1, row by row; whole rows are one run.
+fn patch(
     s: &mut [u32],
     n: usize,
     t: usize,
@@ -24,8 +24,12 @@ fn rows(
 ) -> Kept
     requires { ⌜ Front top (now s) n t ⌝ }
     requires { ⌜ Inside width c0 r1 c1 top ⌝ }
+    requires { ⌜ r0 ≤ r1 ⌝ }
     ensures { λ r. ⌜ Joined top (block width r0 c0 r1 c1) (now (s .entry)) t (now (s .exit)) r ⌝ }
 {
+    if c1 - c0 == width {
+        return fix_scratch::run(s, n, t, r0 * width, r1 * width, top);
+    }
     let mut k = n;
     let mut u = t;
     let mut y = r0;
@@ -44,36 +48,6 @@ fn rows(
     Kept::Held { n: k, t: u }
 }
 
-// The same; whole rows are one run.
-fn patch(
-    s: &mut [u32],
-    n: usize,
-    t: usize,
-    width: usize,
-    r0: usize,
-    c0: usize,
-    r1: usize,
-    c1: usize,
-    top: usize,
-) -> Kept
-    requires { ⌜ Front top (now s) n t ⌝ }
-    requires { ⌜ Inside width c0 r1 c1 top ⌝ }
-    requires { ⌜ r0 ≤ r1 ⌝ }
-    ensures { λ r. ⌜ Joined top (block width r0 c0 r1 c1) (now (s .entry)) t (now (s .exit)) r ⌝ }
-{
-    if c1 - c0 == width {
-        fix_scratch::run(s, n, t, r0 * width, r1 * width, top)
-    } else {
-        rows(s, n, t, width, r0, c0, r1, c1, top)
-    }
-}
-
-fn less(a: usize, b: usize) -> usize
-    ensures { λ r. ⌜ r ≡ a - b ⌝ }
-{
-    if b < a { a - b } else { 0 }
-}
-
 // Columns c0 up to c1 of rows r0 up to r1 of the image, cut to the window first. `across` counts positions by columns.
 fn item(
     s: &mut [u32],
@@ -90,10 +64,10 @@ fn item(
     requires { ⌜ Fits w ⌝ }
     ensures { λ r. ⌜ Joined (positions w) (inImage across w r0 c0 r1 c1) (now (s .entry)) t (now (s .exit)) r ⌝ }
 {
-    let y0 = less(r0, w.y0);
-    let y1 = fix_scratch::lesser(less(r1, w.y0), w.height);
-    let x0 = less(c0, w.x0);
-    let x1 = fix_scratch::lesser(less(c1, w.x0), w.width);
+    let y0 = num_small::less(r0, w.y0);
+    let y1 = num_small::lesser(num_small::less(r1, w.y0), w.height);
+    let x0 = num_small::less(c0, w.x0);
+    let x1 = num_small::lesser(num_small::less(c1, w.x0), w.width);
     if x1 <= x0 {
         return Kept::Held { n, t };
     }

@@ -17,13 +17,6 @@ fn reach(w: Window, period: usize) -> usize
     period * w.width
 }
 
-// a - b, and 0 where that is below 0.
-fn less(a: usize, b: usize) -> usize
-    ensures { λ r. ⌜ r ≡ a - b ⌝ }
-{
-    if a < b { 0 } else { a - b }
-}
-
 // Where the neighbours of mark i in the row above would stand among the marks, sought from an earlier answer on. A
 // hint: only speed depends on it.
 fn above_from(marks: &[u32], n: usize, w: Window, period: usize, i: usize, from: usize) -> usize
@@ -32,7 +25,7 @@ fn above_from(marks: &[u32], n: usize, w: Window, period: usize, i: usize, from:
         ⌜ Reached (now (marks .entry)) n from (getD (now (marks .entry)) i 0 - (period * w .width + period)) r ⌝ }
 {
     let q = fix_places::mark(marks, i);
-    let lo = less(q, reach(w, period) + period);
+    let lo = num_small::less(q, reach(w, period) + period);
     fix_places::onward(marks, n, from, lo)
 }
 
@@ -63,13 +56,19 @@ fn alone(
 {
     let q = fix_places::mark(marks, i);
     let far = reach(w, period);
-    if !fix_places::under(marks, n, i, less(q, period)) {
+    if !fix_places::under(marks, n, i, num_small::less(q, period)) {
         return false;
     }
     if !fix_places::over(marks, n, i + 1, q + period) {
         return false;
     }
-    if !fix_places::free(marks, n, up, less(q, far + period), less(q + period, far)) {
+    if !fix_places::free(
+        marks,
+        n,
+        up,
+        num_small::less(q, far + period),
+        num_small::less(q + period, far),
+    ) {
         return false;
     }
     fix_places::free(marks, n, down, q + far - period, q + far + period)

@@ -13,8 +13,6 @@ ghost use Rattle.dng.specs.Value.{nought, one, nth, delta, scaled};
 ghost use Rattle.row_deltas.specs.Bytes.{valueFrom};
 ghost use Rattle.row_deltas.specs.Spans.{Spans, Strides};
 use row_select::Walk;
-use row_select::less;
-use row_select::smaller;
 
 // A walk as places of a row: the first, past the last, and how far apart.
 struct Span {
@@ -29,7 +27,7 @@ fn span_of(k: Walk, n: usize) -> Span
 {
     Span {
         begin: k.col * k.planes + k.plane,
-        stop: smaller(n, less(k.right, k.x0) * k.planes),
+        stop: num_small::lesser(n, num_small::less(k.right, k.x0) * k.planes),
         step: k.pitch * k.planes,
     }
 }
@@ -173,7 +171,7 @@ fn value_rare(body: &[u8], at: usize, past: usize, missing: f32) -> f32
 fn value_from(body: &[u8], at: usize, past: usize, missing: f32) -> f32
     ensures { λ r. ⌜ r ≡ valueFrom (now (body .entry)) past missing at ⌝ }
 {
-    let sure = smaller(past, less(body.len(), 3));
+    let sure = num_small::lesser(past, num_small::less(body.len(), 3));
     if at < sure {
         num_words::f32_at(body, at)
     } else {

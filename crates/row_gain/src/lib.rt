@@ -193,7 +193,7 @@ fn end_of(len: usize, x0: usize, right: usize, planes: usize) -> usize
     requires { ⌜ (right < 4294967296) × (planes ≤ 8) ⌝ }
     ensures { λ r. ⌜ r ≡ min len ((right - x0) * planes) ⌝ }
 {
-    row_select::smaller(len, row_select::less(right, x0) * planes)
+    num_small::lesser(len, num_small::less(right, x0) * planes)
 }
 
 // The selected columns of a row between the lines of a strip. Neighbours mostly lie between the same two map columns,
@@ -296,7 +296,7 @@ pub fn fill_block(
         ⌝ }
 {
     let r = ruler_of(full, origin, spacing, n);
-    let stop = row_select::smaller(end, x + hs.len() * pitch);
+    let stop = num_small::lesser(end, x + hs.len() * pitch);
     let mut at = x;
     let mut j: usize = 0;
     while at < stop {
@@ -343,7 +343,7 @@ fn block_along(
     let right = k.right;
     let pitch = k.pitch;
     let plane = k.plane;
-    let stop = row_select::smaller(
+    let stop = num_small::lesser(
         end_of(row.len(), x0, right, planes),
         (from + w * pitch) * planes,
     );

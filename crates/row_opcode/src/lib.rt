@@ -145,7 +145,7 @@ pub fn prepare(op: Opcode, x0: u32, full_width: u32, full_height: u32) -> Prepar
 fn row_index(r: Region, y: u32) -> usize
     ensures { λ i. ⌜ i ≡ rowIndex r y ⌝ }
 {
-    let down = row_select::less(y as usize, r.top as usize);
+    let down = num_small::less(y as usize, r.top as usize);
     if r.row_pitch <= 1 {
         down
     } else {
@@ -168,8 +168,8 @@ fn table_plane(row: &mut [f32], k: Walk, body: &[u8], n: u32, scale: f32)
 pub fn map_plane(plane: usize, first: u32, planes: u32) -> u32
     ensures { λ r. ⌜ r ≡ mapPlane plane first planes ⌝ }
 {
-    let last = row_select::larger(planes as usize, 1) - 1;
-    row_select::smaller(row_select::less(plane, first as usize), last) as u32
+    let last = num_small::larger(planes as usize, 1) - 1;
+    num_small::lesser(num_small::less(plane, first as usize), last) as u32
 }
 
 fn delta_columns(row: &mut [f32], k: Walk, r: Region, body: &[u8], n: u32, scale: f32)
@@ -306,7 +306,7 @@ pub fn walk_at(g: Place, r: Region, start: Start, plane: usize) -> Walk
         planes: g.planes as usize,
         left: r.left as usize,
         right: r.right as usize,
-        pitch: row_select::larger(r.col_pitch as usize, 1),
+        pitch: num_small::larger(r.col_pitch as usize, 1),
         plane,
         col: start.col,
         nth: start.nth,

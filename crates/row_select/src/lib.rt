@@ -2,7 +2,7 @@
 // handed to the steps as a walk.
 // The numbers are those of a region as the list has them: a pitch of 0 counts as 1.
 ghost use mathlib.Core.Path.{_≡_};
-ghost use Prim.Native.Nat.{_+_, _-_, _*_, min, max};
+ghost use Prim.Native.Nat.{_+_, _-_, _*_, min};
 ghost use Rattle.pointwise.specs.Select.{selects, First};
 ghost use Rattle.row_select.specs.Walks.{Walks};
 
@@ -26,25 +26,6 @@ pub struct Start {
     pub nth: usize,
 }
 
-pub fn larger(a: usize, b: usize) -> usize
-    ensures { λ r. ⌜ r ≡ max a b ⌝ }
-{
-    if a < b { b } else { a }
-}
-
-pub fn smaller(a: usize, b: usize) -> usize
-    ensures { λ r. ⌜ r ≡ min a b ⌝ }
-{
-    if a < b { a } else { b }
-}
-
-// a − b, or 0 where b is larger.
-pub fn less(a: usize, b: usize) -> usize
-    ensures { λ r. ⌜ r ≡ a - b ⌝ }
-{
-    if b < a { a - b } else { 0 }
-}
-
 // The first selected column at or after x0. Document 01, 'Which samples an opcode touches': "A region selects row y
 // with top ≤ y < bottom and (y−top) divisible by the row pitch; columns likewise". So: the distance from left, its
 // remainder by the pitch, and one step forward, pitch − remainder, if that is not zero.
@@ -53,7 +34,7 @@ pub fn first_column(left: u32, pitch: u32, x0: u32) -> Start
 {
     let lo = left as usize;
     let at = x0 as usize;
-    let step = larger(pitch as usize, 1);
+    let step = num_small::larger(pitch as usize, 1);
     if at <= lo {
         return Start {
             col: lo - at,
@@ -87,7 +68,7 @@ pub fn row_selected(top: u32, bottom: u32, pitch: u32, y: usize) -> bool
 {
     let lo = top as usize;
     let hi = bottom as usize;
-    let step = larger(pitch as usize, 1);
+    let step = num_small::larger(pitch as usize, 1);
     if y < lo {
         return false;
     }
@@ -104,7 +85,7 @@ pub fn row_selected(top: u32, bottom: u32, pitch: u32, y: usize) -> bool
 pub fn plane_end(plane: u32, planes: u32, window: usize) -> usize
     ensures { λ r. ⌜ r ≡ min (plane + planes) window ⌝ }
 {
-    smaller(plane as usize + planes as usize, window)
+    num_small::lesser(plane as usize + planes as usize, window)
 }
 
 // Past the last sample of a row of n that a walk may touch.
@@ -112,5 +93,5 @@ pub fn stop_of(k: Walk, n: usize) -> usize
     requires { ⌜ Walks k n ⌝ }
     ensures { λ r. ⌜ r ≡ min n ((k .right - k .x0) * k .planes) ⌝ }
 {
-    smaller(n, less(k.right, k.x0) * k.planes)
+    num_small::lesser(n, num_small::less(k.right, k.x0) * k.planes)
 }

@@ -78,7 +78,7 @@ fn columns_of(len: usize, planes: u32, width: usize) -> usize
     if width * p <= len {
         return width;
     }
-    row_select::larger((len + p - 1) / p, 1)
+    num_small::larger((len + p - 1) / p, 1)
 }
 
 // The region, of a row that is known to be selected: at a row pitch of 1 nothing is divided again.
@@ -237,7 +237,7 @@ pub fn run_row(
                 list,
                 &mut *row,
                 place_of(w, y),
-                row_select::larger(w.width, 1),
+                num_small::larger(w.width, 1),
                 scale,
                 preview,
             );

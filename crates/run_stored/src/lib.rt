@@ -5,7 +5,6 @@ use dng::Numbers;
 use dng::Settings;
 use dng::Window;
 ghost use mathlib.Core.Path.{_≡_};
-ghost use mathlib.Core.Bool.{cond};
 ghost use Prim.Native.Nat.{_≤_};
 ghost use lib.ListN.{length};
 ghost use Rattle.dng.specs.Answer.{f32Out};
@@ -50,12 +49,6 @@ fn narrow(wide: &[f32], samples: &mut [u16])
     }
 }
 
-fn one_if(b: bool) -> usize
-    ensures { λ r. ⌜ (r ≡ cond b 1 0) × (r ≤ 1) ⌝ }
-{
-    if b { 1 } else { 0 }
-}
-
 // How many of them are above 65535 once rounded.
 fn held(wide: &[f32]) -> usize
     ensures { λ r. ⌜ r ≡ heldIn (now (wide .entry)) ⌝ }
@@ -63,7 +56,7 @@ fn held(wide: &[f32]) -> usize
     let mut m: usize = 0;
     let mut i: usize = 0;
     while i < wide.len() {
-        m += one_if(num_round::round_held(wide[i], 65536) == 65536);
+        m += num_small::one_if(num_round::round_held(wide[i], 65536) == 65536);
         i += 1;
     }
     m

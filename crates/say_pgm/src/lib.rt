@@ -1,7 +1,6 @@
 // A frame as a binary greymap, netpbm's P5: its header, and its raster as samples and back.
 // The header and the bytes are defined in specs/Pgm; every function here is equal to its definition for every input.
 ghost use mathlib.Core.Path.{_≡_};
-ghost use mathlib.Core.Bool.{cond};
 ghost use Prim.Native.Nat.{_+_, _-_, _*_, _/_, _%_, _≤_, _<_, min};
 ghost use lib.Dec.{ltb};
 ghost use lib.ListN.{length, getD};
@@ -349,12 +348,6 @@ fn fill(samples: &[u16], maxval: usize, out: &mut [u8])
     }
 }
 
-fn one_if(b: bool) -> usize
-    ensures { λ r. ⌜ (r ≡ cond b 1 0) × (r ≤ 1) ⌝ }
-{
-    if b { 1 } else { 0 }
-}
-
 fn is_over(v: u16, maxval: usize) -> bool
     ensures { λ r. ⌜ r ≡ ltb maxval v ⌝ }
 {
@@ -368,7 +361,7 @@ fn count_over(samples: &[u16], maxval: usize) -> usize
     let mut n: usize = 0;
     let mut i: usize = 0;
     while i < samples.len() {
-        n += one_if(is_over(samples[i], maxval));
+        n += num_small::one_if(is_over(samples[i], maxval));
         i += 1;
     }
     n

@@ -5,8 +5,7 @@ use dng::Answer;
 use dng::Reason;
 use dng::Refusal;
 ghost use mathlib.Core.Path.{_≡_};
-ghost use mathlib.Core.Bool.{cond};
-ghost use Prim.Native.Nat.{_+_, _≤_, min};
+ghost use Prim.Native.Nat.{_+_, _≤_};
 ghost use lib.ListN.{length};
 ghost use Rattle.num_text.specs.Appended.{Appended};
 ghost use Rattle.say_report.specs.Report.{occurs, line, lineIf, Within, skippedText, formText, verdictText};
@@ -22,12 +21,6 @@ pub enum Form {
     Float,
 }
 
-fn one_if(b: bool) -> usize
-    ensures { λ r. ⌜ (r ≡ cond b 1 0) × (r ≤ 1) ⌝ }
-{
-    if b { 1 } else { 0 }
-}
-
 // How often k stands among the names.
 fn count(names: &[u8], k: u8) -> usize
     ensures { λ r. ⌜ r ≡ occurs k (now (names .entry)) ⌝ }
@@ -35,7 +28,7 @@ fn count(names: &[u8], k: u8) -> usize
     let mut n: usize = 0;
     let mut i: usize = 0;
     while i < names.len() {
-        n += one_if(names[i] == k);
+        n += num_small::one_if(names[i] == k);
         i += 1;
     }
     n
@@ -140,19 +133,13 @@ fn put_done(
     ensures { λ r. ⌜ Within 512 (now (out .entry)) 0 (doneText form (now (names .entry)) n repaired left held whole) r
         (now (out .exit)) ⌝ }
 {
-    let k = smaller(n, names.len());
+    let k = num_small::lesser(n, names.len());
     let a = put_form(&mut *out, 0, form);
     let b = put_skipped(&mut *out, a, &names[0..k]);
     let c = put_line(&mut *out, b, b"repaired: ", repaired);
     let d = put_line(&mut *out, c, b"left: ", left);
     let e = put_line_if(&mut *out, d, b"held to the largest value: ", held);
     put_verdict(&mut *out, e, whole)
-}
-
-fn smaller(a: usize, b: usize) -> usize
-    ensures { λ r. ⌜ r ≡ min a b ⌝ }
-{
-    if a < b { a } else { b }
 }
 
 // The number, what a technician can make of it, and the byte.

@@ -223,7 +223,7 @@ fn block_rows(
         if n <= at {
             return;
         }
-        let end = row_select::smaller(at + width, n);
+        let end = num_small::lesser(at + width, n);
         row_block(
             &mut samples[at..end],
             win_rows::place_at(w, y),
@@ -284,7 +284,7 @@ fn one_block(
         × Lies (w .x0) r far × (from < far)
         ⌝ }
 {
-    let pitch = row_select::larger(r.col_pitch as usize, 1);
+    let pitch = num_small::larger(r.col_pitch as usize, 1);
     let count = row_gain::fill_block(
         hs,
         ts,
@@ -321,7 +321,7 @@ fn columns_end(w: Window, r: Region) -> usize
     requires { ⌜ WindowFits w ⌝ }
     ensures { λ e. ⌜ e ≡ min (r .right) (w .x0 + w .width) ⌝ }
 {
-    row_select::smaller(r.right as usize, w.x0 + w.width)
+    num_small::lesser(r.right as usize, w.x0 + w.width)
 }
 
 // The blocks of the columns that the region and the window share, one after another.
@@ -397,7 +397,7 @@ pub fn blocks(
         (now (samples .entry))
         ⌝ }
 {
-    if row_select::less(columns_end(w, r), w.x0 + start.col) < 128 {
+    if num_small::less(columns_end(w, r), w.x0 + start.col) < 128 {
         let mut hs = [0u32; 128];
         let mut ts = [0.0f32; 128];
         all_blocks(

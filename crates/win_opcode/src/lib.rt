@@ -2,7 +2,6 @@
 // blocks of columns.
 ghost use mathlib.Core.Path.{_≡_};
 ghost use mathlib.Core.Bool.{true};
-ghost use Prim.Native.Nat.{min};
 ghost use lib.ListN.{length};
 ghost use Rattle.pointwise.specs.Points.{each};
 ghost use Rattle.dng.specs.Select.{onWindow};
@@ -15,12 +14,6 @@ use dng::Opcode;
 use dng::Window;
 use row_opcode::Prepared;
 use win_gain::Gain;
-
-fn smaller(a: usize, b: usize) -> usize
-    ensures { λ r. ⌜ r ≡ min a b ⌝ }
-{
-    if a < b { a } else { b }
-}
 
 // Data may end early: the rows end where one would start past it, and the last may be shorter than the others.
 fn rows(samples: &mut [f32], w: Window, op: Opcode, ready: Prepared, body: &[u8], scale: f32)
@@ -41,7 +34,7 @@ fn rows(samples: &mut [f32], w: Window, op: Opcode, ready: Prepared, body: &[u8]
         if n <= at {
             return;
         }
-        let end = smaller(at + width, n);
+        let end = num_small::lesser(at + width, n);
         row_opcode::row_step(
             &mut samples[at..end],
             win_rows::place_at(w, y),
@@ -136,7 +129,7 @@ fn rows16(samples: &mut [u16], w: Window, op: Opcode, ready: Prepared, body: &[u
         if n <= at {
             return;
         }
-        let end = smaller(at + width, n);
+        let end = num_small::lesser(at + width, n);
         row_opcode::row_step16(
             &mut samples[at..end],
             win_rows::place_at(w, y),

@@ -8,56 +8,77 @@ use Rattle.fix_listed.proofs.Listing.{points-over, rects-over, list-don
 use Rattle.fix_listed.proofs.gather.Statement.{statement}
 use Rattle.fix_listed.proofs.gather.Tie as tie
 
+-- places of the function, each reached from a later one
+abbrev at-all-rects : tie.After-struct-known → tie.After-all-rects
+at-all-rects c = c .before .before .before .before .before .before .before
+
+abbrev start : tie.After-n → tie.Start
+start c = c .before .before .before .before .before .before .before .before
+
+abbrev at-all-rects-from-match2-keys2 : tie.At-match2-keys2 → tie.After-all-rects
+at-all-rects-from-match2-keys2 c = c .before .before .before
+
+abbrev at-match-keys1 : tie.After-all-rects-arg → tie.At-match-keys1
+at-match-keys1 c = c .before .before .before
+
+abbrev start-from-match-keys2 : tie.At-match-keys2 → tie.Start
+start-from-match-keys2 c = c .before .before .before .before .before .before .before
+
+abbrev at-all-points : tie.At-match-keys2 → tie.After-all-points
+at-all-points c = c .before .before .before
+
+abbrev at-k : tie.After-compact → tie.After-k
+at-k c = c .before .before .before .before
+
 returns : tie.Need-returns
 returns c =
-    let at = c .before .before .before .before .before .before .before .before in
-    let points = c .before .before .before .before .all-points in
+    let at = start-from-match-keys2 (c .before) in
+    let points = at-all-points (c .before) .all-points in
     points-over (at .args .across) (at .args .w) (at .args .body .now) (at .args .points) (at .args .rects) _ _ (points .result) (points .ensures)
     (c .enum-told .given .1)
 
 all-rects-requires : tie.Need-all-rects-requires
 all-rects-requires c κs =
-    let at = c .before .before .before .before .before .before .before .before .before .before in
-    let points = c .before .before .before .before .before .before .all-points in (
+    let at = start (c .before .before) in
+    let points = at-match-keys1 c .before .before .before .all-points in (
       held-front _ _ _ _ _ (points .result) _ _ (c .before .before .n .given .1) (points .ensures) .front,
       (at .pre, (omega arith, omega arith)),
     )
 
 returns-2 : tie.Need-returns-2
 returns-2 c =
-    let at = c .before .before .before .before .before .before .before .before .before .before .before .before .before .before .before in
-    let points = c .before .before .before .before .before .before .before .before .before .before .before .all-points in
-    let rects = c .before .before .before .before .all-rects in
+    let at = start (at-all-rects-from-match2-keys2 (c .before) .before .before .before) in
+    let points = at-match-keys1 (at-all-rects-from-match2-keys2 (c .before) .before) .before .before .before .all-points in
+    let rects = at-all-rects-from-match2-keys2 (c .before) .all-rects in
     rects-over (at .args .across) (at .args .w) (at .args .body .now) (at .args .points) (at .args .rects) _ _ (points .result) (points .ensures) _ _
-    (c .before .before .before .before .before .before .before .n .given .1) (points .kept .1 .1 .1 .0) _ (rects .result)
+    (at-all-rects-from-match2-keys2 (c .before) .before .before .before .n .given .1) (points .kept .1 .1 .1 .0) _ (rects .result)
     (rects .ensures) (c .enum-told2 .given .1)
 
 mul-compact : tie.Need-mul-compact
 mul-compact c = omega (
   arith,
   area
-      (c .before .before .before .before .before .before .before .before .before .before .before .before .before .before .before .before .before .before .args
-      .w) (c .before .before .before .before .before .before .before .before .before .before .before .before .before .before .before .before .before .before
+      (start (at-all-rects c .before .before .before) .args
+      .w) (start (at-all-rects c .before .before .before)
       .pre),
 )
 
 compact-requires : tie.Need-compact-requires
 compact-requires c κs =
-    let rects = c .before .before .before .before .before .before .before .all-rects in
+    let rects = at-all-rects c .all-rects in
     held-front _ _ _ _ _ (rects .result) _ _ (c .before .before .before .k .given .1) (rects .ensures) .front
 
 returns-3 : tie.Need-returns-3
 returns-3 c =
-    let at = c .before .before .before .before .before .before .before .before .before .before .before .before .before .before .before .before .before .before
-    .before .before .before in
-    let points = c .before .before .before .before .before .before .before .before .before .before .before .before .before .before .before .before .before
+    let at = start (at-all-rects (c .before .before .before) .before .before .before) in
+    let points = at-match-keys1 (at-all-rects (c .before .before .before) .before) .before .before .before
     .all-points in
-    let rects = c .before .before .before .before .before .before .before .before .before .before .all-rects in
+    let rects = at-all-rects (c .before .before .before) .all-rects in
     let small = c .before .before .compact in
     list-done (at .args .across) (at .args .w) (at .args .body .now) (at .args .points) (at .args .rects) _ _ (points .result) (points .ensures) _ _
-    (c .before .before .before .before .before .before .before .before .before .before .before .before .before .n .given .1)
+    (at-all-rects (c .before .before .before) .before .before .before .n .given .1)
     (points .kept .1 .1 .1 .0) _ (rects .result) (rects .ensures) _ _
-    (c .before .before .before .before .before .before .k .given .1) (rects .kept .1 .1 .1 .1 .0) _ _ (small .ensures) (small .kept .0)
+    (at-k (c .before .before) .k .given .1) (rects .kept .1 .1 .1 .1 .0) _ _ (small .ensures) (small .kept .0)
 
 pub gather-spec : {M : Type 1} → statement M
 gather-spec =

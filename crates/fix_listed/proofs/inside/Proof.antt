@@ -7,25 +7,29 @@ use Rattle.fix_scratch.proofs.Chosen.{both}
 use Rattle.fix_listed.proofs.inside.Statement.{statement}
 use Rattle.fix_listed.proofs.inside.Tie as tie
 
+-- places of the function, each reached from a later one
+abbrev at-else1 : tie.Else2 → tie.Else1
+at-else1 c = c .before .before
+
 add-if3 : tie.Need-add-if3
 add-if3 c =
-    let f = c .before .before .before .before .before .pre in
+    let f = at-else1 (c .before) .before .before .pre in
     omega (arith, f .y0, f .height)
 
 add-result : tie.Need-add-result
 add-result c =
-    let f = c .before .before .before .before .before .before .before .pre in
+    let f = at-else1 (c .before .before .before) .before .before .pre in
     omega (arith, f .x0, f .width)
 
 returns-3 : tie.Need-returns-3
 returns-3 c = (
   λ e. record {
-    top = c .before .before .before .before .before .if1 .left;
+    top = at-else1 (c .before .before .before) .if1 .left;
     left = c .before .before .before .if2 .left;
     bottom = c .before .if3 .taken;
     right = ltb-true _ _ e;
   },
-  λ e v. let a = c .before .before .before .before .before .before .before .args in omega (arith, ltb-false (a .column) (a .w .x0 + a .w .width) e, v .right),
+  λ e v. let a = at-else1 (c .before .before .before) .before .before .args in omega (arith, ltb-false (a .column) (a .w .x0 + a .w .width) e, v .right),
 )
 
 pub inside-spec : {M : Type 1} → statement M

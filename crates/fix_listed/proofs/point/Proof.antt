@@ -9,38 +9,48 @@ use Rattle.fix_scratch.proofs.Joining.{joined-as}
 use Rattle.fix_listed.proofs.point.Statement.{statement}
 use Rattle.fix_listed.proofs.point.Tie as tie
 
-within : (c : tie.Then1) → Within (c .before .before .before .before .before .before .args .w) (c .before .before .before .u32-at .result)
+-- places of the function, each reached from a later one
+abbrev start : tie.After-inside → tie.Start
+start c = c .before .before .before .before .before
+
+abbrev at-then1 : tie.After-struct-known3 → tie.Then1
+at-then1 c = c .before .before .before .before .before
+
+abbrev at-position : tie.After-one → tie.After-position
+at-position c = c .before .before .before
+
+within : (c : tie.Then1) → Within (start (c .before) .args .w) (c .before .before .before .u32-at .result)
     (c .before .before .u32-at2 .result)
 within c = c .before .inside .ensures .0 (c .if1 .taken)
 
 position-requires : tie.Need-position-requires
 position-requires c κs =
     let v = within (c .before .before) in
-    (c .before .before .before .before .before .before .before .before .pre .1 .0, omega (arith, v .top, v .bottom), omega (arith, v .left, v .right))
+    (start (c .before .before .before) .pre .1 .0, omega (arith, v .top, v .bottom), omega (arith, v .left, v .right))
 
 mul-one : tie.Need-mul-one
 mul-one c =
-    let at = c .before .before .before .before .before .before .before .before .before .before .before in
+    let at = start (at-then1 c .before) in
     omega (arith, area (at .args .w) (at .pre .1 .0))
 
 one-requires : tie.Need-one-requires
-one-requires c κs = (c .before .before .before .before .before .before .before .before .before .before .before .pre .0, c .before .before .position .ensures .0)
+one-requires c κs = (start (at-then1 c .before) .pre .0, c .before .before .position .ensures .0)
 
 returns : tie.Need-returns
 returns c =
-    let at = c .before .before .before .before .before .before .before .before .before .before .before .before .before .before in
+    let at = start (at-then1 (c .before .before .before) .before) in
     let a = at .args in
-    let row = c .before .before .before .before .before .before .before .before .before .before .before .u32-at in
-    let column = c .before .before .before .before .before .before .before .before .before .before .u32-at2 in
-    let place = c .before .before .before .before .before .position in
+    let row = at-then1 (c .before .before .before) .before .before .before .u32-at in
+    let column = at-then1 (c .before .before .before) .before .before .u32-at2 in
+    let place = at-position (c .before .before) .position in
     let one = c .before .before .one in
     joined-as _ _ _ _ _ _ (one .result)
     (λ q l. point-marks (a .across) (a .w) (a .body .now) (a .i) (row .result) (column .result) (at .pre .1 .0) (row .ensures) (column .ensures)
-    (place .result) (within (c .before .before .before .before .before .before .before .before)) (place .ensures) q) (one .ensures)
+    (place .result) (within (at-then1 (c .before .before .before))) (place .ensures) q) (one .ensures)
 
 returns-2 : tie.Need-returns-2
 returns-2 c =
-    let at = c .before .before .before .before .before .before in
+    let at = start (c .before) in
     let a = at .args in
     let row = c .before .before .before .u32-at in
     let column = c .before .before .u32-at2 in

@@ -6,13 +6,20 @@ use Rattle.fix_scratch.proofs.Joining.{joined-as}
 use Rattle.fix_listed.proofs.rect.Statement.{statement}
 use Rattle.fix_listed.proofs.rect.Tie as tie
 
+-- places of the function, each reached from a later one
+abbrev at-u32-at4 : tie.After-item → tie.After-u32-at4
+at-u32-at4 c = c .before .before
+
+abbrev start : tie.After-u32-at → tie.Start
+start c = c .before .before .before
+
 returns : tie.Need-returns
 returns c =
-    let at = c .before .before .before .before .before .before .before .before .before .before in
-    let top = c .before .before .before .before .before .before .before .u32-at in
-    let left = c .before .before .before .before .before .before .u32-at2 in
-    let bottom = c .before .before .before .before .before .u32-at3 in
-    let right = c .before .before .before .before .u32-at4 in
+    let at = start (at-u32-at4 (c .before .before) .before .before .before) in
+    let top = at-u32-at4 (c .before .before) .before .before .before .u32-at in
+    let left = at-u32-at4 (c .before .before) .before .before .u32-at2 in
+    let bottom = at-u32-at4 (c .before .before) .before .u32-at3 in
+    let right = at-u32-at4 (c .before .before) .u32-at4 in
     let item = c .before .before .item in
     joined-as _ _ _ _ _ _ (item .result)
     (λ q l. rect-marks (at .args .across) (at .args .w) (at .args .body .now) (at .args .points) (at .args .i) (top .result) (left .result) (bottom .result)

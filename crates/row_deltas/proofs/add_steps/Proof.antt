@@ -3,10 +3,14 @@ use borrow.Author.Needs.{needs}
 use Rattle.row_deltas.proofs.add_steps.Statement.{statement}
 use Rattle.row_deltas.proofs.add_steps.Tie as tie
 
+-- places of the function, each reached from a later one
+abbrev at-then1 : tie.After-add-dense → tie.Then1
+at-then1 c = c .before .before
+
 pub add-steps-spec : {M : Type 1} → statement M
 add-steps-spec =
     tie.close
     (tie.spec
     (λ c κs. search needs) (λ c κs. search needs) (λ c. search needs)
-    (λ c. rw (c .before .before .before .before .if1 .taken) (c .before .before .add-dense .ensures))
+    (λ c. rw (at-then1 (c .before .before) .if1 .taken) (c .before .before .add-dense .ensures))
     (λ c. search needs) (λ c. search needs))

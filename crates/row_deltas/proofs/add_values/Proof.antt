@@ -17,14 +17,18 @@ Inv-loop row₀ begin stop step body n first scale past i₀ at₀ row i at =
 abbrev μ-loop : tie.MeasureT-loop
 μ-loop row₀ begin stop step body n first scale past i₀ at₀ row i at = stop - i
 
+-- places of the function, each reached from a later one
+abbrev head : tie.After-value-from Inv-loop μ-loop → tie.At-loop Inv-loop μ-loop
+head c = c .before .before
+
 add-at-2 : tie.Need-add-at-2 Inv-loop μ-loop
 add-at-2 c =
-    let u = c .before .before .before .before .loop .inv in
+    let u = head (c .before .before) .loop .inv in
     omega (arith, u .2, steps-few (u .1))
 
 loop-again : tie.Need-loop-again Inv-loop μ-loop
 loop-again c =
-    let u = c .before .before .before .before .loop .inv in
+    let u = head (c .before .before) .loop .inv in
     let value = added _ _ _ _ _ _ _ _ (c .before .before .value-from .ensures) (c .before .over-scale .ensures) (u .2) in
     (u .0 + 1, steps-next nan (omega arith) (u .1) (omega arith) value, omega (arith, u .2))
 

@@ -6,10 +6,14 @@ use Rattle.row_deltas.proofs.value_from.Statement.{statement}
 use Rattle.row_deltas.proofs.value_from.Tie as tie
 use Rattle.row_deltas.specs.Bytes.{valueFrom}
 
+-- places of the function, each reached from a later one
+abbrev start : tie.After-less → tie.Start
+start c = c .before .before
+
 returns : tie.Need-returns
 unfolding valueFrom
 returns c =
-    let s = c .before .before .before .before .before in
+    let s = start (c .before .before .before) in
     rw (lt-ltb (s .args .at) (s .args .past) (omega arith)) (c .f32-at .ensures)
 
 pub value-from-spec : {M : Type 1} → statement M

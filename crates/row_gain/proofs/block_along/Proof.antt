@@ -41,7 +41,7 @@ turn c = c .before .before .before .before .before
 below : (c : Turn)
     → let a = entry c .args in
     c .before .loop .i < min (length (a .row .now)) ((a .k .right - a .k .x0) * a .k .planes)
-below c = omega (arith, c .loop-test .taken, c .before .before .before .smaller .ensures, c .before .before .before .before .end-of .ensures)
+below c = omega (arith, c .loop-test .taken, c .before .before .before .lesser .ensures, c .before .before .before .before .end-of .ensures)
 
 inside : (c : Turn) → c .before .loop .i < length (c .before .loop .row)
 inside c = omega (arith, below c, c .before .loop .inv .0 .same)
@@ -51,7 +51,7 @@ numbered c =
     let a = entry c .args in
     let u = c .before .loop .inv in
     let q : c .before .loop .c < a .from + a .w * a .k .pitch =
-    lt-of-mul-lt-mul-right (a .k .planes) (omega (arith, u .0 .place, c .loop-test .taken, c .before .before .before .smaller .ensures)) in
+    lt-of-mul-lt-mul-right (a .k .planes) (omega (arith, u .0 .place, c .loop-test .taken, c .before .before .before .lesser .ensures)) in
     lt-of-mul-lt-mul-right (a .k .pitch) (omega (arith, q, u .2))
 
 -- after the loop, where the row goes on, the block's columns are all done
@@ -74,7 +74,7 @@ past c h x q =
       a .pre .0 .inside,
       c .before .loop .inv .0 .place,
       c .loop-test .left,
-      c .before .before .before .smaller .ensures,
+      c .before .before .before .lesser .ensures,
       c .before .before .before .before .end-of .ensures,
     ))
     (λ r. omega (arith, r, q))
@@ -82,18 +82,18 @@ past c h x q =
 end-of-requires : tie.Need-end-of-requires Inv-loop μ-loop
 end-of-requires c κs = let w = c .before .before .before .before .pre .0 in (w .right32, w .few)
 
-mul-smaller : tie.Need-mul-smaller Inv-loop μ-loop
-mul-smaller c =
+mul-lesser : tie.Need-mul-lesser Inv-loop μ-loop
+mul-lesser c =
     let a = c .before .before .before .before .before in
     omega (arith, a .pre .0 .pitch32, mul-le-mul-right (a .args .k .pitch) (a .pre .1 .few))
 
-add-smaller : tie.Need-add-smaller Inv-loop μ-loop
-add-smaller c =
+add-lesser : tie.Need-add-lesser Inv-loop μ-loop
+add-lesser c =
     let a = c .before .before .before .before .before in
     omega (arith, a .pre .0 .pitch32, a .pre .1 .near, mul-le-mul-right (a .args .k .pitch) (a .pre .1 .few))
 
-mul-smaller-2 : tie.Need-mul-smaller-2 Inv-loop μ-loop
-mul-smaller-2 c =
+mul-lesser-2 : tie.Need-mul-lesser-2 Inv-loop μ-loop
+mul-lesser-2 c =
     let a = c .before .before .before .before .before in
     omega (
       arith,
@@ -217,7 +217,7 @@ pub block-along-spec : {M : Type 1} → statement M
 block-along-spec =
     tie.close
     (tie.spec
-    Inv-loop μ-loop end-of-requires mul-smaller add-smaller mul-smaller-2 (λ c κs. search needs) mul-step mul-i add-i
+    Inv-loop μ-loop end-of-requires mul-lesser add-lesser mul-lesser-2 (λ c κs. search needs) mul-step mul-i add-i
     pair-at-requires loop-holds mul-pair-for shared-slice-read-pair-for pair-for-requires mul-raised
     shared-slice-read-raised mul-raised-2 slice-read-raised (λ c κs. search needs) mul-row slice-write-row add-i-2
     add-c add-j loop-less loop-again same-length returns)

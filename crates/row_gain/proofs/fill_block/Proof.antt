@@ -27,13 +27,13 @@ inside : (c : Turn) → c .before .loop .j < length (entry c .args .hs .now)
 inside c =
     let a = entry c .args in
     in-room (a .x) (a .pitch) (length (a .hs .now)) (c .before .loop .at) (c .before .loop .j) (c .before .loop .inv .0 .place)
-    (omega (arith, c .loop-test .taken, c .before .before .smaller .ensures))
+    (omega (arith, c .loop-test .taken, c .before .before .lesser .ensures))
 
-mul-smaller : tie.Need-mul-smaller Inv-loop μ-loop
-mul-smaller c = let a = c .before .before .before in omega (arith, a .pre .pitch32, mul-le-mul-right (a .args .pitch) (a .pre .few))
+mul-lesser : tie.Need-mul-lesser Inv-loop μ-loop
+mul-lesser c = let a = c .before .before .before in omega (arith, a .pre .pitch32, mul-le-mul-right (a .args .pitch) (a .pre .few))
 
-add-smaller : tie.Need-add-smaller Inv-loop μ-loop
-add-smaller c =
+add-lesser : tie.Need-add-lesser Inv-loop μ-loop
+add-lesser c =
     let a = c .before .before .before in
     omega (arith, a .pre .start, a .pre .pitch32, mul-le-mul-right (a .args .pitch) (a .pre .few))
 
@@ -41,7 +41,7 @@ loop-holds : tie.Need-loop-holds Inv-loop μ-loop
 loop-holds c = (filling-begin, omega (arith, c .before .before .before .before .pre .spaced))
 
 cast-place : tie.Need-cast-place Inv-loop μ-loop
-cast-place c = omega (arith, c .loop-test .taken, c .before .before .smaller .ensures, entry c .pre .end32)
+cast-place c = omega (arith, c .loop-test .taken, c .before .before .lesser .ensures, entry c .pre .end32)
 
 mul-hs : tie.Need-mul-hs Inv-loop μ-loop
 mul-hs c = omega (arith, inside (c .before .before), entry (c .before .before) .pre .few)
@@ -58,7 +58,7 @@ slice-write-ts c = let t = c .before .before .before in omega (arith, inside t, 
 add-at : tie.Need-add-at Inv-loop μ-loop
 add-at c =
     let t = c .before .before .before in
-    omega (arith, t .loop-test .taken, t .before .before .smaller .ensures, entry t .pre .end32, entry t .pre .pitch32)
+    omega (arith, t .loop-test .taken, t .before .before .lesser .ensures, entry t .pre .end32, entry t .pre .pitch32)
 
 add-j : tie.Need-add-j Inv-loop μ-loop
 add-j c = let t = c .before .before .before in omega (arith, inside t, entry t .pre .few)
@@ -74,7 +74,7 @@ loop-again c =
           (floor-on _ _ _ _ _ (t .before .before .before .ruler-of .ensures) _ _ (c .before .before .place .ensures) _ _
           (c .before .floor .ensures))
           (c .to-f32 .ensures),
-      omega (arith, t .loop-test .taken, t .before .before .smaller .ensures),
+      omega (arith, t .loop-test .taken, t .before .before .lesser .ensures),
     )
 
 same-length : tie.Need-same-length Inv-loop μ-loop
@@ -89,7 +89,7 @@ returns c =
       u .filled,
       record {
         fits = omega (arith, u .filled .room-h, u .same-h);
-        all = omega (arith, u .place, c .loop-test .left, c .before .before .smaller .ensures);
+        all = omega (arith, u .place, c .loop-test .left, c .before .before .lesser .ensures);
         near = omega (arith, u .place, c .before .loop .inv .1);
       },
     )
@@ -98,6 +98,6 @@ pub fill-block-spec : {M : Type 1} → statement M
 fill-block-spec =
     tie.close
     (tie.spec
-    Inv-loop μ-loop (λ c κs. search needs) mul-smaller add-smaller (λ c κs. search needs) loop-holds cast-place
+    Inv-loop μ-loop (λ c κs. search needs) mul-lesser add-lesser (λ c κs. search needs) loop-holds cast-place
     (λ c κs. search needs) (λ c κs. search needs) mul-hs slice-write-hs (λ c κs. search needs) mul-ts slice-write-ts
     add-at add-j loop-less loop-again same-length same-length-2 returns)

@@ -23,6 +23,13 @@ abbrev μ-loop : tie.MeasureT-loop
 abbrev begun : tie.After-stop-of Inv-loop μ-loop → tie.Start Inv-loop μ-loop
 begun c = c .before .before .before .before .before
 
+-- places of the function, each reached from a later one
+abbrev start : tie.After-last-of Inv-loop μ-loop → tie.Start Inv-loop μ-loop
+start c = c .before .before .before
+
+abbrev head : tie.After-full-value Inv-loop μ-loop → tie.At-loop Inv-loop μ-loop
+head c = c .before .before .before
+
 walk : (c : tie.After-stop-of Inv-loop μ-loop) → Walks (begun c .args .k) (length (begun c .args .row .now))
 walk c = begun c .pre .0
 
@@ -31,7 +38,7 @@ abbrev ended : tie.At-loop Inv-loop μ-loop → tie.After-stop-of Inv-loop μ-lo
 ended a = a .before .before .before .before
 
 -- the last entry's number as a float
-top-is : (c : tie.After-f32-of-u32 Inv-loop μ-loop) → c .f32-of-u32 .result ≡ wholeIn binary32 (c .before .before .before .before .args .n - 1)
+top-is : (c : tie.After-f32-of-u32 Inv-loop μ-loop) → c .f32-of-u32 .result ≡ wholeIn binary32 (start (c .before) .args .n - 1)
 top-is c = c .f32-of-u32 .ensures ∙ ap (λ (i : ℕ). wholeIn binary32 i) (c .before .last-of .ensures)
 
 full-value-requires : tie.Need-full-value-requires Inv-loop μ-loop
@@ -42,22 +49,22 @@ full-value-requires c κs =
 
 add-c : tie.Need-add-c Inv-loop μ-loop
 add-c c =
-    let a = c .before .before .before .before in
+    let a = head (c .before) in
     omega (arith, near (walk (ended a)) (a .loop .inv), walk (ended a) .short)
 
 loop-again : tie.Need-loop-again Inv-loop μ-loop
 loop-again c =
-    let a = c .before .before .before .before in
+    let a = head (c .before) in
     next (walk (ended a)) (a .loop .inv) nan (omega arith) (c .before .full-value .ensures)
 
 pub full-row-spec : {M : Type 1} → statement M
 full-row-spec =
     tie.close
     (tie.spec
-    Inv-loop μ-loop (λ c κs. search needs) (λ c κs. search needs) (λ c κs. c .before .before .before .before .pre .0)
+    Inv-loop μ-loop (λ c κs. search needs) (λ c κs. search needs) (λ c κs. start (c .before) .pre .0)
     (λ c. omega (arith, step-small (walk (c .before)))) (λ c. omega (arith, begin-small (walk (c .before .before))))
     (λ c. omega (arith, begin-small (walk (c .before .before .before))))
     (λ c. begin (walk (c .before .before .before))) (λ c. omega arith) (λ c. omega arith) full-value-requires
     (λ c. omega arith) (λ c. omega arith) (λ c. omega (arith, step-small (walk (ended (c .before .before .before)))))
-    add-c (λ c. omega (arith, step-goes (walk (ended (c .before .before .before .before))))) loop-again
+    add-c (λ c. omega (arith, step-goes (walk (ended (head (c .before)))))) loop-again
     (λ c. c .before .loop .inv .same) (λ c. end (walk (ended (c .before))) (c .before .loop .inv) (omega arith)))

@@ -20,6 +20,10 @@ abbrev μ-loop : tie.MeasureT-loop
 abbrev begun : tie.After-stop-of Inv-loop μ-loop → tie.Start Inv-loop μ-loop
 begun c = c .before .before .before
 
+-- places of the function, each reached from a later one
+abbrev head : tie.After-whole-value16 Inv-loop μ-loop → tie.At-loop Inv-loop μ-loop
+head c = c .before .before .before
+
 walk : (c : tie.After-stop-of Inv-loop μ-loop) → Walks (begun c .args .k) (length (begun c .args .row .now))
 walk c = begun c .pre .0
 
@@ -29,12 +33,12 @@ ended a = a .before .before .before .before
 
 add-c : tie.Need-add-c Inv-loop μ-loop
 add-c c =
-    let a = c .before .before .before .before in
+    let a = head (c .before) in
     omega (arith, near (walk (ended a)) (a .loop .inv))
 
 loop-again : tie.Need-loop-again Inv-loop μ-loop
 loop-again c =
-    let a = c .before .before .before .before in
+    let a = head (c .before) in
     next (walk (ended a)) (a .loop .inv) 0 (omega arith) (c .before .whole-value16 .ensures)
 
 pub whole-row16-spec : {M : Type 1} → statement M
@@ -46,5 +50,5 @@ whole-row16-spec =
     (λ c. omega (arith, begin-small (walk (c .before .before .before))))
     (λ c. begin (walk (c .before .before .before))) (λ c. omega arith) (λ c. omega arith) (λ c κs. search needs)
     (λ c. omega arith) (λ c. omega arith) (λ c. omega (arith, step-small (walk (ended (c .before .before .before)))))
-    add-c (λ c. omega (arith, step-goes (walk (ended (c .before .before .before .before))))) loop-again
+    add-c (λ c. omega (arith, step-goes (walk (ended (head (c .before)))))) loop-again
     (λ c. c .before .loop .inv .same) (λ c. end (walk (ended (c .before))) (c .before .loop .inv) (omega arith)))

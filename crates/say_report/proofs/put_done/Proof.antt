@@ -41,7 +41,7 @@ returns c =
     let g = f .before .before .before .before .before in
     let h = g .before .before .before .before .before in
     let a = h .before .before .before .before .before .args in
-    let named = ap (λ (m : ℕ). skippedText (take m (a .names .now))) (sub-zero _ ∙ h .before .before .smaller .ensures) in
+    let named = ap (λ (m : ℕ). skippedText (take m (a .names .now))) (sub-zero _ ∙ h .before .before .lesser .ensures) in
     within-as _ 512 (lit≤ tt) refl
     (within-then _ _
     (within-then _ _

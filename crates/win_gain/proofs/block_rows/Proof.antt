@@ -37,8 +37,8 @@ returns c =
     let h = c .before .before .before in
     rows-short _ _ _ (h .loop .inv) (c .if2 .taken)
 
-add-smaller : tie.Need-add-smaller Inv-loop μ-loop
-add-smaller c =
+add-lesser : tie.Need-add-lesser Inv-loop μ-loop
+add-lesser c =
     let h = c .before .before .before in
     let s = Args h in
     omega (
@@ -66,7 +66,7 @@ row-block-requires c κs =
     let h = i .before .before in
     let s = Args h in
     let a = s .args in (
-      part-fits _ _ _ (s .pre .0) (h .loop .inv) (i .if1 .taken) (h .before .before .row-width .ensures) (e .smaller .ensures)
+      part-fits _ _ _ (s .pre .0) (h .loop .inv) (i .if1 .taken) (h .before .before .row-width .ensures) (e .lesser .ensures)
           (c .place-at .ensures),
       subst (λ (g : Place). First (a .r .left) (a .r .«col_pitch») (g .x0) (a .start .col) (a .start .nth)) (sym (c .place-at .ensures)) (s .pre .2),
       s .pre .3,
@@ -99,7 +99,7 @@ loop-again c =
     let s = Args h in
     let a = s .args in
     rows-turn (a .w) _ _ (s .pre .0) (s .pre .1) (h .loop .inv) (i .if1 .taken) (h .before .before .row-width .ensures)
-    (h .before .row-stride .ensures) (e .smaller .ensures) (omega (arith, e .before .if2 .left))
+    (h .before .row-stride .ensures) (e .lesser .ensures) (omega (arith, e .before .if2 .left))
     (λ g. rule g (a .r) (a .from) (a .count) (a .body .now) (a .points-v) (a .points-h) (a .grid) (a .map-planes)) refl (p .place-at .ensures)
     (c .before .before .row-block .ensures)
 
@@ -108,10 +108,10 @@ block-rows-spec =
     tie.close
     (tie.spec
     Inv-loop μ-loop (λ c κs. search needs) (λ c κs. search needs) (λ c. rows-start _ _ _)
-    (λ c. c .before .before .before .loop .inv .same) returns add-smaller (λ c κs. search needs) mul-row-block
-    (λ c. omega (arith, c .smaller .ensures, c .before .if2 .left))
-    (λ c. omega (arith, c .smaller .ensures, c .before .if2 .left))
-    (λ c. omega (arith, c .smaller .ensures, c .before .before .before .before .loop .inv .same)) place-at-requires
+    (λ c. c .before .before .before .loop .inv .same) returns add-lesser (λ c κs. search needs) mul-row-block
+    (λ c. omega (arith, c .lesser .ensures, c .before .if2 .left))
+    (λ c. omega (arith, c .lesser .ensures, c .before .if2 .left))
+    (λ c. omega (arith, c .lesser .ensures, c .before .before .before .before .loop .inv .same)) place-at-requires
     row-block-requires add-at add-y
     (λ c. omega (arith, c .before .before .before .before .before .before .before .if1 .taken)) loop-again
     (λ c. c .before .before .loop .inv .same) (λ c. rows-all _ _ _ (c .before .before .loop .inv) (c .if1 .left)))

@@ -26,8 +26,8 @@ returns c =
     let h = c .before .before .before in
     rows-short _ _ _ (h .loop .inv) (c .if2 .taken)
 
-add-smaller : tie.Need-add-smaller Inv-loop μ-loop
-add-smaller c =
+add-lesser : tie.Need-add-lesser Inv-loop μ-loop
+add-lesser c =
     let h = c .before .before .before in
     let s = Args h in
     omega (
@@ -54,7 +54,7 @@ row-step-requires c κs =
     let i = e .before .before in
     let h = i .before .before in
     let s = Args h in (
-      part-fits _ _ _ (s .pre .0) (h .loop .inv) (i .if1 .taken) (h .before .before .row-width .ensures) (e .smaller .ensures)
+      part-fits _ _ _ (s .pre .0) (h .loop .inv) (i .if1 .taken) (h .before .before .row-width .ensures) (e .lesser .ensures)
           (c .place-at .ensures),
       s .pre .2,
       subst (λ (g : Place). Ready (s .args .op) (g .x0) (g .«full_width») (g .«full_height») (s .args .ready)) (sym (c .place-at .ensures)) (s .pre .3),
@@ -85,7 +85,7 @@ loop-again c =
     let s = Args h in
     let a = s .args in
     rows-turn (a .w) _ _ (s .pre .0) (s .pre .1) (h .loop .inv) (i .if1 .taken) (h .before .before .row-width .ensures)
-    (h .before .row-stride .ensures) (e .smaller .ensures) (omega (arith, e .before .if2 .left))
+    (h .before .row-stride .ensures) (e .lesser .ensures) (omega (arith, e .before .if2 .left))
     (λ g. ruleOf (frameIn (a .scale) g) (a .op) (a .body .now)) refl (p .place-at .ensures) (c .before .before .row-step .ensures)
 
 pub rows-spec : {M : Type 1} → statement M
@@ -93,10 +93,10 @@ rows-spec =
     tie.close
     (tie.spec
     Inv-loop μ-loop (λ c κs. search needs) (λ c κs. search needs) (λ c. rows-start _ _ _)
-    (λ c. c .before .before .before .loop .inv .same) returns add-smaller (λ c κs. search needs) mul-row-step
-    (λ c. omega (arith, c .smaller .ensures, c .before .if2 .left))
-    (λ c. omega (arith, c .smaller .ensures, c .before .if2 .left))
-    (λ c. omega (arith, c .smaller .ensures, c .before .before .before .before .loop .inv .same)) place-at-requires
+    (λ c. c .before .before .before .loop .inv .same) returns add-lesser (λ c κs. search needs) mul-row-step
+    (λ c. omega (arith, c .lesser .ensures, c .before .if2 .left))
+    (λ c. omega (arith, c .lesser .ensures, c .before .if2 .left))
+    (λ c. omega (arith, c .lesser .ensures, c .before .before .before .before .loop .inv .same)) place-at-requires
     row-step-requires add-at add-y
     (λ c. omega (arith, c .before .before .before .before .before .before .before .if1 .taken)) loop-again
     (λ c. c .before .before .loop .inv .same) (λ c. rows-all _ _ _ (c .before .before .loop .inv) (c .if1 .left)))
