@@ -624,7 +624,8 @@ pub record Previews : Type 0 where
   -- nothing is left
   pub none : shown true 0 (constantWith 2 0 ∷ []) ≡ out (Ans.Done 0 0 0) three (9 ∷ [])
   -- an entry that would be left out is read all the same
-  pub malformed : shown true 8 (words (4 ∷ 16973824 ∷ 2 ∷ 0 ∷ []) ∷ []) ≡ out (Ans.Malformed 0 (refusal Why.Inside 20)) three (9 ∷ [])
+  pub malformed : shown true 8 (words (4 ∷ 16973824 ∷ 2 ∷ 0 ∷ []) ∷ []) ≡ out (Ans.Malformed 0
+      (refusal Why.Inside 20)) three (9 ∷ [])
 
 pub previews : Previews
 unfolding big firstCut insideWhy whyFrom whyOf each roundHeld readingOf itemsOf counted readFrom stepAt nextAt parsedAt

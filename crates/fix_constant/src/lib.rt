@@ -94,7 +94,8 @@ fn block_end(x: usize, width: usize) -> usize
 
 // Whether any sample equals the constant. It stops nowhere, so that many samples are tested at once.
 fn any_f32(s: &[f32], c: f32) -> bool
-    ensures { λ r. ⌜ (r ≡ false → (k : ℕ) → k < length (now (s .entry)) → eq (getD (now (s .entry)) k nan) c ≡ false) ⌝ }
+    ensures { λ r. ⌜ (r ≡ false → (k : ℕ) → k < length (now (s .entry)) → eq (getD (now (s .entry)) k nan) c
+        ≡ false) ⌝ }
 {
     let mut hit = false;
     let mut i = 0;

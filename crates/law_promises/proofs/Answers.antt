@@ -264,7 +264,11 @@ module _ (w : RowWindow) (scale : Float) (preview : Bool) (y : ℕ) (list : List
   abbrev rowDone : Bool → RowOut
   rowDone t =
       cond t
-      (record { answer = Row.Done (length (namesOf skipped (keptIn preview list))); row = rowOn (rowFrameOf w scale) (w .x0) (w .planes) y list (keptIn preview list) row })
+      (record {
+        answer = Row.Done (length (namesOf skipped (keptIn preview list)));
+        row = rowOn (rowFrameOf w scale) (w .x0) (w .planes) y list
+            (keptIn preview list) row;
+      })
       (record { answer = Row.NotTaken; row = row })
 
   pub row-when : RowWhen w preview y (length row) list (rowOut w scale preview y list row .answer)

@@ -37,7 +37,8 @@ module _ (w : Window) (scale : Float) (preview : Bool) (list : List ℕ) (n : �
 pub row-calls : Row-calls
 row-calls w set room list s names ys rs t e h ran calls =
     let form = row-form w set room list s names ys h in
-    let rows = row-by-row w (set .scale) (set .preview) list (length (namesOf skipped (keptIn (set .preview) list))) (form .calls) calls (once-below (w .height) ys (h .once)) in
+    let rows = row-by-row w (set .scale) (set .preview) list (length (namesOf skipped (keptIn (set .preview) list))) (form .calls) calls (once-below
+    (w .height) ys (h .once)) in
     record {
       calls = rows .0;
       run = ran .answered ∙ form .run;

@@ -86,7 +86,8 @@ module _ {A : Type 0} (c : Call A) where
         either false e p = go (classOf (i .op)) e p
 
     same-run : (is : List Item) (k : ℕ) (s : List A) (a b : ℕ) (t : List A) (r l : ℕ) → all k is (going s a b) ≡ going t r l
-        → sumFrom c marked k is (going s a b) ≤ room .marks → performAll (c .kind) (c .window) (c .period) room (c .preview) (c .list) k is (going s a b) ≡ going t r l
+        → sumFrom c marked k is (going s a b) ≤ room .marks → performAll (c .kind) (c .window) (c .period) room (c .preview) (c .list) k is (going s a b)
+        ≡ going t r l
     unfolding sumFrom performAll
     same-run [] k s a b t r l e f = e
     same-run (i ∷ is) k s a b t r l e f =

@@ -166,7 +166,16 @@ module _ {A : Type 0} (c : Call A) where
 
   there : {m : ℕ} {t : List A} → There m t → Reached c m t
   there f =
-      record { repaired = f .repaired; left = f .left; ran = f .ran; item = f .item; rest = f .rest; stands = f .stands; repairs = f .repairs; shown = f .shown }
+      record {
+        repaired = f .repaired;
+        left = f .left;
+        ran = f .ran;
+        item = f .item;
+        rest = f .rest;
+        stands = f .stands;
+        repairs = f .repairs;
+        shown = f .shown;
+      }
 
   -- what all opcodes come to shows where they stopped
   abbrev Shown : Progress A → Type 0
@@ -187,7 +196,8 @@ module _ {A : Type 0} (c : Call A) where
   pub marks-stop : (k : ℕ) (t : List A) → MarksOver c k t → performed c (itemsOf (c .list)) ≡ marksFull t k
   marks-stop k t h =
       let f = h .reached in
-      from-there (c .kind) (c .window) (c .period) (c .room) (c .preview) (c .list) k (itemsOf (c .list)) (going (c .samples) 0 0) t (f .repaired) (f .left) (f .item)
+      from-there (c .kind) (c .window) (c .period) (c .room) (c .preview) (c .list) k (itemsOf (c .list)) (going (c .samples) 0 0) t (f .repaired) (f .left)
+      (f .item)
       (f .rest) (marksFull t k) (f .ran) (f .stands)
       (one-marks (c .kind) (c .window) (c .period) (c .room) (c .preview) (c .list) (f .item) k t (f .repaired) (f .left) (f .repairs) (f .shown) (h .over))
       ∙ still-marks (c .kind) (c .window) (c .period) (c .room) (c .preview) (c .list) (suc k) (f .rest) t k

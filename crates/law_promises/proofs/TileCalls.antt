@@ -49,7 +49,8 @@ module _ {A : Type 0} (c : Call A) (h : Suits (formOf c) (c .preview) (c .list) 
       let same : length (tilePut w t (e .samples) s) ≡ length s = ap length put ∙ length-each F s in
       let rest = tile-by-tile more (fits .1) (tail-inside w t ts inside) (λ x y a b. omega (arith, full x y a b, same)) in (
         ap₂ _∷_
-            (met .answered ∙ ap (λ (o : Out A). o .answer) (run-on (formOf c) (c .preview) (c .list) (tileWindow w t) period room names (tilePart w t s) ranges own))
+            (met .answered ∙ ap (λ (o : Out A). o .answer) (run-on (formOf c) (c .preview) (c .list) (tileWindow w t) period room names
+            (tilePart w t s) ranges own))
             (rest .0),
         rest .1 ∙ ap₂ (λ (n : ℕ) (v : List A). onTiles w n f ts v) same put,
       )

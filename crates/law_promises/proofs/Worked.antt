@@ -51,7 +51,8 @@ record Computed : Type 0 where
   enough : run (room 1) ≡ out (Ans.Done 0 1 0) (10 ∷ 15 ∷ 19 ∷ []) []
   marks : run (room 0) ≡ out (Ans.Marks 0) samples []
   planes : u16Out (deep 2) 1 false (room 1) list (10 ∷ 20 ∷ 0 ∷ 0 ∷ 19 ∷ 29 ∷ []) [] ≡ out (Ans.Done 0 1 0) (10 ∷ 20 ∷ 15 ∷ 25 ∷ 19 ∷ 29 ∷ []) []
-  later : f32Out window (record { period = 1; scale = whole 1; preview = false }) (room 1) (listOf (constant 0 ∷ pair ∷ [])) (whole 10 ∷ whole 0 ∷ whole 19 ∷ []) []
+  later : f32Out window (record { period = 1; scale = whole 1; preview = false }) (room 1) (listOf (constant 0 ∷ pair ∷ []))
+      (whole 10 ∷ whole 0 ∷ whole 19 ∷ []) []
       ≡ out (Ans.Marks 1) (whole 10 ∷ fin false 29 (negsuc 0) ∷ whole 19 ∷ []) []
   -- the order of the refusals: nine planes and a list that is cut, two repairs and no room for a name
   range-first : u16Out (deep 9) 1 false (room 1) (1 ∷ []) samples [] ≡ out Ans.Range samples []
@@ -59,7 +60,8 @@ record Computed : Type 0 where
 
 computed : Computed
 unfolding big each roundHeld readingOf itemsOf counted readFrom stepAt nextAt parsedAt constantAt trimAt badListAt inWindow active wholePixel anyBelow
-    countBelow complete pointAt rectAt listed badValue marksOf moved sound tallyOn repairAt soundOn markedIn repairedIn leftIn keptOf namesOf takes16On takes16From
+    countBelow complete pointAt rectAt listed badValue marksOf moved sound tallyOn repairAt soundOn markedIn repairedIn leftIn keptOf namesOf takes16On
+    takes16From
     repairOn performAll inRange ranOn runOut ofInt round units odd size span climb mul div add eq
 computed = record { enough = refl; marks = refl; planes = refl; later = refl; range-first = refl; not-taken-first = refl }
 

@@ -264,7 +264,7 @@ pub record By-reason : Type 1 where
       → (numbersOf (e .answer) .number ≡ reasonNumber q)
       ↔ ((inRange (c .window) (c .period) ≡ true) × RefusedFor (c .list) q)
   pub row : (w : RowWindow) (scale : Float) (preview : Bool) (y : ℕ) (list : List ℕ) (row : List Float) (r : RowAnswer)
-    (t : List Float)
+      (t : List Float)
       → RowRan (rowOut w scale preview y list row) r t → (q : Reason)
       → (rowNumbersOf r .number ≡ reasonNumber q) ↔ ((rowInRange w y (length row) ≡ true) × RefusedFor list q)
   pub reading : (list : List ℕ) (q : Reason)

@@ -173,7 +173,8 @@ pub window-call : (w : Window) (set : Settings) (room : Room) (list : List ℕ) 
     → f32Out w set room list s names ≡ runDone skipped (set .preview) list names (each (onWindow w (length s) (rulesOf w (set .scale) (set .preview) list)) s)
 unfolding onWindow
 window-call w set room list s names m ranges whole taken roomy =
-    window-run kind takesAll skipped w (set .period) (set .preview) room list s names m ranges whole refl (rows-no-repair (keptIn (set .preview) list) taken) roomy
+    window-run kind takesAll skipped w (set .period) (set .preview) room list s names m ranges whole refl (rows-no-repair (keptIn
+    (set .preview) list) taken) roomy
     ∙ ap (runDone skipped (set .preview) list names)
     (each-agree _ _ s
     (λ j v q.

@@ -25,7 +25,8 @@ module _ (w : Window) (set : Settings) (list names ys : List ℕ) (h : RowForm·
   -- what a row call gives on a row of the window
   pub on-row-y : (y : ℕ) (t : List Float) → y < w .height
       → rowOut (rowWindowOf w) (set .scale) (set .preview) (w .y0 + y) list (rowPart w y t)
-      ≡ rowDone (set .preview) list (each (onRow (w .x0) (w .planes) (w .y0 + y) (length (rowPart w y t)) (rulesOf w (set .scale) (set .preview) list)) (rowPart w y t))
+      ≡ rowDone (set .preview) list (each (onRow (w .x0) (w .planes) (w .y0 + y) (length (rowPart w y t)) (rulesOf w (set .scale) (set .preview) list))
+      (rowPart w y t))
   on-row-y y t high =
       row-call (rowWindowOf w) (set .scale) (set .preview) (w .y0 + y) list (rowPart w y t) (h .opcodes)
       (row-ranged w (set .period) y (length (rowPart w y t)) (ranged w (set .period) (h .ranges)) high (omega (arith, row-length w y t)))

@@ -114,7 +114,8 @@ module _ (w : Window) (period : ℕ) (preview : Bool) (room : Room) (list s name
   alike-ends (endedMarks {s = x} {t = y} short ps) = (refl, pairs-narrowed x y ps)
 
   alike-ran : inRange w period ≡ true
-      → Alike (ranOn u16Kind takes16 skipped16 w period preview room list s names) (ranOn (kind32 w) takesAll skipped w period preview room list (widened s) names′)
+      → Alike (ranOn u16Kind takes16 skipped16 w period preview room list s names) (ranOn (kind32 w) takesAll skipped w period preview room list
+      (widened s) names′)
   unfolding ranOn
   alike-ran ranges =
       rw (h .taken, le-leb (length names16) (length names) (h .roomy), le-leb (length names32) (length names′) (h .roomy′))

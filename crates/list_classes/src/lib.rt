@@ -39,7 +39,11 @@ pub fn class_of(op: Opcode) -> Class
 pub fn class_in(op: Opcode, dropped: bool) -> Class
     ensures { λ r. ⌜ classIs r ≡ cond dropped unapplied (classOf op) ⌝ }
 {
-    if dropped { Class::Unapplied } else { class_of(op) }
+    if dropped {
+        Class::Unapplied
+    } else {
+        class_of(op)
+    }
 }
 
 // The id, and 0 for an id of no opcode.

@@ -32,7 +32,8 @@ pub left : (w : RowWindow) (scale : Float) (preview : Bool) (y : ℕ) (list old 
     → RowLeft (rowOut w scale preview y list (decoded (floatAt old) room)) old a bytes
 unfolding put
 left w scale preview y list old bytes room full row a done e ran d p =
-    let r : RowRan (rowOut w scale preview y list (decoded (floatAt old) room)) a row = subst (λ (l : List Float). RowRan (rowOut w scale preview y list l) a row) e ran in
+    let r : RowRan (rowOut w scale preview y list (decoded (floatAt old) room)) a row = subst (λ (l : List Float). RowRan
+    (rowOut w scale preview y list l) a row) e ran in
     let b : bytes ≡ put old a row = p ∙ ap (λ (t : Bool). cond t (encoded 4 (toBits binary32) nan row old) old) d in
     record { answered = r .answered; left = b ∙ ap₂ (put old) (r .answered) (r .left) }
 

@@ -395,7 +395,16 @@ pub extern "C" fn rolbhunga_bytes_u16(
         run_bytes::clear_u16(work);
         refuse(marks)
     } else {
-        let r = u16_in(list, bytes, w, period, preview, &mut work[..count], marks, names);
+        let r = u16_in(
+            list,
+            bytes,
+            w,
+            period,
+            preview,
+            &mut work[..count],
+            marks,
+            names,
+        );
         run_bytes::clear_u16(work);
         run_answers::numbers(r)
     }

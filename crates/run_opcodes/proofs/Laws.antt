@@ -52,48 +52,48 @@ same-room {kind = kind} {w} {period} {dropped = dropped} {op} {b} {s} {s′} {r}
     subst (λ (m : ℕ). Steps kind w period (record { marks = m }) dropped op b s s′ r) e
 
 module _ {A : Type 0} (kind : Kind A) (w : Window) (period : ℕ) (room : Room) (dropped : Bool) (op : Opcode) (b : List ℕ) (s : List A)
-    where
-  -- nothing is done, and the class says so
-  pub passed : {c : Run.Class} → c ≡ cond dropped Run.unapplied (classOf op) → ((k x y : ℕ) → performOn kind w period room c op b k s x y ≡ going s x y)
-      → Steps kind w period room dropped op b s s (F.Done 0 0)
-  passed q same =
-      record {
-        state = λ k x y.
-            ap₂ (λ (i j : ℕ). going s i j) (add-zero x) (add-zero y)
-            ∙ sym (same k x y)
-            ∙ ap (λ (c : Run.Class). performOn kind w period room c op b k s x y) q;
-        few = omega arith;
-      }
+  where
+    -- nothing is done, and the class says so
+    pub passed : {c : Run.Class} → c ≡ cond dropped Run.unapplied (classOf op) → ((k x y : ℕ) → performOn kind w period room c op b k s x y ≡ going s x y)
+        → Steps kind w period room dropped op b s s (F.Done 0 0)
+    passed q same =
+        record {
+          state = λ k x y.
+              ap₂ (λ (i j : ℕ). going s i j) (add-zero x) (add-zero y)
+              ∙ sym (same k x y)
+              ∙ ap (λ (c : Run.Class). performOn kind w period room c op b k s x y) q;
+          few = omega arith;
+        }
 
-  -- each sample by itself
-  pub stepped : {c : Run.Class} {s′ : List A} {r : Fixed} → c ≡ cond dropped Run.unapplied (classOf op)
-      → ((k x y : ℕ) → performOn kind w period room c op b k s x y ≡ going (each (onWindow w (length s) (kind .rule op b)) s) x y)
-      → Stepped w (kind .rule op b) s s′ r → Steps kind w period room dropped op b s s′ r
-  stepped {s′ = s′} {r} q same h =
-      subst (λ (f : Fixed). Steps kind w period room dropped op b s s′ f) (sym (h .none))
-      (record {
-        state = λ k x y.
-            ap₂ (λ (i j : ℕ). going s′ i j) (add-zero x) (add-zero y)
-            ∙ ap (λ (t : List A). going t x y) (h .new)
-            ∙ sym (same k x y)
-            ∙ ap (λ (c : Run.Class). performOn kind w period room c op b k s x y) q;
-        few = omega arith;
-      })
+    -- each sample by itself
+    pub stepped : {c : Run.Class} {s′ : List A} {r : Fixed} → c ≡ cond dropped Run.unapplied (classOf op)
+        → ((k x y : ℕ) → performOn kind w period room c op b k s x y ≡ going (each (onWindow w (length s) (kind .rule op b)) s) x y)
+        → Stepped w (kind .rule op b) s s′ r → Steps kind w period room dropped op b s s′ r
+    stepped {s′ = s′} {r} q same h =
+        subst (λ (f : Fixed). Steps kind w period room dropped op b s s′ f) (sym (h .none))
+        (record {
+          state = λ k x y.
+              ap₂ (λ (i j : ℕ). going s′ i j) (add-zero x) (add-zero y)
+              ∙ ap (λ (t : List A). going t x y) (h .new)
+              ∙ sym (same k x y)
+              ∙ ap (λ (c : Run.Class). performOn kind w period room c op b k s x y) q;
+          few = omega arith;
+        })
 
-  -- a repair, with its marks from the samples and the body as it is lent
-  pub repaired : {b′ : List ℕ} {s′ : List A} {r : Fixed} → Run.repair ≡ cond dropped Run.unapplied (classOf op) → b′ ≡ b
-      → Fixes.Fixes kind w period room (marksOf (kind .none) w (kind .isBad) op b′ s) s s′ r → Steps kind w period room dropped op b s s′ r
-  repaired {b′} {s′} {r} q e g =
-      let f : Fixes.Fixes kind w period room (marksOf (kind .none) w (kind .isBad) op b s) s s′ r =
-      subst (λ (l : List ℕ). Fixes.Fixes kind w period room (marksOf (kind .none) w (kind .isBad) op l s) s s′ r) e g in
-      record {
-        state = λ k x y. f k x y ∙ ap (λ (c : Run.Class). performOn kind w period room c op b k s x y) q;
-        few = small r f;
-      }
-    where
-      small : (r : Fixed) → Fixes.Fixes kind w period room (marksOf (kind .none) w (kind .isBad) op b s) s s′ r → doneOf r ≤ positions w
-      small (F.Done x y) f = fixes-few kind w period room (marksOf (kind .none) w (kind .isBad) op b s) s s′ x y f .1
-      small F.Marks f = omega arith
+    -- a repair, with its marks from the samples and the body as it is lent
+    pub repaired : {b′ : List ℕ} {s′ : List A} {r : Fixed} → Run.repair ≡ cond dropped Run.unapplied (classOf op) → b′ ≡ b
+        → Fixes.Fixes kind w period room (marksOf (kind .none) w (kind .isBad) op b′ s) s s′ r → Steps kind w period room dropped op b s s′ r
+    repaired {b′} {s′} {r} q e g =
+        let f : Fixes.Fixes kind w period room (marksOf (kind .none) w (kind .isBad) op b s) s s′ r =
+        subst (λ (l : List ℕ). Fixes.Fixes kind w period room (marksOf (kind .none) w (kind .isBad) op l s) s s′ r) e g in
+        record {
+          state = λ k x y. f k x y ∙ ap (λ (c : Run.Class). performOn kind w period room c op b k s x y) q;
+          few = small r f;
+        }
+      where
+        small : (r : Fixed) → Fixes.Fixes kind w period room (marksOf (kind .none) w (kind .isBad) op b s) s s′ r → doneOf r ≤ positions w
+        small (F.Done x y) f = fixes-few kind w period room (marksOf (kind .none) w (kind .isBad) op b s) s s′ x y f .1
+        small F.Marks f = omega arith
 
 -- ---- the list, one opcode at a time
 

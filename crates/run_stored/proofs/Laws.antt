@@ -203,7 +203,8 @@ module _ (w : Window) (period wide : ℕ) (preview : Bool) (room : Room) (list s
       })
 
   kept : t ≡ true → Same s names (u16Out w period preview room list s names)
-  kept f = run-keeps s names u16Kind takes16 skipped16 w period preview room list (not-taken-early (u16Out w period preview room list s names .answer) (told ∙ f))
+  kept f = run-keeps s names u16Kind takes16 skipped16 w period preview room list (not-taken-early (u16Out w period preview room list s names .answer) (told
+      ∙ f))
 
   same-samples : t ≡ true → s′ ≡ s
   same-samples f = ran .left ∙ kept f .samples-same

@@ -132,7 +132,15 @@ fn attempt(
         (record { marks = length (now (marks .entry)) })
         r (now (samples .exit)) (now (names .exit)) (now (marks .exit)) ⌝ }
 {
-    let a = run_window::run_u16(list, &mut *samples, w, period, preview, &mut *marks, &mut *names);
+    let a = run_window::run_u16(
+        list,
+        &mut *samples,
+        w,
+        period,
+        preview,
+        &mut *marks,
+        &mut *names,
+    );
     if is_not_taken(a) {
         let n = samples.len();
         if n <= wide.len() {
@@ -161,7 +169,8 @@ pub fn mend(
     names: &mut [u8],
 ) -> Mended
     ensures { λ r.
-        ⌜ MendsClear (mendOut w period preview (record { marks = length (now (marks .entry)) }) (length (now (wide .entry)))
+        ⌜ MendsClear (mendOut w period preview (record { marks = length (now (marks .entry)) }) (length (now
+        (wide .entry)))
         (now (list .entry)) (now (samples .entry)) (now (names .entry)))
         (record { marks = length (now (marks .entry)) }) (length (now (wide .entry)))
         r (now (samples .exit)) (now (wide .exit)) (now (names .exit)) (now (marks .exit)) ⌝ }
@@ -191,13 +200,7 @@ pub fn numbers(m: Mended) -> Numbers
 }
 
 // The verdict: whether the frame that was mended is whole.
-pub fn is_whole(
-    list: &[u8],
-    full_width: u32,
-    full_height: u32,
-    preview: bool,
-    m: Mended,
-) -> bool
+pub fn is_whole(list: &[u8], full_width: u32, full_height: u32, preview: bool, m: Mended) -> bool
     ensures { λ r. ⌜ r ≡ wholeMended «full_width» «full_height» preview (now (list .entry)) m ⌝ }
 {
     let n = numbers(m);

@@ -105,5 +105,9 @@ pub fn whole_frame(
 ) -> bool
     ensures { λ r. ⌜ r ≡ wholeFrame «full_width» «full_height» preview (now (list .entry)) number ⌝ }
 {
-    if number == 0 { is_whole(list, full_width, full_height, preview) } else { false }
+    if number == 0 {
+        is_whole(list, full_width, full_height, preview)
+    } else {
+        false
+    }
 }

@@ -18,7 +18,8 @@ returns-2 : tie.Need-returns-2
 returns-2 c =
     let b9 = c .before .before .before .before .before .before .before .before .before in
     let a = b9 .before .before .before .before .before .before .before .args in
-    enough (a .w) (a .scale) (a .preview) (a .y) (now (a .list)) (now (a .bytes)) _ (now (a .work)) (c .before .before .before .clear-f322 .last .0) (b9 .row-in .result)
+    enough (a .w) (a .scale) (a .preview) (a .y) (now (a .list)) (now (a .bytes)) _ (now (a .work)) (c .before .before .before .clear-f322 .last .0)
+    (b9 .row-in .result)
     (c .row-numbers .result)
     (b9 .before .before .before .if1 .left) (b9 .row-in .ensures) (c .row-numbers .ensures)
     _ (c .before .before .before .clear-f322 .ensures) (search needs)

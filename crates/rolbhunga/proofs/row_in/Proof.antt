@@ -10,7 +10,8 @@ returns c =
     let b8 = c .before .before .before .before .before .before .before .before in
     let b12 = b8 .before .before .before .before in
     let a = b12 .before .before .before .before .before .before .args in
-    left (a .w) (a .scale) (a .preview) (a .y) (now (a .list)) (now (a .bytes)) _ (now (a .room)) _ _ (b8 .run-row .result) (c .before .before .before .is-row-done .result)
+    left (a .w) (a .scale) (a .preview) (a .y) (now (a .list)) (now (a .bytes)) _ (now (a .room)) _ _ (b8 .run-row .result)
+    (c .before .before .before .is-row-done .result)
     (b12 .decode-f32 .ensures) (b8 .run-row .ensures) (c .before .before .before .is-row-done .ensures) (c .before .before .put-f32 .ensures)
 
 pub row-in-spec : {M : Type 1} → statement M

@@ -32,7 +32,8 @@ loop-holds c =
       omega arith,
       refl,
       ap
-          (λ (l : List Item). rowOn (frameOf g (b3 .args .scale)) (g .x0) (g .planes) (g .y) (now (b3 .args .list)) (keptOf (b3 .args .preview) l) (now (b3 .args .row)))
+          (λ (l : List Item). rowOn (frameOf g (b3 .args .scale)) (g .x0) (g .planes) (g .y) (now (b3 .args .list)) (keptOf (b3 .args .preview) l) (now
+          (b3 .args .row)))
           (begin _ (c .count .ensures)),
     )
 

@@ -28,7 +28,8 @@ returns c =
     let asked = in-room .before .before in
     let run = first asked in
     let s = start run in
-    by-wide (s .args .w) (s .args .period) (length (s .args .wide .now)) (s .args .preview) (room s) (s .args .list .now) (s .args .samples .now) (s .args .names .now)
+    by-wide (s .args .w) (s .args .period) (length (s .args .wide .now)) (s .args .preview) (room s) (s .args .list .now) (s .args .samples .now)
+    (s .args .names .now)
     (run .run-u16 .ensures) (asked .is-not-taken .ensures) (in-room .before .if1 .taken) (in-room .if2 .taken) (wide c .run-wide .ensures)
 
 returns-2 : tie.Need-returns-2
@@ -36,7 +37,8 @@ returns-2 c =
     let asked = c .before .before in
     let run = first asked in
     let s = start run in
-    by-neither (s .args .w) (s .args .period) (length (s .args .wide .now)) (s .args .preview) (room s) (s .args .list .now) (s .args .samples .now) (s .args .names .now)
+    by-neither (s .args .w) (s .args .period) (length (s .args .wide .now)) (s .args .preview) (room s) (s .args .list .now) (s .args .samples .now)
+    (s .args .names .now)
     (run .run-u16 .ensures) (asked .is-not-taken .ensures) (c .before .if1 .taken) (c .if2 .left)
 
 returns-3 : tie.Need-returns-3
@@ -44,7 +46,8 @@ returns-3 c =
     let asked = c .before in
     let run = first asked in
     let s = start run in
-    by-whole (s .args .w) (s .args .period) (length (s .args .wide .now)) (s .args .preview) (room s) (s .args .list .now) (s .args .samples .now) (s .args .names .now)
+    by-whole (s .args .w) (s .args .period) (length (s .args .wide .now)) (s .args .preview) (room s) (s .args .list .now) (s .args .samples .now)
+    (s .args .names .now)
     (run .run-u16 .ensures) (asked .is-not-taken .ensures) (c .if1 .left)
 
 pub attempt-spec : {M : Type 1} → statement M
