@@ -23,6 +23,7 @@ use Rattle.dng.specs.declared.Opcode.{Opcode}
 use Rattle.dng.specs.declared.Opcode.the-variants.{WarpRectilinear, FixVignetteRadial, FixBadPixelsConstant, FixBadPixelsList, TrimBounds, MapTable, MapPolynomial, GainMap, DeltaPerRow, DeltaPerColumn, ScalePerRow, ScalePerColumn, Other}
 use Rattle.dng.specs.declared.Entry.{Entry}
 use Rattle.dng.specs.declared.Answer.the-variants as Ans
+use Rattle.dng.specs.declared.RowAnswer.the-variants as Row
 use Rattle.dng.specs.declared.Reading.{Reading}
 use Rattle.dng.specs.declared.Reading.the-variants as R
 use Rattle.dng.specs.declared.Reason.{Reason}
@@ -30,11 +31,11 @@ use Rattle.dng.specs.declared.Reason.the-variants as Why
 use Rattle.dng.specs.declared.Parsed.{Parsed}
 use Rattle.dng.specs.declared.Parsed.the-variants as P
 use Rattle.dng.specs.List.{Item, reasonNumber, refusal, extent, firstCut, headerFields, vignetteFields, constantFields, badListFields, trimFields, countedFields, gainFields, headerWhy, insideWhy, fieldWhy, whyFrom, whyOf, itemsOf, readingOf, counted, readFrom, stepAt, nextAt, parsedAt, warpAt, vignetteAt, constantAt, trimAt, badListAt, countedAt, polynomialAt, gainAt}
-use Rattle.dng.specs.Select.{onRegion, inWindow, active}
+use Rattle.dng.specs.Select.{onRegion, onRow, inWindow, active}
 use Rattle.dng.specs.Value.{Frame, mapTable, mapPolynomial, horner, nth, delta, scaled, position, mix, lineAt, gainOf, gained, ruleOf}
 use Rattle.dng.specs.Repair.{countBelow, complete, pointAt, rectAt, badValue, marksOf, moved, sound, tallyOn, tallyAt, repairAt, soundOn, markedIn, repairedIn, leftIn}
-use Rattle.dng.specs.Run.{keptOf, f32Kind, namesOf, takes16On, takes16From, repairOn, performAll, Room}
-use Rattle.dng.specs.Answer.{Out, numbersOf, readingNumbersOf, rowNumbersOf, inRange, rowInRange, ranOn, runOut, u16Out, rowOut}
+use Rattle.dng.specs.Run.{keptOf, f32Kind, namesOf, takes16On, takes16From, takesRows, repairOn, performAll, rowOn, Room}
+use Rattle.dng.specs.Answer.{Out, RowOut, numbersOf, readingNumbersOf, rowNumbersOf, inRange, rowInRange, ranOn, runOut, f32Out, u16Out, rowOut}
 use Rattle.dng.specs.Frames.{words, whole, frame, room, constant, entry, listOf, out}
 
 -- the bytes of f64 and of f32 values 1, 2, 3, 4, and of u16 entries
@@ -608,13 +609,31 @@ three = 10 ∷ 0 ∷ 19 ∷ []
 abbrev shown : (preview : Bool) → ℕ → List (List ℕ) → Out ℕ
 shown preview n es = u16Out (frame 3 1) 1 preview (marks n) (listOf es) three (9 ∷ [])
 
+-- a table of the one entry 5 over the first sample, to be skipped for a preview
+abbrev flaggedTable : List ℕ
+flaggedTable = words (7 ∷ 16973824 ∷ 2 ∷ 38 ∷ 0 ∷ 0 ∷ 1 ∷ 1 ∷ 0 ∷ 1 ∷ 1 ∷ 1 ∷ 1 ∷ []) ++ (0 ∷ 5 ∷ [])
+
+-- of f32, one sample: a run with a skip buffer of one byte, and a row
+abbrev shown32 : (preview : Bool) → List (List ℕ) → Out Float
+shown32 preview es =
+    f32Out (frame 1 1) (record { period = 1; scale = whole 1; preview = preview }) room (listOf es) (whole 3 ∷ [])
+    (9 ∷ [])
+
+abbrev shownRow : (preview : Bool) → List (List ℕ) → RowOut
+shownRow preview es =
+    rowOut (record { width = 1; planes = 1; x0 = 0; «full_width» = 1; «full_height» = 1 }) (whole 1) preview 0
+    (listOf es) (whole 3 ∷ [])
+
 pub record Previews : Type 0 where
-  -- two repairs are too many for the whole-number form; one of them is left out, but not for bit 0
+  -- two repairs are too many for the whole-number form; one of them is left out, but not for bit 0, nor for bit 2
   pub all : shown false 8 (constant 0 ∷ constantWith 2 10 ∷ []) ≡ out Ans.NotTaken three (9 ∷ [])
   pub one : shown true 8 (constant 0 ∷ constantWith 2 10 ∷ []) ≡ out (Ans.Done 0 1 0) (10 ∷ 15 ∷ 19 ∷ []) (9 ∷ [])
   pub both-bits : shown true 8 (constantWith 3 10 ∷ constant 0 ∷ [])
       ≡ out (Ans.Done 0 1 0) (10 ∷ 15 ∷ 19 ∷ []) (9 ∷ [])
+  pub all-bits : shown true 8 (constantWith 4294967295 10 ∷ constant 0 ∷ [])
+      ≡ out (Ans.Done 0 1 0) (10 ∷ 15 ∷ 19 ∷ []) (9 ∷ [])
   pub optional : shown true 8 (constant 0 ∷ constantWith 1 10 ∷ []) ≡ out Ans.NotTaken three (9 ∷ [])
+  pub third-bit : shown true 8 (constant 0 ∷ constantWith 4 10 ∷ []) ≡ out Ans.NotTaken three (9 ∷ [])
   -- names are those of what is left
   pub names : shown true 8 (flagged 2 ∷ entry 6 (words (0 ∷ 0 ∷ 0 ∷ 0 ∷ [])) ∷ []) ≡ out (Ans.Done 1 0 0) three (6 ∷ [])
   pub names-all : shown false 8 (flagged 2 ∷ entry 6 (words (0 ∷ 0 ∷ 0 ∷ 0 ∷ [])) ∷ [])
@@ -624,23 +643,41 @@ pub record Previews : Type 0 where
   -- nothing is left
   pub none : shown true 0 (constantWith 2 0 ∷ []) ≡ out (Ans.Done 0 0 0) three (9 ∷ [])
   -- an entry that would be left out is read all the same
-  pub malformed : shown true 8 (words (4 ∷ 16973824 ∷ 2 ∷ 0 ∷ []) ∷ []) ≡ out (Ans.Malformed 0
-      (refusal Why.Inside 20)) three (9 ∷ [])
+  pub malformed : shown true 8 (words (4 ∷ 16973824 ∷ 2 ∷ 0 ∷ []) ∷ [])
+      ≡ out (Ans.Malformed 0 (refusal Why.Inside 20)) three (9 ∷ [])
+  -- entries are numbered in the whole list too
+  pub malformed-second : shown true 8 (flagged 2 ∷ entry 4 [] ∷ [])
+      ≡ out (Ans.Malformed 1 (refusal Why.Inside 36)) three (9 ∷ [])
+  -- the f32 run: a table is left out, a name is what is left
+  pub f32 : shown32 true (flaggedTable ∷ flagged 2 ∷ flagged 1 ∷ []) ≡ out (Ans.Done 1 0 0) (whole 3 ∷ []) (2 ∷ [])
+  pub f32-all : shown32 false (flagged 2 ∷ flagged 1 ∷ []) ≡ out Ans.Names (whole 3 ∷ []) (9 ∷ [])
+  -- a row: a repair is left out, so that the row form takes the list; a table is; what is left is counted
+  pub row : shownRow true (constantWith 2 3 ∷ flaggedTable ∷ flagged 2 ∷ flagged 1 ∷ [])
+      ≡ record { answer = Row.Done 1; row = whole 3 ∷ [] }
+  pub row-all : shownRow false (constantWith 2 3 ∷ []) ≡ record { answer = Row.NotTaken; row = whole 3 ∷ [] }
 
 pub previews : Previews
 unfolding big firstCut insideWhy whyFrom whyOf each roundHeld readingOf itemsOf counted readFrom stepAt nextAt parsedAt
     vignetteAt constantAt trimAt inWindow active countBelow complete badValue marksOf moved sound tallyOn repairAt
-    soundOn markedIn repairedIn leftIn keptOf namesOf takes16On takes16From repairOn performAll inRange ranOn runOut
-    ofInt round units odd trailingZeros size span climb add sum div
+    soundOn markedIn repairedIn leftIn keptOf namesOf takes16On takes16From takesRows repairOn performAll rowOn inRange
+    rowInRange ranOn runOut rowOut countedAt onRow onRegion selects onColumns mapTable ofInt round units odd
+    trailingZeros size span climb add sum mul div
 previews =
     record {
       all = refl;
       one = refl;
       both-bits = refl;
+      all-bits = refl;
       optional = refl;
+      third-bit = refl;
       names = refl;
       names-all = refl;
       number = refl;
       none = refl;
       malformed = refl;
+      malformed-second = refl;
+      f32 = refl;
+      f32-all = refl;
+      row = refl;
+      row-all = refl;
     }

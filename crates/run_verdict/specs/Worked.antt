@@ -40,6 +40,13 @@ vignette flags =
 abbrev corner : List ℕ
 corner = with 3 0 56 (words (0 ∷ 0 ∷ 0 ∷ 0 ∷ 0 ∷ 0 ∷ 0 ∷ 0 ∷ 0 ∷ 0 ∷ 0 ∷ 0 ∷ 0 ∷ 0 ∷ []))
 
+-- about no centre, cx a NaN; and about one that is too far away unless the width is 0, cx 2^1000
+abbrev centreless : List ℕ
+centreless = with 3 0 56 (words (0 ∷ 0 ∷ 0 ∷ 0 ∷ 0 ∷ 0 ∷ 0 ∷ 0 ∷ 0 ∷ 0 ∷ 0x7ff8_0000 ∷ 0 ∷ 0 ∷ 0 ∷ []))
+
+abbrev far : List ℕ
+far = with 3 0 56 (words (0 ∷ 0 ∷ 0 ∷ 0 ∷ 0 ∷ 0 ∷ 0 ∷ 0 ∷ 0 ∷ 0 ∷ 0x7e70_0000 ∷ 0 ∷ 0 ∷ 0 ∷ []))
+
 -- of a frame of 2 by 2 whose run answered 0
 abbrev whole : (preview : Bool) → List (List ℕ) → Bool
 whole preview es = wholeFrame 2 2 preview (listOf es) 0
@@ -67,6 +74,10 @@ pub record Worked : Type 0 where
   pub no-size : wholeFrame 0 0 false (listOf (vignette 0 ∷ [])) 0 ≡ false
   pub no-size-optional : wholeFrame 0 0 false (listOf (vignette 1 ∷ [])) 0 ≡ true
   pub flat : wholeFrame 7 0 false (listOf (corner ∷ [])) 0 ≡ true
+  -- an unusable centre; width and height are not exchanged
+  pub no-centre : whole false (centreless ∷ []) ≡ false
+  pub far-away : wholeFrame 1 0 false (listOf (far ∷ [])) 0 ≡ false
+  pub no-width : wholeFrame 0 1 false (listOf (far ∷ [])) 0 ≡ true
 
 pub worked : Worked
 unfolding wholeItems big itemsOf counted readFrom stepAt nextAt parsedAt vignetteAt constantAt trimAt countedAt usable
@@ -90,4 +101,7 @@ worked =
       no-size = refl;
       no-size-optional = refl;
       flat = refl;
+      no-centre = refl;
+      far-away = refl;
+      no-width = refl;
     }
