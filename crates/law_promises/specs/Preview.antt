@@ -45,8 +45,7 @@ pub record Without : Type 1 where
 pub record As-before : Type 1 where
   pub kept : (is : List Item) → keptOf false is ≡ is
   pub performed : (A : Type 0) (kind : Kind A) (w : Window) (period : ℕ) (room : Room) (list : List ℕ) (k : ℕ)
-      (i : Item)
-      (is : List Item) (g : Progress A)
+      (i : Item) (is : List Item) (g : Progress A)
       → performAll kind w period room false list k (i ∷ is) g
       ≡ performAll kind w period room false list (suc k) is (perform kind w period room list i k g)
 

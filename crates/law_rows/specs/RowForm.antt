@@ -72,8 +72,8 @@ pub record RowForm (w : Window) (set : Settings) (room : Room) (list : List ℕ)
       → rowOut (rowWindowOf w) (set .scale) (set .preview) (w .y0 + y) list (rowPart w y t) .answer
       ≡ Row.Done (length (namesOf skipped (keptIn (set .preview) list)))
   -- and so does the run, with nothing repaired and nothing left
-  pub run : f32Out w set room list s names .answer ≡ Ans.Done (length (namesOf skipped (keptIn
-      (set .preview) list))) 0 0
+  pub run : f32Out w set room list s names .answer
+      ≡ Ans.Done (length (namesOf skipped (keptIn (set .preview) list))) 0 0
   pub samples : allRows w (set .scale) (set .preview) list ys s ≡ f32Out w set room list s names .samples
 
 -- when it does

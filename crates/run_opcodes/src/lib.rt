@@ -58,8 +58,8 @@ fn one_f32(
     ensures { λ r.
         ⌜ Steps (f32Kind (frameOf w (set .scale))) w (set .period)
         (record { marks = length (now (marks .entry)) })
-        (set .preview && previewOf e) op (bodyOf (now (list .entry)) e) (now (samples .entry)) (now
-        (samples .exit)) r ⌝ }
+        (set .preview && previewOf e) op (bodyOf (now (list .entry)) e) (now (samples .entry)) (now (samples .exit)) r
+        ⌝ }
 {
     match list_classes::class_in(op, list_entries::dropped(e, set.preview)) {
         Class::Table => step_f32(list, samples, w, set.scale, e, op),

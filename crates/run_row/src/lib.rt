@@ -218,7 +218,8 @@ fn perform(list: &[u8], row: &mut [f32], g: Place, width: usize, scale: f32, pre
     }
 }
 
-// Runs a list on a row, the row y of the image, as the f32 run would: 1, 2 or 3 in this order leave the row as it is.
+// Runs a list on a row, the row y of the image, as the f32 run would: 1, 20 to 25 and 3, in this order, leave the row
+// as it is.
 pub fn run_row(
     list: &[u8],
     row: &mut [f32],

@@ -169,9 +169,8 @@ pub fn mend(
     names: &mut [u8],
 ) -> Mended
     ensures { λ r.
-        ⌜ MendsClear (mendOut w period preview (record { marks = length (now (marks .entry)) }) (length (now
-        (wide .entry)))
-        (now (list .entry)) (now (samples .entry)) (now (names .entry)))
+        ⌜ MendsClear (mendOut w period preview (record { marks = length (now (marks .entry)) })
+        (length (now (wide .entry))) (now (list .entry)) (now (samples .entry)) (now (names .entry)))
         (record { marks = length (now (marks .entry)) }) (length (now (wide .entry)))
         r (now (samples .exit)) (now (wide .exit)) (now (names .exit)) (now (marks .exit)) ⌝ }
 {
