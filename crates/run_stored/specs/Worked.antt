@@ -19,9 +19,10 @@ use Rattle.dng.specs.Repair.{anyBelow, countBelow, complete, badValue, marksOf,
 use Rattle.dng.specs.Run.{keptOf, namesOf, takes16On, takes16From, repairOn, performAll, Room}
 use Rattle.dng.specs.Answer.{inRange, ranOn, runOut}
 use Rattle.dng.specs.Frames.{words, entry}
+use Rattle.run_verdict.specs.Verdict.{wholeItems}
 use Rattle.run_stored.specs.declared.Mended.{Mended}
 use Rattle.run_stored.specs.declared.Mended.the-variants.{Whole, Widened, NoRoom}
-use Rattle.run_stored.specs.Mend.{MendOut, heldIn, mendOut, heldAbove}
+use Rattle.run_stored.specs.Mend.{MendOut, wholeMended, heldIn, mendOut, heldAbove}
 
 abbrev constant : ℕ → List ℕ
 constant c = entry 4 (words (c ∷ 0 ∷ []))
@@ -76,6 +77,9 @@ pub record Worked : Type 0 where
   pub full :
       mendOut (frame 3) 1 false (record { marks = 0 }) 3 (words (2 ∷ []) ++ (halved ++ constant 0)) (1 ∷ 0 ∷ 5 ∷ []) []
       ≡ out (Widened (Ans.Marks 1) 0) (1 ∷ 0 ∷ 3 ∷ [])
+  -- the verdict goes by the number: mended by a list of no entries, and not mended for lack of room
+  pub mended-whole : wholeMended 1 1 false (words (0 ∷ [])) (Whole (Ans.Done 0 0 0)) ≡ true
+  pub no-room-not-whole : wholeMended 1 1 false (words (0 ∷ [])) NoRoom ≡ false
   -- at 65535 the one that was held to it; at 200 two, of which one was held to 65535 first; 65600.0, 300.0 and 7.0 by
   -- their bits
   pub above-last : heldAbove 65535 (ofBits binary32 0x4780_2000 ∷ []) ≡ 1
@@ -83,9 +87,9 @@ pub record Worked : Type 0 where
       []) ≡ 2
 
 pub worked : Worked
-unfolding mendOut heldIn heldAbove big each selects onColumns roundHeld readingOf itemsOf whyOf counted readFrom stepAt
-    nextAt parsedAt constantAt countedAt onRegion onWindow inWindow active wholePixel nth scaled anyBelow countBelow
-    complete badValue marksOf moved sound tallyOn repairAt soundOn markedIn repairedIn leftIn keptOf namesOf takes16On
+unfolding wholeItems mendOut heldIn heldAbove big each selects onColumns roundHeld readingOf itemsOf whyOf counted
+    readFrom stepAt nextAt parsedAt constantAt countedAt onRegion onWindow inWindow active wholePixel nth scaled anyBelow
+    countBelow complete badValue marksOf moved sound tallyOn repairAt soundOn markedIn repairedIn leftIn keptOf namesOf takes16On
     takes16From repairOn performAll inRange ranOn runOut ofBits ofFields odd trailingZeros ofInt round units size span
     climb mul div add eq
 worked = record {
@@ -97,6 +101,8 @@ worked = record {
   malformed = refl;
   preview = refl;
   full = refl;
+  mended-whole = refl;
+  no-room-not-whole = refl;
   above-last = refl;
   above = refl;
 }
