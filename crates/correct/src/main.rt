@@ -271,6 +271,20 @@ fn window_of(width: usize, height: usize) -> Window {
     }
 }
 
+// A side of a frame, which is at most 65,536; the run refuses one that is longer.
+fn side(n: usize) -> u32 {
+    if n <= 65536 { n as u32 } else { 65537 }
+}
+
+fn whole_mended(list: &[u8], width: usize, height: usize, preview: bool, m: Mended) -> bool {
+    run_stored::is_whole(list, side(width), side(height), preview, m)
+}
+
+fn whole_run(list: &[u8], width: usize, height: usize, preview: bool, a: Answer) -> bool {
+    let n = run_answers::numbers(a);
+    run_verdict::whole_frame(list, side(width), side(height), preview, n.number)
+}
+
 // A refusal is printed and nothing is written; otherwise the frame is, and then the answer with the verdict.
 fn finish(
     out: usize,
@@ -328,7 +342,7 @@ fn mend_raster(
         marks,
         &mut names,
     );
-    let whole = run_stored::is_whole(list, width as u32, height as u32, preview, m);
+    let whole = whole_mended(list, width, height, preview, m);
     match m {
         Mended::Whole { answer } => {
             finish(
@@ -423,6 +437,24 @@ fn mend_file(
 
 // ---- a raw frame of f32
 
+fn finish_raw(
+    out: usize,
+    a: Answer,
+    names: &[u8],
+    whole: bool,
+    samples: &[f32],
+    raster: &mut [u8],
+) {
+    if is_done(a) {
+        say_pgm::encode_f32(samples, &mut *raster);
+        if write_frame(out, b"", raster) {
+            print_answer(a, Form::Float, names, 0, whole);
+        }
+    } else {
+        print_answer(a, Form::Float, names, 0, whole);
+    }
+}
+
 fn run_raw(
     out: usize,
     period: usize,
@@ -443,16 +475,8 @@ fn run_raw(
         preview,
     };
     let a = run_window::run_f32(list, &mut *samples, w, set, marks, &mut names);
-    let n = run_answers::numbers(a);
-    let whole = run_verdict::whole_frame(list, width as u32, height as u32, preview, n.number);
-    if is_done(a) {
-        say_pgm::encode_f32(samples, &mut *raster);
-        if write_frame(out, b"", raster) {
-            print_answer(a, Form::Float, &names, 0, whole);
-        }
-    } else {
-        print_answer(a, Form::Float, &names, 0, whole);
-    }
+    let whole = whole_run(list, width, height, preview, a);
+    finish_raw(out, a, &names, whole, samples, raster);
 }
 
 fn run_raw_file(

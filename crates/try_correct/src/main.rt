@@ -99,6 +99,20 @@ fn window_of(width: usize, height: usize) -> Window {
     }
 }
 
+// A side of a frame, which is at most 65,536; the run refuses one that is longer.
+fn side(n: usize) -> u32 {
+    if n <= 65536 { n as u32 } else { 65537 }
+}
+
+fn whole_mended(list: &[u8], width: usize, height: usize, preview: bool, m: Mended) -> bool {
+    run_stored::is_whole(list, side(width), side(height), preview, m)
+}
+
+fn whole_run(list: &[u8], width: usize, height: usize, preview: bool, a: Answer) -> bool {
+    let n = run_answers::numbers(a);
+    run_verdict::whole_frame(list, side(width), side(height), preview, n.number)
+}
+
 // ---- the numbers of a case
 
 struct Setup {
@@ -165,7 +179,7 @@ fn mend_raster(
         &mut names[0..c],
     );
     let over = say_pgm::encode(samples, maxval, &mut *raster);
-    let whole = run_stored::is_whole(list, width as u32, height as u32, t.preview, m);
+    let whole = whole_mended(list, width, height, t.preview, m);
     print_mended(m, &names, maxval, over, whole);
     print_samples(samples);
     print_bytes(raster);
@@ -218,8 +232,7 @@ fn run_raw(list: &[u8], raster: &mut [u8], samples: &mut [f32], preview: bool) {
         preview,
     };
     let a = run_window::run_f32(list, &mut *samples, w, set, &mut marks, &mut names);
-    let n = run_answers::numbers(a);
-    let whole = run_verdict::whole_frame(list, 3, 1, preview, n.number);
+    let whole = whole_run(list, 3, 1, preview, a);
     print_answer(a, Form::Float, &names, 0, whole);
     say_pgm::encode_f32(samples, &mut *raster);
     print_bytes(raster);
