@@ -1,4 +1,4 @@
-// The ranges of document 01, the papers' number for each answer, and the verdict.
+// The ranges of document 01, and the papers' number for each answer.
 use dng::Answer;
 use dng::Numbers;
 use dng::Reading;
