@@ -11,3 +11,4 @@ pub mod Worked
 -- document 02
 pub mod TileCalls
 pub mod Preview
+pub mod Numbers

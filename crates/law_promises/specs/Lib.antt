@@ -1,3 +1,4 @@
 pub mod Promises
 pub mod TileCalls
 pub mod Preview
+pub mod Numbers
