@@ -24,6 +24,11 @@ OTHER = {
     "getD-from": "get_or-from",
     "getD-map-in": "get_or-map-in",
     "floor-2·75": "floor-2_75",
+    # theorems beside a type of the same words
+    "Row-form": "RowFormHolds",
+    "Whole-form": "WholeFormHolds",
+    "Row-calls": "RowCallsHold",
+    "Tile-calls": "TileCallsHold",
     # definitions, and so in snake case whole
     "second-cut": "second_cut",
     "minus-zero": "minus_zero",

@@ -1,6 +1,6 @@
 -- What comes back: the ranges, the order of the refusals, and what each answer leaves. Document 01, 'Taken and left'
 -- and 'What comes back'.
-use Rattle.std.specs.Prelude.{ℕ, ◌*◌, Bool, true, false, ◌&&◌, cond, List, ◌++◌, ◌≡◌, leb, Float, length, drop, replicate}
+use Rattle.std.specs.Prelude.{ℕ, ◌*◌, Bool, true, ◌&&◌, cond, List, ◌++◌, ◌≡◌, leb, Float, length, drop, replicate}
 use Rattle.dng.specs.declared.Window.{Window}
 use Rattle.dng.specs.declared.RowWindow.{RowWindow}
 use Rattle.dng.specs.declared.Settings.{Settings}
@@ -13,7 +13,7 @@ use Rattle.dng.specs.declared.Refusal.{Refusal}
 use Rattle.dng.specs.declared.Reading.{Reading}
 use Rattle.dng.specs.declared.Reading.TheVariants as R
 use Rattle.dng.specs.List.{Item, reason_number, reading_of, items_of}
-use Rattle.dng.specs.Value.{Frame, one}
+use Rattle.dng.specs.Value.{Frame}
 use Rattle.dng.specs.Run.{kept_in, Kind, f32_kind, u16_kind, Class, skipped, skipped16, takes16, takes_rows, names_of, Progress, going, marks_full, Room, perform_all, row_on}
 
 -- ---- the ranges

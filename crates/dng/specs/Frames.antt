@@ -1,14 +1,13 @@
 -- The bench frames P1 to P12 of document 01, 'Bench frames', as one table over the definitions. `bench`, at the end, is
 -- the one statement.
 -- The reasons of P1, P2 and P12 are document 02's, M-100.
-use Rattle.std.specs.Prelude.{ℕ, zero, suc, ◌+◌, ◌*◌, ◌/◌, ◌%◌, ◌^◌, ◌≡◌, refl, Bool, true, false, List, [], ◌∷◌, ◌++◌, map, Float, pos, negsuc, length, replicate}
-use Rattle.std.specs.Float.{binary32, fin, nan, inf}
-use Rattle.std.specs.Float.Ieee.{of_int, of_bits, round, mul, div, add, eq, units, odd, size, span, climb}
+use Rattle.std.specs.Prelude.{ℕ, ◌/◌, ◌%◌, ◌≡◌, refl, false, List, [], ◌∷◌, ◌++◌, map, Float, pos, negsuc, length, replicate}
+use Rattle.std.specs.Float.{binary32, fin}
+use Rattle.std.specs.Float.Ieee.{of_int, round, mul, div, add, eq, units, odd, size, span, climb}
 use Rattle.num_words.specs.Words.{big}
 use Rattle.pointwise.specs.Points.{each}
 use Rattle.pointwise.specs.Select.{selects, on_columns}
 use Rattle.num_round.specs.Whole.{round_held}
-use Rattle.num_convert.specs.Convert.{whole_in}
 use Rattle.dng.specs.declared.Region.{Region}
 use Rattle.dng.specs.declared.Window.{Window}
 use Rattle.dng.specs.declared.Opcode.TheVariants.{WarpRectilinear, FixBadPixelsList}
@@ -18,7 +17,7 @@ use Rattle.dng.specs.declared.RowAnswer.TheVariants as Row
 use Rattle.dng.specs.declared.Reading.TheVariants as R
 use Rattle.dng.specs.declared.Reason.TheVariants as Why
 use Rattle.dng.specs.List.{Item, refusal, extent, first_cut, header_why, inside_why, field_why, why_from, why_of, reading_of, items_of, counted, read_from, step_at, next_at, parsed_at, warp_at, vignette_at, constant_at, trim_at, polynomial_at, counted_at, gain_at, bad_list_at, half}
-use Rattle.dng.specs.Select.{on_region, on_window, on_row, in_window, active, whole_pixel}
+use Rattle.dng.specs.Select.{on_region, on_window, in_window, active, whole_pixel}
 use Rattle.dng.specs.Value.{map_table, map_table16}
 use Rattle.dng.specs.Repair.{any_below, count_below, complete, point_at, rect_at, listed, bad_value, marks_of, moved, sound, tally_on, repair_at, sound_on, marked_in, repaired_in, left_in}
 use Rattle.dng.specs.Run.{kept_of, names_of, takes16_on, takes16_from, takes_rows, repair_on, perform_all, row_on, Room}

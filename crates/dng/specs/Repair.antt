@@ -1,7 +1,7 @@
 -- The repairs, FixBadPixelsConstant and FixBadPixelsList, over any sample kind A. Document 01, 'What each does to a
 -- value', Repair.
 -- A repair is defined from the samples at its start, all at once. A position q of the window is y·width + x.
-use Rattle.std.specs.Prelude.{ℕ, zero, suc, ◌+◌, ◌-◌, ◌*◌, ◌/◌, ◌%◌, max, Bool, true, false, not, ◌&&◌, ◌||◌, cond, List, [], ◌∷◌, leb, ltb, eqb, ℤ, pos, negsuc, Float, length, get_or}
+use Rattle.std.specs.Prelude.{ℕ, zero, suc, ◌+◌, ◌-◌, ◌*◌, ◌/◌, ◌%◌, max, Bool, false, not, ◌&&◌, ◌||◌, cond, List, [], ◌∷◌, leb, ltb, eqb, ℤ, pos, negsuc, Float, length, get_or}
 use Rattle.std.specs.Float.{binary32}
 use Rattle.std.specs.Float.Ieee.{add, div}
 use Rattle.num_convert.specs.Convert.{whole_in}

@@ -1,7 +1,7 @@
 -- A list as a program: what a preview leaves out, the forms, what each skips, and the run, opcode by opcode over the
 -- whole window. Document 01, 'What comes back' and the last paragraph of 'What each does to a value'; document 02,
 -- M-111.
-use Rattle.std.specs.Prelude.{ℕ, zero, suc, ◌+◌, ◌*◌, max, Bool, true, false, not, ◌&&◌, ◌||◌, cond, List, [], ◌∷◌, leb, ltb, eqb, Float, length}
+use Rattle.std.specs.Prelude.{ℕ, suc, ◌+◌, Bool, true, false, ◌&&◌, cond, List, [], ◌∷◌, leb, eqb, Float, length}
 use Rattle.std.specs.Float.{binary32, nan}
 use Rattle.std.specs.Float.Ieee.{div, eq}
 use Rattle.pointwise.specs.Points.{each}

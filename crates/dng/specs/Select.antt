@@ -1,5 +1,5 @@
 -- Which samples an opcode touches. Document 01, 'Which samples an opcode touches'. Over any sample kind A.
-use Rattle.std.specs.Prelude.{ℕ, ◌+◌, ◌-◌, ◌*◌, ◌/◌, ◌%◌, Bool, ◌&&◌, cond, leb, ltb}
+use Rattle.std.specs.Prelude.{ℕ, ◌+◌, ◌*◌, ◌/◌, ◌%◌, Bool, ◌&&◌, cond, leb, ltb}
 use Rattle.pointwise.specs.Select.{selects, on_columns}
 use Rattle.dng.specs.declared.Region.{Region}
 use Rattle.dng.specs.declared.Window.{Window}

@@ -2,7 +2,7 @@
 -- order written; none is fused.
 -- b is the opcode's body: a region takes its first 32 bytes, so tables, coefficients, deltas and scales start at 36,
 -- gains at 76.
-use Rattle.std.specs.Prelude.{ℕ, zero, suc, ◌+◌, ◌-◌, ◌*◌, ◌/◌, min, max, Bool, true, false, ◌&&◌, cond, List, ltb, eqb, pos, Float}
+use Rattle.std.specs.Prelude.{ℕ, zero, suc, ◌+◌, ◌-◌, ◌*◌, ◌/◌, min, max, Bool, false, ◌&&◌, cond, List, ltb, eqb, pos, Float}
 use Rattle.std.specs.Float.{inf, fin, binary32, binary64}
 use Rattle.std.specs.Float.Ieee.{of_bits, add, sub, mul, div, lt}
 use Rattle.num_words.specs.Words.{big}

@@ -1,7 +1,7 @@
 -- Worked values of the definitions, which the checker computes: one for each layout of a body, and one for each rule
 -- where a slip would show.
-use Rattle.std.specs.Prelude.{ℕ, zero, suc, ◌+◌, ◌*◌, ◌/◌, ◌%◌, ◌^◌, ◌≡◌, refl, Bool, true, false, ◌&&◌, cond, eqb, List, [], ◌∷◌, ◌++◌, map, Float, pos, negsuc, length, replicate}
-use Rattle.std.specs.Float.{binary32, binary64, fin, nan, inf}
+use Rattle.std.specs.Prelude.{ℕ, ◌≡◌, refl, Bool, true, false, ◌&&◌, cond, eqb, List, [], ◌∷◌, ◌++◌, map, Float, pos, negsuc, length, replicate}
+use Rattle.std.specs.Float.{binary64, fin, nan, inf}
 use Rattle.std.specs.Float.Ieee.{of_int, of_bits, of_fields, round, mul, div, add, sub, neg, sum, eq, lt, units, odd, size, span, climb, to_unsigned}
 use Rattle.std.specs.Int.Count.{count_trailing_zeros}
 use Rattle.num_words.specs.Words.{big}
@@ -9,12 +9,11 @@ use Rattle.pointwise.specs.Points.{each}
 use Rattle.pointwise.specs.Select.{selects, on_columns}
 use Rattle.num_narrow.specs.Narrow.{narrow}
 use Rattle.num_round.specs.Whole.{round_held}
-use Rattle.num_convert.specs.Convert.{whole_in, held_to}
+use Rattle.num_convert.specs.Convert.{held_to}
 use Rattle.dng.specs.declared.Region.{Region}
 use Rattle.dng.specs.declared.Window.{Window}
 use Rattle.dng.specs.declared.RowWindow.{RowWindow}
 use Rattle.dng.specs.declared.Numbers.{Numbers}
-use Rattle.dng.specs.declared.Opcode.{Opcode}
 use Rattle.dng.specs.declared.Opcode.TheVariants.{WarpRectilinear, FixVignetteRadial, FixBadPixelsConstant, FixBadPixelsList, TrimBounds, MapTable, MapPolynomial, GainMap, DeltaPerRow, DeltaPerColumn, ScalePerRow, ScalePerColumn, Other}
 use Rattle.dng.specs.declared.Entry.{Entry}
 use Rattle.dng.specs.declared.Answer.TheVariants as Ans

@@ -1,9 +1,10 @@
 // The types that every layer shares, and with them the paper: the definitions in specs/ that the contracts of all other
 // crates cite.
 // Words are kept as the list has them (a pitch of 0 stays 0 here); what a 0 means is said where it is used.
+#![tactic(auto)]
 
 // The area and the planes that an opcode touches. Document 01, 'The list'.
-#[derive(Drop)]
+#[derive(Clone, Copy)]
 pub struct Region {
     pub top: u32,
     pub left: u32,
@@ -16,7 +17,7 @@ pub struct Region {
 }
 
 // Where the points of a gain map lie: one record of four f64.
-#[derive(Drop)]
+#[derive(Clone, Copy)]
 pub struct Grid {
     pub spacing_v: f64,
     pub spacing_h: f64,
@@ -25,7 +26,7 @@ pub struct Grid {
 }
 
 // The seven numbers of FixVignetteRadial.
-#[derive(Drop)]
+#[derive(Clone, Copy)]
 pub struct Radial {
     pub k0: f64,
     pub k1: f64,
@@ -38,7 +39,7 @@ pub struct Radial {
 
 // An opcode's header fields. What a count counts stands in the body, which is kept beside the opcode as a part of the
 // lent list.
-#[derive(Drop)]
+#[derive(Clone, Copy)]
 pub enum Opcode {
     // `planes` is 0 where the body is malformed. Reported, never applied.
     WarpRectilinear {
@@ -137,7 +138,7 @@ impl Opcode {
 }
 
 // An entry of a list: its header words as they stand, and where its body lies in the list.
-#[derive(Drop)]
+#[derive(Clone, Copy)]
 pub struct Entry {
     pub at: usize,
     pub len: usize,
@@ -147,13 +148,13 @@ pub struct Entry {
 }
 
 // A position in the lent list.
-#[derive(Drop)]
+#[derive(Clone, Copy)]
 pub struct Cursor {
     pub at: usize,
 }
 
 // Why a list is refused. The paper's number of each: specs/List, reason_number.
-#[derive(Drop)]
+#[derive(Clone, Copy)]
 pub enum Reason {
     // the list ends in its count or in an entry's header
     Ends,
@@ -170,28 +171,28 @@ pub enum Reason {
 }
 
 // Why, and the offset of the field that could not be read or accepted, from the list's first byte.
-#[derive(Drop)]
+#[derive(Clone, Copy)]
 pub struct Refusal {
     pub reason: Reason,
     pub at: usize,
 }
 
 // What stands at a cursor: an entry's header, with the cursor past its body, or nothing that can be read.
-#[derive(Drop)]
+#[derive(Clone, Copy)]
 pub enum Next {
     Found { entry: Entry, next: Cursor },
     Malformed { why: Refusal },
 }
 
 // What an entry's body is read as.
-#[derive(Drop)]
+#[derive(Clone, Copy)]
 pub enum Parsed {
     Read { op: Opcode },
     Malformed { why: Refusal },
 }
 
 // An entry read whole, header and body, with the cursor past it; or a malformed one.
-#[derive(Drop)]
+#[derive(Clone, Copy)]
 pub enum Step {
     Item {
         entry: Entry,
@@ -204,7 +205,7 @@ pub enum Step {
 }
 
 // What reading a whole list answers.
-#[derive(Drop)]
+#[derive(Clone, Copy)]
 pub enum Reading {
     Whole { opcodes: usize },
     Malformed { after: usize, why: Refusal },
@@ -213,7 +214,7 @@ pub enum Reading {
 // The window of a frame that a run changes: `width` by `height` pixels of `planes` samples, rows `stride` pixels apart,
 // its corner at (x0, y0) of an image of full_width by full_height.
 #[repr(C)]
-#[derive(Drop)]
+#[derive(Clone, Copy)]
 pub struct Window {
     pub width: usize,
     pub height: usize,
@@ -235,7 +236,7 @@ impl Window {
 
 // The row form's window: a row has no height, no stride and no y0 of its own.
 #[repr(C)]
-#[derive(Drop)]
+#[derive(Clone, Copy)]
 pub struct RowWindow {
     pub width: usize,
     pub planes: usize,
@@ -251,7 +252,7 @@ impl RowWindow {
 // What a run is told besides the list and the window. The whole-number form counts the scale as 1. A preview leaves out
 // the opcodes whose flag says that it may.
 #[repr(C)]
-#[derive(Drop)]
+#[derive(Clone, Copy)]
 pub struct Settings {
     pub period: usize,
     pub scale: f32,
@@ -263,7 +264,7 @@ impl Settings {
 }
 
 // What a run answers. The paper's number and values of each case: specs/Answer.
-#[derive(Drop)]
+#[derive(Clone, Copy)]
 pub enum Answer {
     Done {
         names: usize,
@@ -283,7 +284,7 @@ pub enum Answer {
 }
 
 // What a row call answers. It names no opcode; `skipped` is how many of the list's the f32 run would name.
-#[derive(Drop)]
+#[derive(Clone, Copy)]
 pub enum RowAnswer {
     Done { skipped: usize },
     Range,
@@ -293,7 +294,7 @@ pub enum RowAnswer {
 
 // Document 01's table, 'What comes back', as numbers, with document 02's offset.
 #[repr(C)]
-#[derive(Drop)]
+#[derive(Clone, Copy)]
 pub struct Numbers {
     pub number: u32,
     pub entry: usize,

@@ -2,19 +2,19 @@
 -- window's. Assumes nothing.
 use Prim.Native.Nat.{ℕ, zero, suc, ◌+◌, ◌-◌, ◌*◌, ◌/◌, ◌%◌, ◌≤◌, ◌<◌}
 use mathlib.Core.Path.{◌≡◌, refl, sym, ap, ap₂, subst, ◌∙◌}
-use mathlib.Core.Bool.{Bool, true, false, cond}
+use mathlib.Core.Bool.{Bool, true, cond}
 use mathlib.Core.List.{List, ◌++◌}
 use native.Mathlib.Nat.{div-add-mod', mod-lt, div-lt_iff_lt-mul, mul_comm, mul-le-mul, mul-le-mul_right, suc-mul, zero-mul}
 use native.Mathlib.Omega.{arith}
 use lib.Arith.{digits_div, digits_mod}
-use lib.ListN.{length, get_or, take, drop, length-append}
+use lib.ListN.{length, get_or, take, length-append}
 use lib.Seq.{take-append-le, length-take-le}
 use Rattle.pointwise.specs.Points.{each, between}
 use Rattle.pointwise.proofs.Each.{length-each, get_or-each}
 use Rattle.pointwise.proofs.Parts.{between-high}
 use Rattle.dng.specs.declared.Window.{Window}
 use Rattle.dng.specs.Repair.{count_below, positions, listed}
-use Rattle.num_sorted.specs.Sorts.{has, occ, Rises, Distinct}
+use Rattle.num_sorted.specs.Sorts.{has, occ, Distinct}
 use Rattle.num_sorted.proofs.Occ.{occ-at, occ-some, has-true, some-has}
 use Rattle.fix_scratch.specs.declared.Marked.{Marked}
 use Rattle.fix_scratch.specs.declared.Marked.TheVariants as M

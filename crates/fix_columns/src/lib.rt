@@ -1,5 +1,7 @@
 // The listed positions of a window. Where it is far taller than wide they are gathered by its columns, of which it has
 // few, and then turned.
+#![tactic(auto)]
+
 ghost use Rattle.std.specs.Prelude.{◌≡◌, ◌*◌, ◌/◌, ◌^◌, ◌≤◌, ◌<◌};
 ghost use Rattle.pointwise.specs.Points.{each};
 ghost use Rattle.num_sorted.specs.Sorts.{Distinct};

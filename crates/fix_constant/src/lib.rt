@@ -1,4 +1,6 @@
 // The positions of a window, and where their samples lie; those whose plane 0 equals a constant, in the u32 scratch.
+#![tactic(auto)]
+
 ghost use Rattle.std.specs.Prelude.{◌≡◌, true, false, ℕ, ◌+◌, ◌*◌, ◌/◌, ◌%◌, ◌^◌, ◌≤◌, ◌<◌, length, get_or, eqb};
 ghost use Rattle.std.specs.Float.{nan};
 ghost use Rattle.std.specs.Float.Ieee.{eq};
@@ -10,7 +12,7 @@ use dng::Window;
 use fix_scratch::Marked;
 
 // A position's column and row.
-#[derive(Drop)]
+#[derive(Clone, Copy)]
 pub struct Spot {
     pub x: usize,
     pub y: usize,

@@ -1,4 +1,6 @@
 // The marked positions repaired one after another, f32 and u16: each mean straight into its sample.
+#![tactic(auto)]
+
 ghost use Rattle.std.specs.Prelude.{◌≡◌, true, ◌+◌, ◌-◌, ◌/◌, ◌^◌, ◌≤◌, ◌<◌, length, get_or};
 ghost use Rattle.num_round.specs.Whole.{round_held};
 ghost use Rattle.pointwise.specs.Points.{each, between};

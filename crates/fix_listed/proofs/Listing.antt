@@ -4,7 +4,7 @@ use Prim.Native.Nat.{ℕ, zero, suc, ◌+◌, ◌-◌, ◌*◌, ◌/◌, ◌%◌
 use mathlib.Core.Path.{◌≡◌, refl, sym, ap, ap₂, subst, ◌∙◌}
 use mathlib.Core.Bool.{Bool, true, false, ◌&&◌, ◌||◌, or_comm, and_comm, and_assoc}
 use mathlib.Core.List.{List}
-use native.Mathlib.Nat.{le_trans, div-add-mod', mod-lt, le-div_iff_mul-le, div-lt_iff_lt-mul, mul_comm, mul-le-mul, mul-le-mul_right, suc-mul}
+use native.Mathlib.Nat.{le_trans, div-add-mod', mod-lt, le-div_iff_mul-le, div-lt_iff_lt-mul, mul_comm, mul-le-mul_right, suc-mul}
 use native.Mathlib.Numerals.{add-one}
 use native.Mathlib.Omega.{arith}
 use borrow.Author.Tests.{eq-eqb, eqb-true}

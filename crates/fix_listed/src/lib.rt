@@ -1,4 +1,6 @@
 // The listed positions of a repair: points and rectangles of the image, cut to the window, in the u32 scratch.
+#![tactic(auto)]
+
 ghost use Rattle.std.specs.Prelude.{◌≡◌, true, false, ℕ, ◌≤◌, ◌<◌, ◌^◌};
 ghost use Rattle.dng.specs.Repair.{any_below, positions};
 ghost use Rattle.fix_scratch.specs.Marks.{Gathered, Fits};

@@ -1,5 +1,7 @@
 // Whether a mark is lone, that is, none of its eight neighbours is marked: seen from the marks beside it, with no
 // search.
+#![tactic(auto)]
+
 ghost use Rattle.std.specs.Prelude.{◌≡◌, true, ◌+◌, ◌-◌, ◌*◌, ◌≤◌, get_or};
 ghost use Rattle.fix_scratch.specs.Marks.{Fits};
 ghost use Rattle.fix_near.specs.Looks.{AsksMark, LoneMark};

@@ -1,4 +1,6 @@
 // The mean of the samples of sound neighbours, f32 and u16.
+#![tactic(auto)]
+
 ghost use Rattle.std.specs.Prelude.{◌≡◌, ◌≤◌, length};
 ghost use Rattle.dng.specs.Repair.{mean_of};
 ghost use Rattle.fix_means.specs.Means.{Reads, mean32, mean16};

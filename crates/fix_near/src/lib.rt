@@ -1,4 +1,6 @@
 // The sound neighbours of a position: which they are, and where their samples begin.
+#![tactic(auto)]
+
 ghost use Rattle.std.specs.Prelude.{◌≡◌, true, cond, map, ◌≤◌, ◌<◌};
 ghost use Rattle.dng.specs.Repair.{steps, moved};
 ghost use Rattle.fix_scratch.specs.Marks.{Fits};
@@ -9,21 +11,21 @@ use dng::Window;
 use fix_constant::Spot;
 
 // One step to a neighbour, in columns and rows of the period.
-#[derive(Drop)]
+#[derive(Clone, Copy)]
 pub struct Step {
     pub dx: i64,
     pub dy: i64,
 }
 
 // A sound neighbour's column and row, or none.
-#[derive(Drop)]
+#[derive(Clone, Copy)]
 pub enum Neighbour {
     At { x: usize, y: usize },
     Missing,
 }
 
 // Where the samples of the sound neighbours begin: the first n.
-#[derive(Drop)]
+#[derive(Clone, Copy)]
 pub struct Near {
     pub at: [usize; 8],
     pub n: usize,

@@ -1,5 +1,7 @@
 // Places among ascending marks: what an entry shows of the positions around it. A place is a hint: what it does not
 // show is searched for.
+#![tactic(auto)]
+
 ghost use Rattle.std.specs.Prelude.{◌≡◌, true, ◌≤◌, ◌<◌, length, take, get_or};
 ghost use Rattle.num_sorted.specs.Sorts.{has};
 ghost use Rattle.fix_places.specs.Beside.{Ascends, Reached, Under, Over, Free};

@@ -2,13 +2,10 @@
 use Prim.Native.Nat.{ℕ, zero, suc, ◌-◌, ◌≤◌}
 use mathlib.Core.Path.{◌≡◌, refl, sym, subst, fun_ext}
 use mathlib.Core.Bool.{Bool, true, false}
-use mathlib.Core.List.{List, [], ◌∷◌}
+use mathlib.Core.List.{List, []}
 use native.Mathlib.Omega.{arith}
 use lib.Ieee.{Float}
 use lib.ListN.{length}
-use types.Run.{OneOf, miss}
-use denote.Enum.Declared.{tag_of}
-use Rattle.dng.specs.contracts.Opcode.{the_type}
 use Rattle.dng.specs.declared.Window.{Window}
 use Rattle.dng.specs.declared.Opcode.{Opcode}
 use Rattle.dng.specs.declared.Opcode.TheVariants.{WarpRectilinear, WarpFisheye, FixVignetteRadial, FixBadPixelsConstant, FixBadPixelsList, TrimBounds, MapTable, MapPolynomial, GainMap, DeltaPerRow, DeltaPerColumn, ScalePerRow, ScalePerColumn, Other}
@@ -38,35 +35,38 @@ unfolding chosen
 chosen_none m h a zero = refl
 chosen_none m h a (suc n) = rw (h a) (chosen_none m h (suc a) n)
 
--- the places of the other opcodes among the variants
-abbrev pub others : List ℕ
-others = 0 ∷ 1 ∷ 2 ∷ 5 ∷ 6 ∷ 7 ∷ 8 ∷ 9 ∷ 10 ∷ 11 ∷ 12 ∷ 13 ∷ []
+-- an opcode that is no repair
+abbrev pub NoConstant : Opcode → Type 0
+NoConstant op = (c p : ℕ) → op ≡ FixBadPixelsConstant c p → ⊥
+
+abbrev pub NoList : Opcode → Type 0
+NoList op = (p np nr : ℕ) → op ≡ FixBadPixelsList p np nr → ⊥
 
 module _ {A : Type 0} (d : A) (w : Window) (test : ℕ → A → Bool) where
   -- what is no repair marks nothing
-  no-marks : (op : Opcode) → OneOf others (tag_of the_type op) → (b : List ℕ) (s : List A) (q : ℕ) → marks_on d w test op b s q ≡ false
-  no-marks (WarpRectilinear n cx cy) h b s q = refl
-  no-marks WarpFisheye h b s q = refl
-  no-marks (FixVignetteRadial r) h b s q = refl
-  no-marks (FixBadPixelsConstant c p) h b s q = absurd (miss others 3 tt h)
-  no-marks (FixBadPixelsList p np nr) h b s q = absurd (miss others 4 tt h)
-  no-marks (TrimBounds t l bm r) h b s q = refl
-  no-marks (MapTable r n) h b s q = refl
-  no-marks (MapPolynomial r n) h b s q = refl
-  no-marks (GainMap r pv ph g mp) h b s q = refl
-  no-marks (DeltaPerRow r n) h b s q = refl
-  no-marks (DeltaPerColumn r n) h b s q = refl
-  no-marks (ScalePerRow r n) h b s q = refl
-  no-marks (ScalePerColumn r n) h b s q = refl
-  no-marks (Other i) h b s q = refl
+  no-marks : (op : Opcode) → NoConstant op → NoList op → (b : List ℕ) (s : List A) (q : ℕ) → marks_on d w test op b s q ≡ false
+  no-marks (WarpRectilinear n cx cy) h k b s q = refl
+  no-marks WarpFisheye h k b s q = refl
+  no-marks (FixVignetteRadial r) h k b s q = refl
+  no-marks (FixBadPixelsConstant c p) h k b s q = absurd (h c p refl)
+  no-marks (FixBadPixelsList p np nr) h k b s q = absurd (k p np nr refl)
+  no-marks (TrimBounds t l bm r) h k b s q = refl
+  no-marks (MapTable r n) h k b s q = refl
+  no-marks (MapPolynomial r n) h k b s q = refl
+  no-marks (GainMap r pv ph g mp) h k b s q = refl
+  no-marks (DeltaPerRow r n) h k b s q = refl
+  no-marks (DeltaPerColumn r n) h k b s q = refl
+  no-marks (ScalePerRow r n) h k b s q = refl
+  no-marks (ScalePerColumn r n) h k b s q = refl
+  no-marks (Other i) h k b s q = refl
 
   module _ (op : Opcode) (b : List ℕ) (s : List A) (top : ℕ) (m m' : List ℕ) where
-    pub marks-none : OneOf others (tag_of the_type op) → Holds top (marks_on d w test op b s) m m 0
-    marks-none h =
+    pub marks-none : NoConstant op → NoList op → Holds top (marks_on d w test op b s) m m 0
+    marks-none h k =
         record {
-          all = sym (count_none top (marks_on d w test op b s) (no-marks op h b s));
+          all = sym (count_none top (marks_on d w test op b s) (no-marks op h k b s));
           fits = omega arith;
-          front = sym (chosen_none (marks_on d w test op b s) (no-marks op h b s) 0 top);
+          front = sym (chosen_none (marks_on d w test op b s) (no-marks op h k b s) 0 top);
         }
 
     pub marks-constant : (c p : ℕ) (t : A → Bool) (r : Marked) → op ≡ FixBadPixelsConstant c p → t ≡ test c

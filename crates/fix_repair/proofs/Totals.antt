@@ -15,7 +15,6 @@ use Rattle.dng.specs.declared.Window.{Window}
 use Rattle.dng.specs.Select.{in_window, row_of, column_of, plane_of}
 use Rattle.dng.specs.Repair.{positions, sample_at, steps, step_of, sound_at, marked_in, repaired_in, left_in, repair_at}
 use Rattle.dng.specs.Run.{Kind, Room, going, marks_full, repair_on}
-use Rattle.fix_scratch.specs.declared.Marked.TheVariants as M
 use Rattle.fix_scratch.specs.Marks.{chosen}
 use Rattle.fix_scratch.proofs.Chosen.{count_same, chosen-has}
 use Rattle.fix_near.specs.Looks.{marked}

@@ -1,4 +1,6 @@
 // The repairs over a window, f32 and u16: the marks into the u32 scratch, then each mean into its sample.
+#![tactic(auto)]
+
 ghost use Rattle.std.specs.Prelude.{◌≡◌, true, ◌-◌, ◌≤◌, length};
 ghost use Rattle.std.specs.Float.{nan};
 ghost use Rattle.dng.specs.Repair.{complete, positions, step_of, marks_on, marks_of};
@@ -15,7 +17,7 @@ use dng::{Opcode, Window};
 use fix_scratch::Marked;
 
 // Done, with the positions repaired and left; or too little room for the marks (5), the samples unchanged.
-#[derive(Drop)]
+#[derive(Clone, Copy)]
 pub enum Fixed {
     Done { repaired: usize, left: usize },
     Marks,

@@ -11,7 +11,6 @@ use lib.Dec.{leb, eqb}
 use lib.ListN.{length, take, drop, set, length-set, length-drop, length-append}
 use lib.Seq.{take-take, take-add, take_at, drop_at, take-append-le, take-suc-set, take-set-le, length-take-le}
 use Rattle.dng.specs.Repair.{count_below}
-use Rattle.fix_scratch.specs.declared.Kept.TheVariants as K
 use Rattle.num_sorted.specs.Sorts.{occ, has, Rises, Distinct, Runs, past_all}
 use Rattle.fix_scratch.specs.Scratch.{Front, Packed, Tidied, Gains, grown_to}
 use Rattle.num_sorted.proofs.Occ.{by_cases, equal-or, occ-parts, occ-some, has-true, some-has, has-append, has_one, rises-more, rises-climbs}

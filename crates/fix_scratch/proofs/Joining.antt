@@ -15,7 +15,7 @@ use Rattle.fix_scratch.specs.declared.Kept.TheVariants as K
 use Rattle.fix_scratch.specs.Marks.{chosen}
 use Rattle.num_sorted.specs.Sorts.{occ, has, Rises, Cut}
 use Rattle.fix_scratch.specs.Scratch.{Front, Packed, Tidied, Gains, Joined, span}
-use Rattle.num_sorted.proofs.Occ.{below_or, equal-or, occ-parts, occ-at, occ-some, has-true, some-has, rises-take, rises-drop, rises-from, rises-places}
+use Rattle.num_sorted.proofs.Occ.{below_or, equal-or, occ-parts, occ-some, has-true, some-has, rises-take, rises-drop, rises-from, rises-places}
 use Rattle.fix_scratch.proofs.Filling.{has_more, front_kept}
 use Rattle.fix_scratch.proofs.Chosen.{both, count-le, count_same, chosen-full, is-chosen}
 

@@ -17,7 +17,7 @@ use Rattle.law_wholes.specs.WholeForm.{widened, narrowed, without_tables, at_one
 use Rattle.law_wholes.specs.Together.{renamed}
 use Rattle.law_wholes.proofs.Names.{names-without}
 use Rattle.law_wholes.proofs.Theorem.{whole-form, same-scratch}
-use Rattle.law_promises.specs.Promises.{f32_call, u16_call, RowCalls, done, call, RowCalls, WholeCalls, WholeCallsAlike}
+use Rattle.law_promises.specs.Promises.{f32_call, u16_call, RowCalls, done, call, RowCallsHold, WholeCalls, WholeCallsAlike}
 use Rattle.law_promises.proofs.Answers.{kept}
 
 -- ---- rows
@@ -34,7 +34,7 @@ module _ (w : Window) (scale : Float) (preview : Bool) (list : List ℕ) (n : �
         rest.1 ∙ ap (λ (q : List Float). all_rows w scale preview list ys (row_put w y q s)) ran.left,
       )
 
-pub row-calls : RowCalls
+pub row-calls : RowCallsHold
 row-calls w set room list s names ys rs t e h ran calls =
     let form = row-form w set room list s names ys h in
     let rows = row-by-row w set.scale set.preview list (length (names_of skipped (kept_in set.preview list))) form.calls calls (once-below

@@ -10,7 +10,6 @@ use lib.ListN.{length}
 use Rattle.pointwise.specs.Points.{each}
 use Rattle.dng.specs.declared.Window.{Window}
 use Rattle.dng.specs.declared.RowWindow.{RowWindow}
-use Rattle.dng.specs.declared.Settings.{Settings}
 use Rattle.dng.specs.declared.Opcode.{Opcode}
 use Rattle.dng.specs.declared.Answer.TheVariants as Ans
 use Rattle.dng.specs.declared.RowAnswer.TheVariants as Row
@@ -21,7 +20,7 @@ use Rattle.dng.specs.Value.{Frame, rule_of}
 use Rattle.dng.specs.Repair.{marks_of, marked_in, repaired_in, left_in, repair_at}
 use Rattle.dng.specs.Run.{drops, kept_of, kept_in, Class, table, empty, local, repair, unapplied, class_of, name_of, skipped, skipped16, names_of, takes16_on, takes16_from, takes16, row_takes, takes_rows, Kind, f32_kind, u16_kind, Room, Progress, going, marks_full, repair_on, perform_on, perform, perform_all, row_on}
 use Rattle.dng.specs.Answer.{Out, in_range, row_in_range, unchanged, finished, takes_all, frame_of, row_frame_of, ran_on, read_out, run_out, RowOut, row_read, row_out}
-use Rattle.law_promises.specs.Preview.{kept_numbers, perform_by, unnumbered, Without, AsBefore, Alike, CutOut, unplaced, unplaced_out, Previews}
+use Rattle.law_promises.specs.Preview.{kept_numbers, perform_by, unnumbered, Without, AsBefore, Alike, CutOut, unplaced_out, Previews}
 
 module _ {A : Type 0} (kind : Kind A) (w : Window) (period : ℕ) (room : Room) (list : List ℕ) where
   -- ---- an opcode's number is in what it stops with, and in nothing else

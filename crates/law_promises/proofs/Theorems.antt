@@ -1,6 +1,6 @@
 -- The promises of specs/Promises, proved. Assumes nothing.
 use Prim.Native.Nat.{ℕ}
-use mathlib.Core.Bool.{Bool, true, cond, false≢true}
+use mathlib.Core.Bool.{Bool, true, cond}
 use mathlib.Core.List.{List}
 use lib.Dec.{eqb}
 use lib.Ieee.{Float}
@@ -8,7 +8,6 @@ use lib.ListN.{length}
 use mathlib.Core.Logic.{◌↔◌}
 use mathlib.Core.Path.{◌≡◌, refl, sym, ap, subst, ◌∙◌}
 use native.Mathlib.Omega.{arith}
-use borrow.Author.Tests.{eqb-true, eq-eqb}
 use Rattle.dng.specs.declared.Answer.{Answer}
 use Rattle.dng.specs.declared.Answer.TheVariants as Ans
 use Rattle.dng.specs.declared.RowWindow.{RowWindow}
@@ -20,13 +19,13 @@ use Rattle.dng.specs.declared.Reading.TheVariants as R
 use Rattle.dng.specs.List.{reason_number, refusal, items_of, reading_of}
 use Rattle.list_read.proofs.Fold.{refused}
 use Rattle.list_read.proofs.Offsets.{offset-held}
-use Rattle.dng.specs.Run.{kept_in, Progress, going, marks_full, skipped, names_of}
+use Rattle.dng.specs.Run.{Progress, going, marks_full}
 use Rattle.dng.specs.declared.RowAnswer.{RowAnswer}
 use Rattle.dng.specs.declared.RowAnswer.TheVariants as Row
 use Rattle.dng.specs.Answer.{in_range, row_in_range, Out, finished, numbers_of, row_numbers_of, reading_numbers_of, row_out}
 use Rattle.run_row.specs.Rows.{RowRan}
 use Rattle.run_row.proofs.Laws.{determined as rows-determined, kept as rows-kept}
-use Rattle.law_promises.specs.Promises.{Forms, Determined, Call, End, out_of, Meets, skips, performed, Goes, When, RowWhen, MarksOver, ExactlyWhen, RowExactlyWhen, Keeps, RowKeeps, Numbered, Locates, RefusedFor, ByReason, AddsUp, Scratch, RowCalls, WholeCalls, WholeCallsAlike}
+use Rattle.law_promises.specs.Promises.{Forms, Determined, Call, End, out_of, Meets, performed, Goes, When, RowWhen, MarksOver, ExactlyWhen, RowExactlyWhen, Keeps, RowKeeps, Numbered, Locates, RefusedFor, ByReason, AddsUp, Scratch, RowCallsHold, WholeCalls, WholeCallsAlike}
 use Rattle.law_promises.proofs.Answers.{named, goes_on, when, only, kept, reason-least, row-when, row-only}
 use Rattle.law_promises.proofs.Stops.{shown, marks-stop}
 use Rattle.law_promises.proofs.Answers as Answers
@@ -186,7 +185,7 @@ scratch A c e m n r l p room = other-room c n r l ((answers c e m (Ans.Done n r 
 
 -- ---- 5
 
-pub row-calls : RowCalls
+pub row-calls : RowCallsHold
 row-calls = Calls.row-calls
 
 pub whole-calls : WholeCalls

@@ -1,7 +1,7 @@
 -- Tiles give the frame, of the calls: what each run left is what the definitions say, so the law of orders holds of the runs. Assumes nothing.
 use Prim.Native.Nat.{ℕ, ◌≤◌}
 use mathlib.Core.Path.{◌≡◌, refl, sym, ap, ap₂, ◌∙◌}
-use mathlib.Core.List.{List, [], ◌∷◌}
+use mathlib.Core.List.{List, ◌∷◌}
 use native.Mathlib.Omega.{arith}
 use lib.ListN.{length, replicate}
 use Rattle.pointwise.specs.Points.{each}
@@ -17,7 +17,7 @@ use Rattle.law_tiles.proofs.Parts.{only_tile}
 use Rattle.law_tiles.proofs.Order.{on_tiles, on-tiles-cut}
 use Rattle.law_tiles.proofs.Theorem.{Inside, cut_inside, head-sits, tail-inside, cut-laid, rule, run_on, one-tile}
 use Rattle.law_promises.specs.Promises.{Call, skips}
-use Rattle.law_promises.specs.TileCalls.{form_of, TileCalls, done, call, TileRuns, TileCalls}
+use Rattle.law_promises.specs.TileCalls.{form_of, TileCalls, done, call, TileRuns, TileCallsHold}
 
 pub tile-runs : TileRuns
 tile-runs =
@@ -55,7 +55,7 @@ module _ {A : Type 0} (c : Call A) (h : Suits (form_of c) c.preview c.list c.nam
         rest.1 ∙ ap₂ (λ (n : ℕ) (v : List A). on_tiles w n f ts v) same put,
       )
 
-pub tile-calls : TileCalls
+pub tile-calls : TileCallsHold
 tile-calls A c ts rs u e h q met calls =
     let w = c.window in
     let laid = cut-laid w c.period (length c.samples) ts q in

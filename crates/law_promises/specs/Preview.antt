@@ -5,7 +5,6 @@ use Rattle.std.specs.Prelude.{ℕ, suc, Bool, true, false, cond, List, [], ◌�
 use Rattle.dng.specs.declared.Window.{Window}
 use Rattle.dng.specs.declared.RowWindow.{RowWindow}
 use Rattle.dng.specs.declared.Settings.{Settings}
-use Rattle.dng.specs.declared.Entry.{Entry}
 use Rattle.dng.specs.declared.Opcode.TheVariants.{WarpFisheye}
 use Rattle.dng.specs.declared.Answer.{Answer}
 use Rattle.dng.specs.declared.Answer.TheVariants as Ans

@@ -1,9 +1,9 @@
 -- What a caller may conclude from the contracts of the public calls alone: `Ran` of a run, `RowRan` of a row call, the
 -- equation of reading.
 -- Document 01, 'What comes back' and 'How a promise is judged'. Over any sample kind; proofs/Theorems proves each
--- statement under its name in lower case:
+-- statement under its name in lower case, `RowCallsHold` as `row-calls`:
 --     1 Determined   2 ExactlyWhen, RowExactlyWhen   3 Keeps, RowKeeps, Numbered, Locates, ByReason
---     4 AddsUp, Scratch   5 RowCalls, WholeCalls, WholeCallsAlike
+--     4 AddsUp, Scratch   5 RowCallsHold, WholeCalls, WholeCallsAlike
 -- What a preview is: specs/Preview. The verdict: run_verdict/specs/Verdict.
 use Rattle.std.specs.Prelude.{ℕ, suc, ◌+◌, ◌≤◌, ◌<◌, Bool, true, false, cond, List, [], ◌∷◌, ◌↔◌, ◌⊎◌, ◌≡◌, Float, length, take, drop, replicate}
 use Rattle.dng.specs.declared.Window.{Window}
@@ -343,8 +343,8 @@ pub record RowsAgree (preview : Bool) (list ys : List ℕ) (rs : List RowAnswer)
   pub run : e.answer ≡ Ans.Done (length (names_of skipped (kept_in preview list))) 0 0
   pub samples : t ≡ e.samples
 
-abbrev pub RowCalls : Type 0
-RowCalls =
+abbrev pub RowCallsHold : Type 0
+RowCallsHold =
     (w : Window) (set : Settings) (room : Room) (list : List ℕ) (s : List Float) (names ys : List ℕ)
     (rs : List RowAnswer) (t : List Float) (e : End Float)
     → RowFormIf w set list names ys → Meets (f32_out w set room list s names) room e

@@ -57,8 +57,8 @@ pub record TilesAgree {A : Type 0} (c : Call A) (ts : List Tile) (rs : List Answ
   pub run : e.answer ≡ Ans.Done (skips c) 0 0
   pub samples : u ≡ e.samples
 
-abbrev pub TileCalls : Type 1
-TileCalls =
+abbrev pub TileCallsHold : Type 1
+TileCallsHold =
     (A : Type 0) (c : Call A) (ts : List Tile) (rs : List Answer) (u : List A) (e : End A)
     → Suits (form_of c) c.preview c.list c.names → TilesIf c.window c.period (length c.samples) ts
     → Meets (out_of c) c.room e → TileCalls c ts rs c.samples u → TilesAgree c ts rs u e

@@ -11,7 +11,7 @@ use Rattle.dng.specs.declared.Window.{Window}
 use Rattle.dng.specs.declared.Settings.{Settings}
 use Rattle.dng.specs.Select.{on_row}
 use Rattle.dng.specs.Answer.{Out, RowOut, row_out}
-use Rattle.law_rows.specs.RowForm.{occurs, row_part, row_put, row_window_of, one_row, all_rows, RowFormIf, RowForm}
+use Rattle.law_rows.specs.RowForm.{occurs, row_part, row_put, row_window_of, one_row, all_rows, RowFormIf, RowFormHolds}
 use Rattle.law_rows.proofs.Place.{Laid}
 use Rattle.law_rows.proofs.Rows.{only_row, row-length, row-run}
 use Rattle.law_rows.proofs.Calls.{rules_of, row_done, ranged, row-ranged, row-call, window-call}
@@ -53,7 +53,7 @@ module _ (w : Window) (set : Settings) (list names ys : List ℕ) (h : RowFormIf
       F : ℕ → Float → Float
       F = only_row w (length s) y (rules_of w set.scale set.preview list)
 
-pub row-form : RowForm
+pub row-form : RowFormHolds
 row-form w set room list s names ys h =
     let ran = window-call w set room list s names h.opcodes h.ranges h.whole h.taken h.roomy in
     record {

@@ -1,13 +1,12 @@
 -- A worked instance: two rows of two pixels with two planes, a gap of one pixel, the second row cut in the middle of its second pixel, and ScalePerRow.
 -- The theorem's hypotheses can be met, and the samples it speaks of are these, by computing, from the rows and from the run.
-use Prim.Native.Nat.{ℕ, zero, suc, ◌+◌, ◌*◌, ◌/◌, ◌%◌, ◌^◌}
+use Prim.Native.Nat.{ℕ, zero, suc, ◌+◌, ◌/◌, ◌%◌}
 use mathlib.Core.Path.{◌≡◌, refl, sym, ap, ap₂, ◌∙◌}
-use mathlib.Core.Bool.{Bool, true, false, cond}
-use mathlib.Core.List.{List, [], ◌∷◌, ◌++◌, map}
+use mathlib.Core.Bool.{Bool, false, cond}
+use mathlib.Core.List.{List, [], ◌∷◌, map}
 use native.Mathlib.Omega.{arith}
 use borrow.Author.Tests.{le-ltb, ne_eqb}
-use lib.Dec.{ltb, eqb}
-use lib.Ieee.{Float, binary32, fin, of_int, of_bits, round, mul, div, add, eq, units, odd, size, span, climb}
+use lib.Ieee.{Float, binary32, of_int, of_bits, round, mul, units, odd, size, span, climb}
 use lib.IntN.{pos}
 use Rattle.num_words.specs.Words.{big}
 use Rattle.pointwise.specs.Points.{each}

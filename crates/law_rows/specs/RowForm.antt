@@ -82,7 +82,7 @@ pub record RowFormIf (w : Window) (set : Settings) (list names ys : List ℕ) : 
   pub once : Once w.height ys
 
 -- the theorem's statement; proofs/Theorem proves it
-abbrev pub RowForm : Type 0
-RowForm =
+abbrev pub RowFormHolds : Type 0
+RowFormHolds =
     (w : Window) (set : Settings) (room : Room) (list : List ℕ) (s : List Float) (names ys : List ℕ)
     → RowFormIf w set list names ys → RowForm w set room list s names ys

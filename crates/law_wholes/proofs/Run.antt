@@ -19,7 +19,7 @@ use Rattle.dng.specs.List.{Item, body_of}
 use Rattle.dng.specs.Select.{on_window}
 use Rattle.dng.specs.Value.{one, table_at, map_table, map_table16, rule_of, rule16_of}
 use Rattle.dng.specs.Repair.{marks_of, marked_in, repaired_in, left_in}
-use Rattle.dng.specs.Run.{drops, kept_of, table, empty, repair, class_of, takes16_on, takes16_from, Kind, f32_kind, u16_kind, Progress, going, marks_full, Room, repair_on, perform_on, perform, perform_all}
+use Rattle.dng.specs.Run.{drops, kept_of, table, empty, class_of, takes16_on, takes16_from, Kind, f32_kind, u16_kind, Progress, going, marks_full, Room, repair_on, perform_on, perform, perform_all}
 use Rattle.dng.specs.Answer.{frame_of}
 use Rattle.law_wholes.specs.WholeForm.{Below, Enough}
 use Rattle.law_wholes.proofs.Near.{Exact, Near, exact-near}

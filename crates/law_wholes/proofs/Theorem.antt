@@ -16,7 +16,7 @@ use Rattle.dng.specs.List.{Item, reading_of, items_of}
 use Rattle.dng.specs.Value.{one}
 use Rattle.dng.specs.Run.{kept_in, Class, Kind, f32_kind, u16_kind, skipped, skipped16, takes16, names_of, Progress, going, Room, perform_all}
 use Rattle.dng.specs.Answer.{Out, in_range, unchanged, finished, ran_on, read_out, run_out, takes_all, frame_of, u16_out}
-use Rattle.law_wholes.specs.WholeForm.{Below, Enough, WholeForm, widened, narrowed, at_one}
+use Rattle.law_wholes.specs.WholeForm.{Below, Enough, WholeFormHolds, widened, narrowed, at_one}
 use Rattle.law_wholes.specs.Together.{renamed, TogetherIf, SameScratch}
 use Rattle.law_wholes.proofs.Near.{Near, exact-near}
 use Rattle.law_wholes.proofs.Pairs.{Pairs, pairs-weaken, pairs-widened, pairs-narrowed}
@@ -66,7 +66,7 @@ both (ended {s = s} {t = t} {r = r} {l = l} ps) enough =
     record { samples16 = s; samples32 = t; repaired = r; left = l; is16 = refl; is32 = refl; pairs = ps }
 both (ended_marks short ps) enough = absurd (short enough)
 
-pub whole-form : WholeForm
+pub whole-form : WholeFormHolds
 whole-form w period preview room room' list s names names' h =
     let ends =
     both

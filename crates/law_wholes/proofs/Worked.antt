@@ -14,7 +14,7 @@ use Rattle.dng.specs.List.{reading_of, items_of, counted, read_from, step_at, ne
 use Rattle.dng.specs.Run.{kept_of, Room, names_of, takes16_from, takes16_on}
 use Rattle.dng.specs.Answer.{in_range}
 use Rattle.law_wholes.specs.WholeForm.{Below, WholeForm, WholeFormIf}
-use Rattle.law_wholes.specs.Together.{Together, TogetherIf}
+use Rattle.law_wholes.specs.Together.{Together}
 use Rattle.law_wholes.proofs.Theorem.{whole-form, same-scratch}
 
 abbrev all : ℕ → List ℕ → Bool

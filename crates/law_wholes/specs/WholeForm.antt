@@ -66,8 +66,8 @@ pub record WholeFormIf (w : Window) (period : ℕ) (preview : Bool) (room room' 
   pub roomy' : length (names_of skipped (kept_in preview list)) ≤ length names'
 
 -- the theorem's statement; proofs/Theorem proves it
-abbrev pub WholeForm : Type 0
-WholeForm =
+abbrev pub WholeFormHolds : Type 0
+WholeFormHolds =
     (w : Window) (period : ℕ) (preview : Bool) (room room' : Room) (list s names names' : List ℕ)
     → WholeFormIf w period preview room room' list s names names'
     → WholeForm w period preview room room' list s names names'

@@ -1,6 +1,8 @@
 // The body of an entry, by its id: the header fields of an opcode, or a malformed body, why, and at which byte. What a
 // count counts stays in the list. All fields of fixed size are read before a count is judged.
 // The body starts at `at` of the list and is `len` bytes long; every function takes any position and any length.
+#![tactic(auto)]
+
 ghost use Rattle.std.specs.Prelude.{◌≡◌, cond, leb, ◌*◌, ◌/◌, ◌<◌};
 ghost use Rattle.dng.specs.declared.Opcode.TheVariants.{MapTable};
 ghost use Rattle.dng.specs.declared.Reason.TheVariants.{Inside, Count, Degree};
@@ -133,7 +135,7 @@ fn trim(list: &[u8], at: usize, len: usize) -> Parsed
 }
 
 // A region and the number behind it: a count, or a degree.
-#[derive(Drop)]
+#[derive(Clone, Copy)]
 enum Counted {
     Is { region: Region, n: u32 },
     Cut { at: usize },

@@ -1,4 +1,6 @@
 // What an opcode is to the forms of a run, and the byte that names it.
+#![tactic(auto)]
+
 ghost use Rattle.std.specs.Prelude.{◌≡◌, cond};
 ghost use Rattle.dng.specs.Run.{unapplied, class_of, name_of};
 ghost use Rattle.list_classes.specs.Classes.{class_is, facts_of};
@@ -6,7 +8,7 @@ ghost use Rattle.list_classes.specs.Classes.{class_is, facts_of};
 use dng::Opcode;
 
 // A table with entries, a table with none, another row-local pixel opcode, a repair, and what is never applied.
-#[derive(Drop)]
+#[derive(Clone, Copy)]
 pub enum Class {
     Table,
     Empty,
@@ -71,7 +73,7 @@ pub fn name_of(op: Opcode) -> u8
 
 // What one opcode is to the forms: a pixel opcode that no whole-number form has, a repair, taken by the row form,
 // skipped by the f32 run, and skipped by the whole-number run, where an empty table has no name.
-#[derive(Drop)]
+#[derive(Clone, Copy)]
 pub struct Facts {
     pub local: bool,
     pub repair: bool,

@@ -1,5 +1,7 @@
 // The tests of a body's counts: whether what they count lies inside the body. Each compares with what the body has
 // left, so that no sum can wrap. The body starts at `at` of the list and is `len` bytes long.
+#![tactic(auto)]
+
 ghost use Rattle.std.specs.Prelude.{◌≡◌, ◌+◌, max};
 ghost use Rattle.dng.specs.List.{u32_at};
 ghost use Rattle.list_counts.specs.Fits.{warp_fits, bad_list_fits, values_fit, degree_fits, gains_fit, gains_at};

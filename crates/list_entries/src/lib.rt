@@ -1,5 +1,7 @@
 // The entries of an opcode list, one header after another, each with its body as a part of the lent list.
 // Positions count from the list's first byte, and every function takes any position.
+#![tactic(auto)]
+
 ghost use Rattle.std.specs.Prelude.{◌≡◌, ◌+◌, ◌-◌, ◌*◌, ◌/◌, ◌≤◌, length, ◌&&◌};
 ghost use Rattle.dng.specs.declared.Reason.TheVariants.{Ends};
 ghost use Rattle.dng.specs.List.{refusal, header_at, next_at, body_of, optional_of, preview_of};

@@ -1,6 +1,8 @@
 // The fields of a body and the records made of them. Positions are those of the whole list: a field k bytes into a body
 // that starts at `at` stands at `at + k`. A field past the list's end is 0, so every function takes any position.
 // Of a body of `len` bytes a reader answers what it reads, or the offset of the first field that is not whole.
+#![tactic(auto)]
+
 ghost use Rattle.std.specs.Prelude.{◌≡◌, ◌+◌};
 ghost use Rattle.dng.specs.List.{offset_in, u32_at, f64_at, region_at, grid_at, radial_at};
 ghost use Rattle.list_fields.specs.Fields.{word_at, area_at, lattice_at, lens_at};
@@ -89,7 +91,7 @@ pub fn word_in(list: &[u8], at: usize, k: usize, len: usize) -> Word
     num_words::u32_in(list, place(list, at, k), num_words::less(len, k))
 }
 
-#[derive(Drop)]
+#[derive(Clone, Copy)]
 pub enum Area {
     Is { region: Region },
     Cut { at: usize },
@@ -109,7 +111,7 @@ pub fn region_in(list: &[u8], at: usize, len: usize) -> Area
     }
 }
 
-#[derive(Drop)]
+#[derive(Clone, Copy)]
 pub enum Lattice {
     Is { grid: Grid },
     Cut { at: usize },
@@ -129,7 +131,7 @@ pub fn grid_in(list: &[u8], at: usize, len: usize) -> Lattice
     }
 }
 
-#[derive(Drop)]
+#[derive(Clone, Copy)]
 pub enum Lens {
     Is { radial: Radial },
     Cut { at: usize },

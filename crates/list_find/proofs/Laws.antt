@@ -1,13 +1,13 @@
 -- The cases of the walk: one law for each way in which its functions return or go on. Assumes nothing.
-use Prim.Native.Nat.{ℕ, zero, suc, ◌+◌, ◌-◌, ◌*◌, ◌/◌, ◌^◌, ◌≤◌, ◌<◌}
+use Prim.Native.Nat.{ℕ, zero, suc, ◌+◌, ◌-◌, ◌*◌, ◌/◌, ◌≤◌, ◌<◌}
 use mathlib.Core.Path.{◌≡◌, refl, sym, ap, ◌∙◌}
-use mathlib.Core.Bool.{Bool, true, false, ◌&&◌, ◌||◌, cond}
+use mathlib.Core.Bool.{Bool, true, false, cond}
 use mathlib.Core.List.{List}
 use native.Mathlib.Omega.{arith}
 use native.Mathlib.Nat.{zero-add, add-zero, suc-add, mul-zero, sub-zero, add-sub_cancel_left}
 use native.Mathlib.Numerals.{add-one}
 use borrow.Author.Tests.{le-leb, lt-leb, leb-true, leb-false, eq-eqb, ne_eqb}
-use lib.Dec.{leb, eqb}
+use lib.Dec.{leb}
 use lib.ListN.{length, get_or, take, drop, length-drop, drop_of_length-le}
 use lib.Seq.{take_all, drop-length}
 use Rattle.num_words.specs.Words.{big, little}
@@ -16,8 +16,8 @@ use Rattle.num_zeros.proofs.Laws.{zeros-part, big-zero, little-zero}
 use Rattle.list_find.specs.declared.Looked.{Looked}
 use Rattle.list_find.specs.declared.Looked.TheVariants.{Done, Going}
 use Rattle.list_find.specs.declared.Found.{Found}
-use Rattle.list_find.specs.declared.Found.TheVariants.{At, NotTiff, Outside, TooMany, Missing}
-use Rattle.list_find.specs.Walk.{File, file_with, u16, u32, size, entries_in, next_at, whole, value_at, inside, count_at, list_at, is_list, after, own_from, visit, sub_of, subs_from, subs_at, any_subs, is_subs, all_subs}
+use Rattle.list_find.specs.declared.Found.TheVariants.{At, Outside, TooMany}
+use Rattle.list_find.specs.Walk.{File, u32, size, entries_in, whole, value_at, inside, count_at, list_at, is_list, after, own_from, visit, sub_of, subs_from, subs_at, any_subs, is_subs, all_subs}
 use Rattle.list_find.specs.Skips.{Skipped}
 
 -- four bytes are two and two

@@ -9,7 +9,7 @@ use Rattle.list_find.specs.declared.Which.{Which}
 use Rattle.list_find.specs.declared.Found.TheVariants.{At, NotTiff}
 use Rattle.list_find.specs.Walk.{headed, found_in}
 use Rattle.list_find.specs.Promises.{Promises}
-use Rattle.list_find.proofs.Fine.{Lies, found_none, found-lies}
+use Rattle.list_find.proofs.Fine.{found_none, found-lies}
 
 inside : (s : List ℕ) (which : Which) (start len : ℕ) → found_in s which ≡ At start len → start + len ≤ length s
 inside s which start len e = go (headed s) refl

@@ -1,6 +1,6 @@
 -- Worked values, which the checker computes: small files, one for each sentence of document 02, M-105, and each
 -- reading of it (docs/DECISIONS).
-use Rattle.std.specs.Prelude.{ℕ, zero, suc, ◌+◌, ◌*◌, ◌/◌, ◌%◌, ◌≡◌, refl, Bool, true, false, cond, List, [], ◌∷◌, ◌++◌, length, replicate}
+use Rattle.std.specs.Prelude.{ℕ, zero, suc, ◌+◌, ◌/◌, ◌%◌, ◌≡◌, refl, Bool, true, false, cond, List, [], ◌∷◌, ◌++◌, replicate}
 use Rattle.num_words.specs.Words.{big, little}
 use Rattle.list_find.specs.declared.Which.TheVariants.{List1, List2, List3}
 use Rattle.list_find.specs.declared.Found.{Found}

@@ -1,5 +1,7 @@
 // The opcode lists inside a DNG file: a walk over its TIFF directories. `most` says that the first byte of a number
 // weighs most.
+#![tactic(auto)]
+
 ghost use Rattle.std.specs.Prelude.{◌≡◌, true, ◌+◌, ◌*◌, ◌≤◌, ◌<◌, leb, length};
 ghost use Rattle.num_zeros.specs.Zeros.{Known};
 ghost use Rattle.list_find.specs.Skips.{Skipped};
@@ -29,7 +31,7 @@ ghost use Rattle.list_find.specs.Walk.{
 };
 
 // Which list is asked for.
-#[derive(Drop)]
+#[derive(Clone, Copy)]
 pub enum Which {
     List1,
     List2,
@@ -45,7 +47,7 @@ impl Which {
 }
 
 // Where it stands in the file, or why it was not found.
-#[derive(Drop)]
+#[derive(Clone, Copy)]
 pub enum Found {
     At { start: usize, len: usize },
     NotTiff,
@@ -55,7 +57,7 @@ pub enum Found {
 }
 
 // An answer, or none so far and how many directories were gone to.
-#[derive(Drop)]
+#[derive(Clone, Copy)]
 pub enum Looked {
     Done { found: Found },
     Going { directories: usize },

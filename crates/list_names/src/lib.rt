@@ -1,5 +1,7 @@
 // The bytes that name the skipped opcodes of a list, in a lent buffer: of all its entries, or of those that a preview
 // leaves. They go by the entries that are read whole, also where the list is malformed after them.
+#![tactic(auto)]
+
 ghost use Rattle.std.specs.Prelude.{◌≡◌, not, ◌&&◌, cond, set};
 ghost use Rattle.std.proofs.lemmas.List.Edits.{sets};
 ghost use Rattle.dng.specs.List.{preview_of};

@@ -1,9 +1,9 @@
 -- The offset of a refusal lies in the list, or is its length. In an entry of a list it is the field's own place: the list's end holds nothing.
 -- Assumes nothing.
-use mathlib.Core.Path.{◌≡◌, refl, sym, ap, subst, ◌∙◌}
+use mathlib.Core.Path.{◌≡◌, refl, ap, subst}
 use mathlib.Core.Bool.{Bool, true, false, ◌&&◌, cond}
 use mathlib.Core.List.{List}
-use Prim.Native.Nat.{ℕ, zero, suc, ◌+◌, ◌-◌, ◌*◌, ◌≤◌, min, max, zero-le}
+use Prim.Native.Nat.{ℕ, zero, suc, ◌+◌, ◌-◌, ◌*◌, ◌≤◌, max, zero-le}
 use native.Mathlib.Nat.{min-eq_left, min-le_right, le_trans}
 use native.Mathlib.Omega.{arith}
 use borrow.Author.Tests.{le-leb, leb-true}
@@ -25,7 +25,7 @@ use Rattle.dng.specs.declared.Step.{Step}
 use Rattle.dng.specs.declared.Step.TheVariants as S
 use Rattle.dng.specs.declared.Reading.TheVariants as R
 use Rattle.dng.specs.List.{u32_at, refusal, offset_in, extent, first_cut, header_fields, vignette_fields, constant_fields, bad_list_fields, trim_fields, counted_fields, gain_fields, region_at, header_at, header_why, next_at, inside_why, field_why}
-use Rattle.dng.specs.List.{warp_at, vignette_at, constant_at, bad_list_at, trim_at, counted_at, polynomial_at, gain_at, parsed_at, step_on, step_of, step_at, why_on, why_from, why_of, reading_of}
+use Rattle.dng.specs.List.{vignette_at, constant_at, bad_list_at, trim_at, counted_at, polynomial_at, gain_at, parsed_at, step_on, step_of, step_at, why_on, why_from, why_of, reading_of}
 use Rattle.dng.proofs.Cuts.{cut-bound}
 use Rattle.list_read.proofs.Fold.{refused}
 

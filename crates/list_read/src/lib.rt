@@ -1,4 +1,6 @@
 // A list, entry by entry, and whether it can be read whole; if not, after how many entries, why, and at which byte.
+#![tactic(auto)]
+
 ghost use Rattle.std.specs.Prelude.{◌≡◌};
 ghost use Rattle.dng.specs.List.{step_at, reading_of};
 ghost use Rattle.list_read.specs.Count.{entries_of, count_of, reading_from};
@@ -20,7 +22,7 @@ pub fn step(list: &[u8], c: Cursor) -> Step
 }
 
 // How many entries a list has; or 20 of a count that is cut, 21 of one above the limit.
-#[derive(Drop)]
+#[derive(Clone, Copy)]
 pub enum Entries {
     Are { n: usize },
     Refused { why: Refusal },

@@ -4,22 +4,20 @@ use Prim.Native.Nat.{ℕ, ◌+◌, ◌≤◌}
 use mathlib.Core.Path.{◌≡◌, refl, sym, ap, ap₂, ◌∙◌}
 use mathlib.Core.Bool.{Bool, true, false, not, ◌&&◌, ◌||◌, cond}
 use mathlib.Core.List.{List, [], ◌∷◌}
-use native.Mathlib.Nat.{le_trans}
 use native.Mathlib.Omega.{arith}
 use lib.ListN.{length}
 use Rattle.dng.specs.declared.Entry.{Entry}
 use Rattle.dng.specs.declared.Opcode.{Opcode}
-use Rattle.dng.specs.declared.Cursor.{Cursor}
 use Rattle.dng.specs.declared.Refusal.{Refusal}
 use Rattle.dng.specs.declared.Reading.{Reading}
 use Rattle.dng.specs.declared.Reading.TheVariants as R
-use Rattle.dng.specs.List.{Item, preview_of, read_from, items_of, reading_of}
-use Rattle.dng.specs.Run.{drops, kept_of, kept_in, Class, table, empty, local, repair, unapplied, class_of, name_of, skipped, skipped16, takes16_on, takes16_from, takes16, row_takes, takes_rows, names_of}
+use Rattle.dng.specs.List.{Item, preview_of, read_from, items_of}
+use Rattle.dng.specs.Run.{drops, kept_of, kept_in, Class, table, empty, local, repair, unapplied, class_of, name_of, skipped, skipped16, takes16_on, takes16_from, row_takes, takes_rows, names_of}
 use Rattle.list_classes.specs.declared.Facts.{Facts}
 use Rattle.list_classes.specs.Classes.{is_local, is_repair, facts_of}
 use Rattle.list_read.specs.declared.Entries.{Entries}
 use Rattle.list_read.specs.declared.Entries.TheVariants as E
-use Rattle.list_read.specs.Count.{count_of, entries_of, reading_from}
+use Rattle.list_read.specs.Count.{entries_of, reading_from}
 use Rattle.list_read.proofs.Fold.{start, items-start, read-bound, count-bound, refused}
 use Rattle.list_read.proofs.Laws.{count-is, reading-is, reading-none}
 use Rattle.list_survey.specs.declared.Surveyed.{Surveyed}

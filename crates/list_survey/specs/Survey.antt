@@ -1,7 +1,7 @@
 -- What one pass over a list finds: how it is read (dng/specs/List), and of the entries that are read whole which forms
 -- take them and how many opcodes each form skips (dng/specs/Run). Document 01, 'What comes back' and the last paragraph
 -- of 'What each does to a value'.
-use Rattle.std.specs.Prelude.{ℕ, ◌+◌, Bool, true, not, ◌&&◌, ◌||◌, cond, List, [], ◌∷◌, length}
+use Rattle.std.specs.Prelude.{ℕ, ◌+◌, Bool, true, not, ◌&&◌, ◌||◌, cond, List, length}
 use Rattle.dng.specs.declared.Reading.{Reading}
 use Rattle.dng.specs.List.{Item, items_of, read_from, reading_of}
 use Rattle.dng.specs.Run.{kept_of, kept_in, takes16, takes_rows, skipped, skipped16, names_of}

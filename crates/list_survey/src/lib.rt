@@ -1,6 +1,8 @@
 // One pass over a list: whether it can be read whole, how many entries are, which forms take those, and how many
 // opcodes each form skips. In a preview forms and skips go by the entries that are left.
 // What is said of the entries goes by those that are read whole, also where the list is malformed after them.
+#![tactic(auto)]
+
 ghost use Rattle.std.specs.Prelude.{◌≡◌, cond, ◌≤◌};
 ghost use Rattle.dng.specs.Run.{class_of};
 ghost use Rattle.list_classes.specs.Classes.{facts_of};
@@ -11,7 +13,7 @@ use list_read::Entries;
 
 // How many entries are read whole, whether the whole-number form and the row form take them, and how many opcodes the
 // f32 run and the whole-number run skip.
-#[derive(Drop)]
+#[derive(Clone, Copy)]
 pub struct Survey {
     pub opcodes: usize,
     pub takes16: bool,
@@ -20,14 +22,14 @@ pub struct Survey {
     pub skips16: usize,
 }
 
-#[derive(Drop)]
+#[derive(Clone, Copy)]
 pub struct Surveyed {
     pub reading: Reading,
     pub survey: Survey,
 }
 
 // The same while entries are read; `free` says that no repair has come yet.
-#[derive(Drop)]
+#[derive(Clone, Copy)]
 struct Tally {
     free: bool,
     takes16: bool,

@@ -1,4 +1,6 @@
 // Whole numbers as floats, an f32 as an f64, and a value held between two others.
+#![tactic(auto)]
+
 ghost use Rattle.std.specs.Prelude.{◌≡◌};
 ghost use Rattle.std.specs.Float.{binary32, binary64};
 ghost use Rattle.num_convert.specs.Convert.{held_to, whole_in};

@@ -1,20 +1,19 @@
 -- Any x held to 0..last in floats, where last is a whole number below 2 ^ 24: what is kept rounds as x does, and needs no further hold.
 -- Assumes nothing.
 use mathlib.Core.Path.{◌≡◌, refl, sym, ap, ◌∙◌, subst}
-use Prim.Native.Nat.{ℕ, suc, ◌+◌, ◌*◌, ◌/◌, ◌%◌, ◌^◌, ◌≤◌, ◌<◌, min}
+use Prim.Native.Nat.{ℕ, suc, ◌+◌, ◌*◌, ◌/◌, ◌%◌, ◌^◌, ◌≤◌, ◌<◌}
 use native.Mathlib.Nat.{le_of_lt, le_of_eq, lt_of_lt_of_le, le_trans, le_of_suc-le-suc, mul-lt-mul_of_pos_right, lt_of_mul-lt-mul_right, le_of_mul-le-mul_right}
 use native.Mathlib.Nat.{mul_right_comm, mul-one, mul-le-mul_left, min-eq_left, min-eq_right, le-div_iff_mul-le, div-lt_iff_lt-mul}
 use native.Mathlib.Omega.{arith}
 use mathlib.Core.Bool.{Bool, true, false, not, cond, true≢false}
 use lib.IntN.{ℤ, pos}
-use lib.Dec.{T, lit<, ltb→lt}
-use lib.Ieee.{Float, nan, inf, fin, binary32, binary64, up, down, round, add, lt, fits, is_nan, of_int, to_bits}
+use lib.Dec.{T, lit<}
+use lib.Ieee.{Float, nan, inf, fin, binary32, binary64, up, down, add, lt, fits, is_nan, of_int, to_bits}
 use lib.Ieee.Back.{round_whole}
 use lib.Ieee.Exact.{HasValue}
 use lib.Ieee.Fits.{down_pos}
 use borrow.Author.Tests.{ltb-true, ltb-false}
 use Rattle.num_round.specs.Whole.{round_held}
-use Rattle.num_round.proofs.Laws.{round-le}
 use Rattle.num_round.proofs.Sums.{half_up, from_zero, few-digits, zero-rounds, sum-bits, sum-no-nan}
 
 abbrev pub up_to : Float → Float → Float

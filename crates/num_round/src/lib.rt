@@ -1,4 +1,6 @@
 // From a float to a whole number: rounded half away from zero and held, or rounded down with what is left.
+#![tactic(auto)]
+
 ghost use Rattle.std.specs.Prelude.{◌≡◌, ◌<◌, pos, T, false};
 ghost use Rattle.std.specs.Float.{fin, binary32};
 ghost use Rattle.std.specs.Float.Ieee.{lt, of_int};
@@ -64,7 +66,7 @@ pub fn round_u16(x: f32) -> u16
 }
 
 // A whole part and what is left.
-#[derive(Drop)]
+#[derive(Clone, Copy)]
 pub struct Floored {
     pub index: u32,
     pub rest: f64,

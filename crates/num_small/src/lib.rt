@@ -1,4 +1,6 @@
 // The smallest functions on numbers, which many rooms need.
+#![tactic(auto)]
+
 ghost use Rattle.std.specs.Prelude.{◌≡◌, cond, ◌-◌, ◌≤◌, min, max};
 
 pub fn lesser(a: usize, b: usize) -> usize

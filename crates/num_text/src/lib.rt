@@ -1,5 +1,7 @@
 // Text in a lent buffer: each function puts bytes behind the text that ends at `at`, and returns where the text ends
 // then. The callers see to room.
+#![tactic(auto)]
+
 ghost use Rattle.std.specs.Prelude.{◌≡◌, ◌∷◌, [], ◌+◌, ◌≤◌, ◌<◌, length};
 ghost use Rattle.num_text.specs.Text.{decimal};
 ghost use Rattle.num_text.specs.Appended.{Appended};

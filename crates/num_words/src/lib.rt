@@ -2,6 +2,8 @@
 // is dropped.
 // A word inside is one load or store behind one test. A word across or past the end goes byte by byte, in a function of
 // its own.
+#![tactic(auto)]
+
 ghost use Rattle.std.specs.Prelude.{◌≡◌, ◌+◌, ◌-◌, ◌*◌, ◌/◌, ◌%◌, ◌<◌, ◌≤◌, length, from_bits, slice_index, slice_set, to_bits};
 ghost use Rattle.std.specs.Float.{binary32, binary64};
 ghost use Rattle.num_words.specs.Words.{big, little, put, word_in};
@@ -129,7 +131,7 @@ pub fn u64_at(s: &[u8], at: usize) -> u64
 
 // ---- big-endian, in a part that has `left` bytes from `at` on: the value, or where the word that is not whole begins
 
-#[derive(Drop)]
+#[derive(Clone, Copy)]
 pub enum Word {
     Is { value: u32 },
     Cut { at: usize },

@@ -2,6 +2,8 @@
 // which of them were found to be zero, so that a stretch that is named again and again is not read again: where all is
 // zero, a call reads less than two blocks, and those that are not in the table yet; where something is not, the block
 // that has it twice more. An entry of the table never falls.
+#![tactic(auto)]
+
 ghost use Rattle.std.specs.Prelude.{◌≡◌, true, ◌+◌, ◌*◌, ◌≤◌, length, get_or};
 ghost use Rattle.num_zeros.specs.Zeros.{Zeros, block_of, Known, Passed, Counted, noted};
 

@@ -20,8 +20,8 @@ use Rattle.row_black.specs.declared.Field.{Field}
 use Rattle.row_black.specs.declared.Pattern.{Pattern}
 use Rattle.row_black.specs.declared.Black.{Black}
 use Rattle.row_black.specs.declared.Black.TheVariants.{Done}
-use Rattle.row_black.specs.Black.{Levels, total, levelled_at, field_in_range, samples_in, sampled, answer_of, number_of, is_done, BlackOut, black_out, Levelled}
-use Rattle.row_black.proofs.Refusals.{Goes, goes}
+use Rattle.row_black.specs.Black.{Levels, total, levelled_at, samples_in, sampled, answer_of, number_of, is_done, BlackOut, black_out, Levelled}
+use Rattle.row_black.proofs.Refusals.{goes}
 use Rattle.row_black.proofs.Calls.{done-is}
 use Rattle.row_black.proofs.Theorems.{exactly-when}
 use Rattle.rolbhunga.specs.Black.{BlackTold, roomy, number_in, frame_in, bytes_in, BlackPut, BlackBytes, BlackLent}

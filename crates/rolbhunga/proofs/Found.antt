@@ -2,7 +2,7 @@
 use Prim.Native.Nat.{ℕ}
 use mathlib.Core.Path.{◌≡◌, sym, ◌∙◌}
 use mathlib.Core.List.{List}
-use borrow.Author.Tests.{eq-eqb, ne_eqb}
+use borrow.Author.Tests.{ne_eqb}
 use Rattle.list_find.specs.declared.Which.TheVariants.{List1, List2, List3}
 use Rattle.list_find.specs.Walk.{found_in}
 use Rattle.rolbhunga.specs.declared.find.FindNumbers.{FindNumbers}

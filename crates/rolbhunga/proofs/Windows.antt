@@ -12,7 +12,7 @@ use Rattle.dng.specs.Run.{Room}
 use Rattle.dng.specs.Answer.{Out, Ran, numbers_of}
 use Rattle.run_bytes.specs.Samples.{decoded, encoded, cleared}
 use Rattle.run_bytes.proofs.Laws.{decoded-any, cleared-whole}
-use Rattle.rolbhunga.specs.Calls.{short, reached, Told, bytes_of, Left, Bytes, roomy}
+use Rattle.rolbhunga.specs.Calls.{short, reached, Told, bytes_of, Left, Bytes}
 
 module _ {A : Type 0} where
   -- a typed run, in numbers

@@ -1,5 +1,5 @@
 -- What the calls of black level promise: document 02's number, and the forms over bytes, in which 100 comes after it.
-use Rattle.std.specs.Prelude.{ℕ, ◌/◌, Bool, ◌&&◌, cond, List, ◌≡◌, leb, Float, length, take, replicate}
+use Rattle.std.specs.Prelude.{ℕ, ◌/◌, Bool, ◌&&◌, cond, List, ◌≡◌, leb, Float, take, replicate}
 use Rattle.std.specs.Float.{nan, binary32}
 use Rattle.std.specs.Float.Ieee.{to_bits}
 use Rattle.dng.specs.Value.{nought}

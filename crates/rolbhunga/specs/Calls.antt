@@ -1,6 +1,6 @@
 -- What the exported functions promise. The outputs are those of `dng`'s Answer; the byte forms add where the samples
 -- stand and an answer for too little work room.
-use Rattle.std.specs.Prelude.{ℕ, ◌/◌, Bool, true, false, ◌&&◌, cond, List, ◌≡◌, leb, Float, length, replicate}
+use Rattle.std.specs.Prelude.{ℕ, ◌/◌, Bool, true, false, cond, List, ◌≡◌, leb, Float, length, replicate}
 use Rattle.std.specs.Float.{nan, binary32}
 use Rattle.std.specs.Float.Ieee.{to_bits}
 use Rattle.dng.specs.declared.Answer.{Answer}

@@ -1,5 +1,5 @@
 -- Worked values of black level over bytes, each by computing: when 100 is given, and a frame with bytes left over.
-use Rattle.std.specs.Prelude.{ℕ, Bool, true, false, List, [], ◌∷◌, ◌≡◌, refl, Float}
+use Rattle.std.specs.Prelude.{ℕ, true, false, List, [], ◌∷◌, ◌≡◌, refl}
 use Rattle.std.specs.Float.{nan, binary32}
 use Rattle.std.specs.Float.Ieee.{of_bits, to_bits, of_int, round, sub, mul, lt}
 use Rattle.num_words.specs.Words.{little}
@@ -9,7 +9,7 @@ use Rattle.run_bytes.specs.Samples.{floats_in, wholes_in, decoded, encoded, byte
 use Rattle.row_black.specs.declared.Field.{Field}
 use Rattle.row_black.specs.declared.Black.TheVariants.{Done, Range, Tables, Samples}
 use Rattle.row_black.specs.Black.{Levels, levels, with_delta, black_at, levelled_by, levelled, levelled_at, field_in_range, tabled, sampled, answer_of, BlackOut, black_out}
-use Rattle.rolbhunga.specs.Black.{roomy, number_in, frame_in, bytes_in}
+use Rattle.rolbhunga.specs.Black.{roomy, number_in, bytes_in}
 
 pub record Numbers : Type 0 where
   -- 100 is last: it is given where the call would be done, and nowhere else

@@ -11,8 +11,7 @@ ghost use Rattle.rolbhunga.specs.Black.{BlackTold, frame_in, BlackPut, BlackByte
 
 use row_black::{Field, Pattern};
 
-#[unsafe(no_mangle)]
-pub extern "C" fn rolbhunga_black_f32(
+pub fn rolbhunga_black_f32(
     input: &[f32],
     out: &mut [f32],
     f: Field,
@@ -32,8 +31,7 @@ pub extern "C" fn rolbhunga_black_f32(
     row_black::number(a)
 }
 
-#[unsafe(no_mangle)]
-pub extern "C" fn rolbhunga_black_u16(
+pub fn rolbhunga_black_u16(
     input: &[u16],
     out: &mut [f32],
     f: Field,
@@ -134,8 +132,7 @@ fn try_f32(
     row_black::number(a)
 }
 
-#[unsafe(no_mangle)]
-pub extern "C" fn rolbhunga_bytes_black_f32(
+pub fn rolbhunga_bytes_black_f32(
     input: &[u8],
     bytes: &mut [u8],
     f: Field,
@@ -243,8 +240,7 @@ fn try_u16(
     row_black::number(a)
 }
 
-#[unsafe(no_mangle)]
-pub extern "C" fn rolbhunga_bytes_black_u16(
+pub fn rolbhunga_bytes_black_u16(
     input: &[u8],
     bytes: &mut [u8],
     f: Field,

@@ -6,7 +6,7 @@ use list_find::{Found, Which};
 
 // Document 02's number, and of a list that was found its first byte and its length.
 #[repr(C)]
-#[derive(Drop)]
+#[derive(Clone, Copy)]
 pub struct FindNumbers {
     pub number: u32,
     pub start: usize,
@@ -39,8 +39,7 @@ fn find_numbers(found: Found) -> FindNumbers
     }
 }
 
-#[unsafe(no_mangle)]
-pub extern "C" fn rolbhunga_find(file: &[u8], which: u32) -> FindNumbers
+pub fn rolbhunga_find(file: &[u8], which: u32) -> FindNumbers
     ensures { result ≡ found_for file.now which }
 {
     match which {

@@ -1,8 +1,10 @@
 // What C and Rust call. Every function answers for every argument; include/rolbhunga.h says it in C's words.
 // The forms over bytes are lent typed room beside them, since samples are typed inside: too little of it is an answer
 // of its own.
+#![tactic(auto)]
+
 pub mod black;
-mod find;
+pub mod find;
 
 ghost use Rattle.std.specs.Prelude.{◌≡◌, cond, ◌*◌, ◌≤◌, length, replicate};
 ghost use Rattle.std.specs.Float.{nan, binary32};
@@ -37,7 +39,7 @@ use dng::{Answer, Numbers, Refusal, RowAnswer, RowWindow, Settings, Window};
 // What a row call answers: the papers' number, the entries read whole before a malformed one, the byte at which that
 // one was refused, and how many opcodes of the list the f32 run names.
 #[repr(C)]
-#[derive(Drop)]
+#[derive(Clone, Copy)]
 pub struct RowNumbers {
     pub number: u32,
     pub entry: usize,
@@ -47,8 +49,7 @@ pub struct RowNumbers {
 
 // ---- reading
 
-#[unsafe(no_mangle)]
-pub extern "C" fn rolbhunga_read(list: &[u8]) -> Numbers
+pub fn rolbhunga_read(list: &[u8]) -> Numbers
     ensures { result ≡ reading_numbers_of (reading_of list.now) }
 {
     run_answers::reading_numbers(list_read::read(list))
@@ -94,8 +95,7 @@ fn row_numbers(a: RowAnswer) -> RowNumbers
     }
 }
 
-#[unsafe(no_mangle)]
-pub extern "C" fn rolbhunga_run_row(
+pub fn rolbhunga_run_row(
     list: &[u8],
     row: &mut [f32],
     w: RowWindow,
@@ -153,8 +153,7 @@ fn row_in(
     r
 }
 
-#[unsafe(no_mangle)]
-pub extern "C" fn rolbhunga_bytes_row(
+pub fn rolbhunga_bytes_row(
     list: &[u8],
     bytes: &mut [u8],
     w: RowWindow,
@@ -185,8 +184,7 @@ pub extern "C" fn rolbhunga_bytes_row(
 
 // ---- whole windows, typed
 
-#[unsafe(no_mangle)]
-pub extern "C" fn rolbhunga_run_f32(
+pub fn rolbhunga_run_f32(
     list: &[u8],
     samples: &mut [f32],
     w: Window,
@@ -202,8 +200,7 @@ pub extern "C" fn rolbhunga_run_f32(
     run_answers::numbers(run_window::run_f32(list, samples, w, set, marks, names))
 }
 
-#[unsafe(no_mangle)]
-pub extern "C" fn rolbhunga_run_u16(
+pub fn rolbhunga_run_u16(
     list: &[u8],
     samples: &mut [u16],
     w: Window,
@@ -221,8 +218,7 @@ pub extern "C" fn rolbhunga_run_u16(
 }
 
 // Whether a frame is whole: its run answered `number`. A caller by rows asks once, with 0.
-#[unsafe(no_mangle)]
-pub extern "C" fn rolbhunga_whole(
+pub fn rolbhunga_whole(
     list: &[u8],
     full_width: u32,
     full_height: u32,
@@ -293,8 +289,7 @@ fn f32_in(
     r
 }
 
-#[unsafe(no_mangle)]
-pub extern "C" fn rolbhunga_bytes_f32(
+pub fn rolbhunga_bytes_f32(
     list: &[u8],
     bytes: &mut [u8],
     w: Window,
@@ -356,8 +351,7 @@ fn u16_in(
     r
 }
 
-#[unsafe(no_mangle)]
-pub extern "C" fn rolbhunga_bytes_u16(
+pub fn rolbhunga_bytes_u16(
     list: &[u8],
     bytes: &mut [u8],
     w: Window,

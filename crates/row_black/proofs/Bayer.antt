@@ -1,5 +1,5 @@
 -- One plane and a pattern of one or two columns: the levels of even and odd samples are those of the pattern's columns. Assumes nothing.
-use Prim.Native.Nat.{ℕ, ◌+◌, ◌-◌, ◌/◌, ◌%◌, ◌≤◌, ◌<◌}
+use Prim.Native.Nat.{ℕ, ◌+◌, ◌-◌, ◌%◌, ◌≤◌, ◌<◌}
 use mathlib.Core.Bool.{Bool, true, false, ◌&&◌, cond}
 use mathlib.Core.List.{List}
 use mathlib.Core.Path.{◌≡◌, refl, sym, ap, ap₂, ◌∙◌}
@@ -14,7 +14,7 @@ use Rattle.pointwise.specs.Points.{each}
 use Rattle.pointwise.proofs.Each.{below_or, each-agree}
 use Rattle.row_black.specs.declared.Level.{Level}
 use Rattle.row_black.specs.declared.Pattern.{Pattern}
-use Rattle.row_black.specs.Black.{levels, entry_in, with_delta, black_at, levelled_by, levelled}
+use Rattle.row_black.specs.Black.{levels, with_delta, black_at, levelled_by, levelled}
 use Rattle.row_black.specs.Rows.{level_in, settled_at, pair_of, no_delta, own_delta, pair_rule, row_rule, InTables, RowLent}
 use Rattle.row_black.proofs.Values.{delta-here, delta-past}
 use Rattle.row_black.proofs.Refusals.{split}

@@ -6,12 +6,11 @@ use mathlib.Core.Path.{◌≡◌, refl, sym, ap, ap₂, ◌∙◌}
 use native.Mathlib.Nat.{zero-mul, one-mul, mul-one, mul_comm, mul-le-mul, mul-le-mul_right, mod-lt, div-le_self, mul_assoc, mul-le-mul_left, mod-eq_of_lt, div-eq_of_lt, div-add-mod', mul-add-div_right, mul-add-mod_self_right, add-mul-mod_self_right}
 use native.Mathlib.Omega.{arith}
 use lib.Ieee.{Float}
-use lib.ListN.{length, get_or}
 use Rattle.pointwise.proofs.Each.{below_or}
 use Rattle.row_black.specs.declared.Level.{Level}
 use Rattle.row_black.specs.declared.Pattern.{Pattern}
 use Rattle.row_black.specs.declared.Spot.{Spot}
-use Rattle.row_black.specs.Black.{levels, entry_in, with_delta, black_at, levelled_by, levelled}
+use Rattle.row_black.specs.Black.{levels, black_at, levelled}
 use Rattle.row_black.specs.Rows.{level_in, spot_at, step_rule, row_rule, InTables, RowLent, Stepped}
 
 -- where sample j stands, seen from sample i of the first period

@@ -7,7 +7,6 @@ use native.Mathlib.Nat.{mod-lt, mod-le, div-add-mod', add-mul-mod_self_right}
 use native.Mathlib.Omega.{arith}
 use borrow.Author.Tests.{eq-eqb, ne_eqb}
 use lib.Arith.{digits_mod}
-use lib.Dec.{eqb}
 use lib.Ieee.{Float}
 use lib.ListN.{length, get_or, set}
 use Rattle.pointwise.specs.Points.{each}
@@ -29,6 +28,10 @@ next-even j e = add-mul-mod_self_right j 1 2 ∙ e
 
 pub pair_fits : (j e : ℕ) → j % 2 ≡ 0 → e % 2 ≡ 0 → j < e → j + 2 ≤ e
 pair_fits j e p q h = omega (arith, p, q, div-add-mod' j 2, div-add-mod' e 2)
+
+-- before the last pair's end a pair is whole
+pub pair_in : (n j : ℕ) → j % 2 ≡ 0 → j < n - n % 2 → j + 2 ≤ n
+pair_in n j p h = omega (arith, pair_fits j (n - n % 2) p (whole-pairs n) h)
 
 pub one_left : (n : ℕ) → (n - n % 2 ≡ n → ⊥) → n ≡ n - n % 2 + 1
 one_left n h =

@@ -2,12 +2,11 @@
 use Prim.Native.Nat.{ℕ, ◌+◌, ◌-◌, ◌*◌, ◌/◌, ◌%◌, ◌≤◌, ◌<◌}
 use mathlib.Core.Bool.{Bool, cond}
 use mathlib.Core.List.{List, ◌++◌}
-use mathlib.Core.Path.{◌≡◌, refl, sym, ap, ap₂, ◌∙◌}
+use mathlib.Core.Path.{◌≡◌, refl, sym, ap, ◌∙◌}
 use native.Mathlib.Nat.{add-mul, one-mul, mul_comm, mul_assoc, mul-le-mul_right, div-lt_iff_lt-mul, mul-add-div_right, mul-add-mod_self_right}
 use native.Mathlib.Omega.{arith}
 use borrow.Author.Tests.{lt-ltb, le-ltb}
 use lib.Arith.{digits_div, digits_mod}
-use lib.Dec.{ltb}
 use lib.Ieee.{Float, nan}
 use lib.ListN.{length, get_or, take, drop, length-drop}
 use lib.Seq.{get_or-take, get_or-drop, length-take-le}
@@ -18,7 +17,7 @@ use Rattle.row_black.specs.declared.Field.{Field}
 use Rattle.row_black.specs.declared.Pattern.{Pattern}
 use Rattle.row_black.specs.Black.{Levels, total, levelled, levelled_at}
 use Rattle.row_black.specs.Rows.{row_rule, RowLent}
-use Rattle.row_black.proofs.Refusals.{Ranged, Tabled, Goes, row_fits, total-fits}
+use Rattle.row_black.proofs.Refusals.{Goes, row_fits}
 
 -- a row's samples, and where row y starts
 abbrev pub wide : Field → ℕ

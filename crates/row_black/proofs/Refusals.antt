@@ -1,11 +1,11 @@
 -- The tests of a call: products by quotients, and what a call that is not refused has. Assumes nothing.
 use Prim.Native.Nat.{ℕ, suc, ◌*◌, ◌/◌, ◌≤◌, ◌<◌}
-use mathlib.Core.Bool.{Bool, true, false, ◌&&◌, cond}
+use mathlib.Core.Bool.{Bool, true, false, ◌&&◌}
 use mathlib.Core.Path.{◌≡◌, refl, sym, ap, ◌∙◌}
-use native.Mathlib.Nat.{mul_assoc, mul_comm, mul-le-mul, mul-le-mul_left, mul-le-mul_right, one-mul, mul-one, le-div_iff_mul-le, lt_of_le_of_lt}
+use native.Mathlib.Nat.{mul_assoc, mul_comm, mul-le-mul, mul-le-mul_left, mul-one, le-div_iff_mul-le}
 use native.Mathlib.Omega.{arith}
 use borrow.Author.Tests.{le-leb, lt-leb, leb-true}
-use lib.Dec.{leb, lit<}
+use lib.Dec.{leb}
 use Rattle.pointwise.proofs.Each.{below_or}
 use Rattle.row_black.specs.declared.Field.{Field}
 use Rattle.row_black.specs.declared.Pattern.{Pattern}

@@ -1,6 +1,6 @@
 -- The statements of specs/Promises. Assumes nothing.
 use Prim.Native.Nat.{ℕ, ◌+◌, ◌*◌, ◌/◌, ◌%◌, ◌≤◌, ◌<◌}
-use mathlib.Core.Bool.{Bool, true, false, cond}
+use mathlib.Core.Bool.{Bool, false, cond}
 use mathlib.Core.List.{List}
 use mathlib.Core.Path.{◌≡◌, refl, sym, ap, ap₂, subst, ◌∙◌}
 use native.Mathlib.Nat.{mul_comm}
@@ -16,9 +16,9 @@ use Rattle.row_black.specs.declared.Field.{Field}
 use Rattle.row_black.specs.declared.Pattern.{Pattern}
 use Rattle.row_black.specs.declared.Black.{Black}
 use Rattle.row_black.specs.declared.Black.TheVariants.{Done, Range, Tables, Samples}
-use Rattle.row_black.specs.Black.{Levels, levelled, total, levelled_at, field_in_range, tabled, sampled, answer_of, is_done, BlackOut, black_out, Levelled}
-use Rattle.row_black.specs.Promises.{Determined, When, ExactlyWhen, Kept, Keeps, place_of, Alone, Pointwise, tile_of, Tiled, TiledIf, Tiles}
-use Rattle.row_black.proofs.Refusals.{by_cases, Goes, goes}
+use Rattle.row_black.specs.Black.{Levels, levelled, total, levelled_at, field_in_range, tabled, sampled, answer_of, is_done, black_out}
+use Rattle.row_black.specs.Promises.{Determined, When, ExactlyWhen, Kept, Keeps, place_of, Pointwise, tile_of, Tiles}
+use Rattle.row_black.proofs.Refusals.{by_cases, goes}
 use Rattle.row_black.proofs.Frames.{behind}
 
 -- ---- 1

@@ -1,8 +1,8 @@
 -- A walk over every step-th sample of a row, its columns counted beside it. Assumes nothing.
 use Prim.Native.Nat.{ℕ, ◌+◌, ◌*◌, ◌/◌, ◌%◌, ◌≤◌, ◌<◌}
 use mathlib.Core.List.{List}
-use mathlib.Core.Path.{◌≡◌, refl, sym, ap, ap₂, ◌∙◌}
-use native.Mathlib.Nat.{add-mul, one-mul, mul-one, zero-mul, mul-le-mul, mul-le-mul_left, div-eq_of_lt, add-mul-div_right}
+use mathlib.Core.Path.{◌≡◌, sym, ap, ap₂, ◌∙◌}
+use native.Mathlib.Nat.{add-mul, one-mul, mul-one, mul-le-mul, mul-le-mul_left, div-eq_of_lt, add-mul-div_right}
 use native.Mathlib.Omega.{arith}
 use lib.Dec.{eqb}
 use lib.Ieee.{Float}

@@ -1,5 +1,5 @@
 -- Worked values of the definitions, each by computing.
-use Rattle.std.specs.Prelude.{ℕ, Bool, true, false, List, [], ◌∷◌, ◌≡◌, refl, Float}
+use Rattle.std.specs.Prelude.{ℕ, true, false, List, [], ◌∷◌, ◌≡◌, refl, Float}
 use Rattle.std.specs.Float.{nan, inf, binary32}
 use Rattle.std.specs.Float.Ieee.{of_bits, of_int, round, add, sub, mul, lt}
 use Rattle.pointwise.specs.Points.{each}

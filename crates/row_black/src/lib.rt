@@ -2,6 +2,8 @@
 // rest is scaled. A row of one plane under a pattern of one or two columns, as a Bayer image has it, goes by pairs of
 // samples, which compiles to vector code. Any other goes by the samples that share an entry of the pattern: they lie as
 // many samples apart as a row of the pattern has with all its planes.
+#![tactic(auto)]
+
 ghost use Rattle.std.specs.Prelude.{◌≡◌, true, ◌&&◌, ℕ, ◌+◌, ◌*◌, ◌/◌, ◌%◌, ◌≤◌, ◌<◌, min, eqb, leb, Float, length};
 ghost use Rattle.std.specs.Float.{nan, binary32};
 ghost use Rattle.pointwise.specs.Points.{each};
@@ -42,7 +44,7 @@ use dng::Window;
 
 // The frame: `width` by `height` pixels of `planes` samples, rows without gaps, its corner at (x0, y0) of the image.
 #[repr(C)]
-#[derive(Drop)]
+#[derive(Clone, Copy)]
 pub struct Field {
     pub width: usize,
     pub height: usize,
@@ -53,14 +55,14 @@ pub struct Field {
 
 // The size of the pattern of black and scale, which starts at the image's corner.
 #[repr(C)]
-#[derive(Drop)]
+#[derive(Clone, Copy)]
 pub struct Pattern {
     pub height: usize,
     pub width: usize,
 }
 
 // What a call answers. The paper's number of each case: `number_of` in specs/Black.
-#[derive(Drop)]
+#[derive(Clone, Copy)]
 pub enum Black {
     Done,
     Range,
@@ -69,7 +71,7 @@ pub enum Black {
 }
 
 // Where a sample of a row stands: its plane, its image column, and the pattern's column.
-#[derive(Drop)]
+#[derive(Clone, Copy)]
 pub struct Spot {
     pub plane: usize,
     pub column: usize,
@@ -77,7 +79,7 @@ pub struct Spot {
 }
 
 // What a sample is levelled by.
-#[derive(Drop)]
+#[derive(Clone, Copy)]
 pub struct Level {
     pub black: f32,
     pub scale: f32,

@@ -1,7 +1,7 @@
 -- Worked values, each by computing: what a missing delta does, and a value by its byte position. Document 01, 'What
 -- each does to a value v'.
-use Rattle.std.specs.Prelude.{ℕ, true, List, [], ◌∷◌, ◌≡◌, refl, pos, Float}
-use Rattle.std.specs.Float.{nan, fin, binary32}
+use Rattle.std.specs.Prelude.{true, [], ◌∷◌, ◌≡◌, refl, pos}
+use Rattle.std.specs.Float.{nan, fin}
 use Rattle.std.specs.Float.Ieee.{add, mul, div, of_bits, of_int}
 use Rattle.num_words.specs.Words.{big}
 use Rattle.dng.specs.Value.{nought, one, delta}

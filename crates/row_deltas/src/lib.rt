@@ -1,6 +1,8 @@
 // Deltas and scales of rows and columns, on one plane of a lent row.
 // What is the same for a whole row, a row's delta or scale, is worked out once by the caller; a loop does what depends
 // on the sample.
+#![tactic(auto)]
+
 ghost use Rattle.std.specs.Prelude.{◌≡◌, ◌+◌, ◌-◌, ◌*◌, ◌/◌, ◌≤◌, ◌<◌, length};
 ghost use Rattle.std.specs.Float.Ieee.{add, mul, div};
 ghost use Rattle.std.specs.Float.{binary32};
@@ -15,7 +17,7 @@ ghost use Rattle.row_deltas.specs.Spans.{Spans, Strides};
 use row_select::Walk;
 
 // A walk as places of a row: the first, past the last, and how far apart.
-#[derive(Drop)]
+#[derive(Clone, Copy)]
 struct Span {
     begin: usize,
     stop: usize,

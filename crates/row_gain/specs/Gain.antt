@@ -1,6 +1,6 @@
 -- What the steps of a gain map answer, in the words of dng/specs/Value. Document 01, 'What each does to a value v',
 -- GainMap.
-use Rattle.std.specs.Prelude.{ℕ, ◌-◌, ◌*◌, ◌≤◌, ◌<◌, max, ◌≡◌, List, Float}
+use Rattle.std.specs.Prelude.{ℕ, ◌*◌, ◌≤◌, ◌<◌, max, ◌≡◌, List, Float}
 use Rattle.std.specs.Float.{binary32}
 use Rattle.std.specs.Float.Ieee.{mul}
 use Rattle.dng.specs.Value.{position, lower, upper, share, gain_of}

@@ -1,6 +1,6 @@
 -- Worked values of a gain map, each by computing. Document 01, 'What each does to a value v', GainMap. A float stands
 -- by its bit pattern.
-use Rattle.std.specs.Prelude.{ℕ, ◌+◌, ◌≡◌, refl, false, List, [], ◌∷◌, ◌++◌, replicate, Float}
+use Rattle.std.specs.Prelude.{ℕ, ◌≡◌, refl, false, List, [], ◌∷◌, ◌++◌, replicate, Float}
 use Rattle.std.specs.Float.{nan, inf, binary32, binary64}
 use Rattle.std.specs.Float.Ieee.{of_bits, of_int, lt, add, sub, mul, div, round, to_unsigned}
 use Rattle.num_words.specs.Words.{big}

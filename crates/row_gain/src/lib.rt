@@ -1,4 +1,6 @@
 // Gain maps, on one plane of a lent row.
+#![tactic(auto)]
+
 ghost use Rattle.std.specs.Prelude.{◌≡◌, ◌+◌, ◌-◌, ◌*◌, ◌≤◌, ◌<◌, min, max, length};
 ghost use Rattle.std.specs.Float.{binary32};
 ghost use Rattle.std.specs.Float.Ieee.{add, mul};
@@ -35,7 +37,7 @@ fn next(i: u32, last: u32) -> u32
 }
 
 // An axis of a map ready to measure by: the full size, at least 1, and the last point's number as floats.
-#[derive(Drop)]
+#[derive(Clone, Copy)]
 struct Ruler {
     full: f64,
     origin: f64,
@@ -70,7 +72,7 @@ fn place(at: u32, r: Ruler) -> f64
 }
 
 // The two points beside a coordinate, and how far it lies on the way from the one to the other.
-#[derive(Drop)]
+#[derive(Clone, Copy)]
 pub struct Axis {
     pub lower: u32,
     pub upper: u32,
@@ -99,7 +101,7 @@ pub fn row_axis(g: Grid, y: u32, full_height: u32, points_v: u32) -> Axis
 
 // The two map rows around an image row, as the code carries them: where in the body the gains of map column 0 stand,
 // how far apart the map columns are, the last map column, and the share of the second row.
-#[derive(Drop)]
+#[derive(Clone, Copy)]
 struct Strip {
     near: usize,
     far: usize,
@@ -155,7 +157,7 @@ fn line_at(body: &[u8], s: Strip, h: u32) -> f32
 
 // The lines of map column h and of the one after it, the second less the first: what the image columns between the two
 // have in common.
-#[derive(Drop)]
+#[derive(Clone, Copy)]
 struct Pair {
     h: u32,
     a: f32,

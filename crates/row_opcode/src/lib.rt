@@ -1,4 +1,6 @@
 // One opcode on one lent row. A run prepares an opcode once and hands it to each of its rows.
+#![tactic(auto)]
+
 ghost use Rattle.std.specs.Prelude.{◌≡◌, true, false, cond, eqb, ◌+◌, min, length, Float};
 ghost use Rattle.pointwise.specs.Points.{each};
 ghost use Rattle.pointwise.specs.Select.{selects, First};
@@ -20,7 +22,7 @@ use row_vignette::Reach;
 // ---- what an opcode is to a row
 
 // What is done to each sample of a region.
-#[derive(Drop)]
+#[derive(Clone, Copy)]
 pub enum Task {
     Table {
         n: u32,
@@ -49,7 +51,7 @@ pub enum Task {
 }
 
 // A row knows three kinds of opcodes: those that leave it, the vignette, and those of a region.
-#[derive(Drop)]
+#[derive(Clone, Copy)]
 pub enum Plan {
     Nothing,
     Vignette(Radial),
@@ -57,7 +59,7 @@ pub enum Plan {
 }
 
 // The same with what is worked out once for all rows: m2 where it is usable, and a region's first column.
-#[derive(Drop)]
+#[derive(Clone, Copy)]
 pub enum Prepared {
     Nothing,
     Vignette {
@@ -72,7 +74,7 @@ pub enum Prepared {
 }
 
 // Where a row lies: its first pixel is the image column x0 of the image row y, and a pixel has `planes` samples.
-#[derive(Drop)]
+#[derive(Clone, Copy)]
 pub struct Place {
     pub x0: u32,
     pub planes: u32,

@@ -7,7 +7,7 @@ use mathlib.Core.List.{List}
 use native.Mathlib.Omega.{arith}
 use lib.IntN.{ℤ, pos}
 use lib.Dec.{lit≤}
-use lib.Ieee.{Float, nan, inf, fin, binary64, round, add, mul, sum, units, odd, size, span, climb, up, down, unlike, of_bits}
+use lib.Ieee.{Float, nan, inf, fin, binary64, round, add, mul, sum, units, odd, size, span, climb, up, down, of_bits}
 use lib.Ieee.Scale.{round_same}
 use lib.Ieee.Fits.{down_pos}
 use borrow.Author.Tests.{le-leb, lt-leb}

@@ -1,4 +1,6 @@
 // Polynomials, on one plane of a lent row.
+#![tactic(auto)]
+
 ghost use Rattle.std.specs.Prelude.{◌≡◌, suc, ◌+◌, ◌*◌, ◌≤◌, ◌<◌, length};
 ghost use Rattle.row_select.specs.Walks.{walked, Walks};
 ghost use Rattle.dng.specs.Value.{map_polynomial, horner, nought};
@@ -8,7 +10,7 @@ ghost use Rattle.row_polynomial.specs.Blocks.{xOf, wide_of, Counted, Block, Eval
 use row_select::{Walk, stop_of};
 
 // Nine coefficients, the missing high ones 0.0: a row reads them once.
-#[derive(Drop)]
+#[derive(Clone, Copy)]
 struct Terms {
     c0: f64,
     c1: f64,

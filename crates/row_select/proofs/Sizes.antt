@@ -1,6 +1,5 @@
 -- The numbers of a walk are small: nothing that is worked out of them wraps. Assumes nothing.
 use Prim.Native.Nat.{ℕ, ◌+◌, ◌*◌, ◌≤◌, ◌<◌, max}
-use mathlib.Core.Path.{◌≡◌}
 use native.Mathlib.Nat.{mul-le-mul_left, mul-one}
 use native.Mathlib.Omega.{arith}
 use Rattle.pointwise.proofs.Walk.{first-bound}

@@ -1,5 +1,5 @@
 -- Worked values of `walked`, each by computing: P3 of document 01, 'Bench frames', as a walk, and a plane of several.
-use Rattle.std.specs.Prelude.{ℕ, ◌+◌, ◌*◌, ◌≡◌, refl, List, [], ◌∷◌}
+use Rattle.std.specs.Prelude.{◌+◌, ◌*◌, ◌≡◌, refl, [], ◌∷◌}
 use Rattle.pointwise.specs.Points.{each}
 use Rattle.pointwise.specs.Select.{selects, in_row, on_columns}
 use Rattle.row_select.specs.declared.Walk.{Walk}

@@ -1,6 +1,8 @@
 // Which rows, columns and planes a region selects: the first column worked out once an opcode, the rest once a row,
 // handed to the steps as a walk.
 // The numbers are those of a region as the list has them: a pitch of 0 counts as 1.
+#![tactic(auto)]
+
 ghost use Rattle.std.specs.Prelude.{◌≡◌, ◌+◌, ◌-◌, ◌*◌, min};
 ghost use Rattle.pointwise.specs.Select.{selects, First};
 ghost use Rattle.row_select.specs.Walks.{Walks};
@@ -8,7 +10,7 @@ ghost use Rattle.row_select.specs.Walks.{Walks};
 // The selected samples of one plane of a row: the row starts at image column x0 and has `planes` samples to a pixel;
 // the columns left..right are selected, `pitch` apart; the first of them at or after x0 is x0 + col, the `nth` counted
 // from left.
-#[derive(Drop)]
+#[derive(Clone, Copy)]
 pub struct Walk {
     pub x0: usize,
     pub planes: usize,
@@ -21,7 +23,7 @@ pub struct Walk {
 }
 
 // The first selected column at or after x0: x0 + col, the `nth` counted from left.
-#[derive(Drop)]
+#[derive(Clone, Copy)]
 pub struct Start {
     pub col: usize,
     pub nth: usize,

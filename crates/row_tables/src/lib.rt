@@ -1,5 +1,7 @@
 // Tables, f32 and u16, on one plane of a lent row.
 // In each loop `i` is the sample and `c` its column, which only the proof needs.
+#![tactic(auto)]
+
 ghost use Rattle.std.specs.Prelude.{◌≡◌, ◌+◌, ◌-◌, ◌*◌, ◌≤◌, ◌<◌, min, length};
 ghost use Rattle.std.specs.Float.{binary32};
 ghost use Rattle.std.specs.Float.Ieee.{mul};

@@ -1,8 +1,9 @@
 -- Worked values of the definitions that the contracts cite, which the checker computes: a frame of 2×2 with its centre
 -- in the middle.
-use Rattle.std.specs.Prelude.{ℕ, true, false, [], ◌∷◌, ◌≡◌, refl, Float}
-use Rattle.std.specs.Float.{nan, inf, binary64}
+use Rattle.std.specs.Prelude.{ℕ, true, false, [], ◌∷◌, ◌≡◌, refl, pos, Float}
+use Rattle.std.specs.Float.{nan, inf, fin, binary64}
 use Rattle.std.specs.Float.Ieee.{of_bits, of_int, round, add, sub, mul, div, lt}
+use mathlib.Core.Path.{sym, ap, ap₂, ◌∙◌}
 use Rattle.pointwise.specs.Points.{each}
 use Rattle.num_narrow.specs.Narrow.{narrow}
 use Rattle.num_convert.specs.Convert.{whole_in}
@@ -57,6 +58,31 @@ pub record Worked : Type 0 where
   pub corner : vignetted small middle 0 0 (whole 1) ≡ whole 2
   pub centre : vignetted small middle 1 1 (whole 3) ≡ whole 3
 
+-- ±m·2^e, written out: the checker compares two computations slowly, and one with what it comes to quickly
+one-is : whole 1 ≡ fin false 1 (pos 0)
+unfolding of_int round
+one-is = refl
+
+two-is : whole 2 ≡ fin false 1 (pos 1)
+unfolding of_int round
+two-is = refl
+
+three-is : whole 3 ≡ fin false 3 (pos 0)
+unfolding of_int round
+three-is = refl
+
+six-is : whole 6 ≡ fin false 3 (pos 1)
+unfolding of_int round
+six-is = refl
+
+corner-is : vignetted small middle 0 0 (whole 1) ≡ fin false 1 (pos 1)
+unfolding vignetted radial_gain m2_of farthest narrow add sub mul div lt of_bits of_int round
+corner-is = refl
+
+centre-is : vignetted small middle 1 1 (whole 3) ≡ fin false 3 (pos 0)
+unfolding vignetted radial_gain m2_of farthest narrow add sub mul div lt of_bits of_int round
+centre-is = refl
+
 pub worked : Worked
 unfolding vignetted radial_gain m2_of farthest usable reach_of narrow add sub mul div lt of_bits of_int round
 worked = record {
@@ -75,8 +101,8 @@ worked = record {
   across-4 = refl;
   m2-middle = refl;
   nested = refl;
-  corner = refl;
-  centre = refl;
+  corner = corner-is ∙ sym two-is;
+  centre = centre-is ∙ sym three-is;
 }
 
 -- ---- rows
@@ -87,12 +113,17 @@ unfolding each on_row whole_pixel vignette vignetted radial_gain m2_of farthest 
     of_int round
 beside = refl
 
+partial-is : each (on_row 0 2 0 3 (vignette small middle)) (whole 3 ∷ whole 1 ∷ whole 1 ∷ [])
+    ≡ fin false 3 (pos 1) ∷ fin false 1 (pos 1) ∷ fin false 1 (pos 0) ∷ []
+unfolding each on_row whole_pixel vignette vignetted radial_gain m2_of farthest usable narrow add sub mul div lt of_bits
+    of_int round
+partial-is = refl
+
 -- two planes, three samples: the second pixel is not whole
 pub partial : each (on_row 0 2 0 3 (vignette small middle)) (whole 3 ∷ whole 1 ∷ whole 1 ∷ [])
     ≡ whole 6 ∷ whole 2 ∷ whole 1 ∷ []
-unfolding each on_row whole_pixel vignette vignetted radial_gain m2_of farthest usable narrow add sub mul div lt of_bits
-    of_int round
-partial = refl
+partial =
+    partial-is ∙ sym (ap (λ (c : Float). whole 6 ∷ whole 2 ∷ c ∷ []) one-is ∙ ap₂ (λ (a b : Float). a ∷ b ∷ fin false 1 (pos 0) ∷ []) six-is two-is)
 
 -- a row from the full height on stays
 pub past : each (on_row 0 1 2 2 (vignette small middle)) (whole 3 ∷ whole 1 ∷ []) ≡ whole 3 ∷ whole 1 ∷ []

@@ -1,4 +1,6 @@
 // Radial gain, on a lent row.
+#![tactic(auto)]
+
 ghost use Rattle.std.specs.Prelude.{◌≡◌, ◌+◌, ◌*◌, ◌≤◌, ◌<◌, min, length, Float};
 ghost use Rattle.std.specs.Float.Ieee.{mul};
 ghost use Rattle.std.specs.Float.{binary32};
@@ -15,7 +17,7 @@ use dng::Radial;
 
 // The squared distance from the centre to the farthest corner. Unusable, that is not above 0 or not finite: the opcode
 // has no effect.
-#[derive(Drop)]
+#[derive(Clone, Copy)]
 pub enum Reach {
     Usable { m2: f64 },
     Unusable,

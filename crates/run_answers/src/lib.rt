@@ -1,4 +1,6 @@
 // The ranges of document 01, and the papers' number for each answer.
+#![tactic(auto)]
+
 ghost use Rattle.std.specs.Prelude.{◌≡◌};
 ghost use Rattle.dng.specs.List.{reason_number};
 ghost use Rattle.dng.specs.Answer.{in_range, row_in_range, malformed_numbers, numbers_of, reading_numbers_of, row_numbers_of};

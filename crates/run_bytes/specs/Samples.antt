@@ -1,8 +1,8 @@
 -- Samples that stand in bytes. Document 01, its last line: samples little-endian. Over the kind A where the two kinds
 -- do not differ.
 use Rattle.std.specs.Prelude.{ℕ, ◌*◌, ◌/◌, ◌%◌, ◌^◌, List, Float, length, get_or, replicate}
-use Rattle.std.specs.Float.{nan, binary32}
-use Rattle.std.specs.Float.Ieee.{of_bits, to_bits}
+use Rattle.std.specs.Float.{binary32}
+use Rattle.std.specs.Float.Ieee.{of_bits}
 use Rattle.num_words.specs.Words.{little}
 use Rattle.pointwise.specs.Points.{each, between}
 use Rattle.dng.specs.Value.{nought}

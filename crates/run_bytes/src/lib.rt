@@ -1,5 +1,7 @@
 // Samples that stand in bytes, little-endian: out of the bytes into typed room that the caller lends, and back; and the
 // room cleared.
+#![tactic(auto)]
+
 ghost use Rattle.std.specs.Prelude.{◌≡◌, ◌*◌, ◌≤◌, length};
 ghost use Rattle.std.specs.Float.{nan, binary32};
 ghost use Rattle.std.specs.Float.Ieee.{to_bits};

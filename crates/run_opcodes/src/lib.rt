@@ -1,6 +1,8 @@
 // The opcodes of a list on a window's samples, one after another, f32 and u16: all of them, or those before the repair
 // that finds too little scratch.
 // Document 01, 'What comes back': 5, opcode by opcode, the samples then as after the opcodes before it.
+#![tactic(auto)]
+
 ghost use Rattle.std.specs.Prelude.{◌≡◌, true, ◌&&◌, length};
 ghost use Rattle.dng.specs.List.{preview_of, items_of, body_of};
 ghost use Rattle.dng.specs.Value.{rule_of, rule16_of};
@@ -16,7 +18,7 @@ use list_classes::Class;
 
 // All opcodes performed, with the positions repaired and left; or stopped at an opcode by too little room for its
 // marks (5). Opcodes that a preview leaves out are passed over and counted.
-#[derive(Drop)]
+#[derive(Clone, Copy)]
 pub enum Performed {
     All { repaired: u64, left: u64 },
     Marks { opcode: usize },

@@ -1,5 +1,7 @@
 // The refusals 1, 20 to 25, 3 and 4 of a run, and 1, 20 to 25 and 3 of a row, in order, before a sample is looked at: a
 // run that may go on cannot be refused by them any more.
+#![tactic(auto)]
+
 ghost use Rattle.std.specs.Prelude.{◌≡◌};
 ghost use Rattle.dng.specs.Run.{takes16, skipped, skipped16};
 ghost use Rattle.dng.specs.Answer.{takes_all};
@@ -10,14 +12,14 @@ use dng::{Answer, Reading, RowAnswer, RowWindow, Window};
 use list_survey::Survey;
 
 // What a run is to do: answer so and leave everything, or go on, with so many names to write at its end.
-#[derive(Drop)]
+#[derive(Clone, Copy)]
 pub enum Plan {
     Refuse { answer: Answer },
     Go { names: usize },
 }
 
 // The same for a row, which names nothing and says how many opcodes were skipped.
-#[derive(Drop)]
+#[derive(Clone, Copy)]
 pub enum RowPlan {
     Refuse { answer: RowAnswer },
     Go { skipped: usize },

@@ -1,4 +1,6 @@
 // A list on one lent row: the row form as a caller knows it. Document 01, 'Taken and left' and 'What comes back'.
+#![tactic(auto)]
+
 ghost use Rattle.std.specs.Prelude.{◌≡◌, true, ◌&&◌, cond, ◌*◌, ◌≤◌, length};
 ghost use Rattle.pointwise.specs.Points.{each};
 ghost use Rattle.dng.specs.List.{preview_of, body_of};

@@ -1,5 +1,7 @@
 // A frame of whole numbers, mended by a list: by the whole-number run where the list is one for it, otherwise as f32 at
 // scale 1, rounded back.
+#![tactic(auto)]
+
 ghost use Rattle.std.specs.Prelude.{◌≡◌, ◌≤◌, length};
 ghost use Rattle.dng.specs.Answer.{f32_out};
 ghost use Rattle.law_wholes.specs.WholeForm.{widened, narrowed, at_one};
@@ -8,7 +10,7 @@ ghost use Rattle.run_stored.specs.Mend.{not_taken, numbers_of, whole_mended, hel
 use dng::{Answer, Numbers, Settings, Window};
 
 // What mending answers.
-#[derive(Drop)]
+#[derive(Clone, Copy)]
 pub enum Mended {
     // by the whole-number run, which takes the list or refuses it for another reason
     Whole { answer: Answer },
@@ -60,7 +62,7 @@ fn held(wide: &[f32]) -> usize
 }
 
 // What the f32 run answers, and how many samples were held when they were rounded back.
-#[derive(Drop)]
+#[derive(Clone, Copy)]
 struct Rounding {
     answer: Answer,
     held: usize,

@@ -9,7 +9,7 @@ use lib.Dec.{eqb}
 use lib.ListN.{drop}
 use Rattle.dng.specs.List.{Item, optional_of}
 use Rattle.dng.specs.Run.{kept_in}
-use Rattle.run_verdict.specs.Verdict.{had_effect, whole_items, whole_frame, ExactlyWhole}
+use Rattle.run_verdict.specs.Verdict.{had_effect, whole_items, ExactlyWhole}
 
 first : (a b : Bool) → (a && b) ≡ true → a ≡ true
 first true b h = refl

@@ -7,7 +7,7 @@ use Rattle.dng.specs.declared.Opcode.{Opcode}
 use Rattle.dng.specs.declared.Opcode.TheVariants.{WarpRectilinear, WarpFisheye, FixVignetteRadial, FixBadPixelsConstant, FixBadPixelsList, TrimBounds, MapTable, MapPolynomial, GainMap, DeltaPerRow, DeltaPerColumn, ScalePerRow, ScalePerColumn, Other}
 use Rattle.dng.specs.List.{Item, optional_of}
 use Rattle.dng.specs.Value.{Frame, one, m2_of, usable}
-use Rattle.dng.specs.Run.{kept_in, Class, table, empty, local, repair, unapplied, class_of, Kind, f32_kind, u16_kind, Room, going, perform_on}
+use Rattle.dng.specs.Run.{kept_in, Class, table, empty, local, repair, unapplied, class_of, f32_kind, u16_kind, Room, going, perform_on}
 use Rattle.dng.specs.Answer.{frame_of}
 
 -- "not skipped, not an empty table"

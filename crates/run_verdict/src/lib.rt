@@ -1,4 +1,6 @@
 // Whether a frame is whole: by the number that its run answered, and by what of its list had its effect.
+#![tactic(auto)]
+
 ghost use Rattle.std.specs.Prelude.{◌≡◌, ◌&&◌, ◌||◌};
 ghost use Rattle.dng.specs.List.{optional_of, preview_of};
 ghost use Rattle.dng.specs.Value.{m2_of, usable};

@@ -1,5 +1,7 @@
 // A list on a window's samples: the whole-window runs as a caller knows them, f32 and u16. Document 01, 'What comes
 // back'.
+#![tactic(auto)]
+
 ghost use Rattle.std.specs.Prelude.{◌≡◌, cond, length};
 ghost use Rattle.std.proofs.lemmas.List.Edits.{sets};
 ghost use Rattle.dng.specs.Run.{kept_in, names_of};

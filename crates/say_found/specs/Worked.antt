@@ -1,8 +1,8 @@
 -- Worked texts, each by computing.
-use Rattle.std.specs.Prelude.{◌≡◌, refl, [], ◌∷◌, ◌++◌}
+use Rattle.std.specs.Prelude.{◌≡◌, refl, []}
 use Rattle.num_text.specs.Text.{text, decimal, digits_in}
 use Rattle.list_find.specs.declared.Which.TheVariants.{List1, List2, List3}
-use Rattle.list_find.specs.declared.Found.TheVariants.{At, NotTiff, Outside, TooMany, Missing}
+use Rattle.list_find.specs.declared.Found.TheVariants.{At, Outside, TooMany, Missing}
 use Rattle.list_find.specs.Walk.{headed, found_in}
 use Rattle.say_found.specs.Lines.{count, place_text, line_of, lines_of}
 

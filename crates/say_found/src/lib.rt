@@ -1,4 +1,6 @@
 // Where the lists of a DNG file lie, as text: a line for each of the three.
+#![tactic(auto)]
+
 ghost use Rattle.std.specs.Prelude.{◌+◌, ◌≤◌, length};
 ghost use Rattle.say_found.specs.Lines.{name_text, count, place_text, found_text, line_of, lines_of, Within, Said};
 

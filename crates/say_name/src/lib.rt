@@ -1,4 +1,6 @@
 // The names of the opcodes as text, for all that speak of them.
+#![tactic(auto)]
+
 ghost use Rattle.std.specs.Prelude.{◌≡◌, ◌+◌, ◌-◌, ◌≤◌, ◌<◌, length, take, drop};
 ghost use Rattle.num_text.specs.Appended.{Appended};
 ghost use Rattle.say_name.specs.Name.{id_of, name_text};

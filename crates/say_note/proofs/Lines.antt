@@ -14,7 +14,7 @@ use Rattle.dng.specs.declared.Refusal.{Refusal}
 use Rattle.dng.specs.declared.Reading.{Reading}
 use Rattle.dng.specs.declared.Reading.TheVariants as R
 use Rattle.dng.specs.List.{reading_of, items_of}
-use Rattle.say_note.specs.Note.{names, about, applied, not_applied, lines, lines_of, malformed_after, note_on, note_of}
+use Rattle.say_note.specs.Note.{about, applied, not_applied, lines, lines_of, malformed_after, note_on, note_of}
 use Rattle.say_note.specs.Parts.{Noted}
 
 empty : (l : List ℕ) → length l ≡ 0 → l ≡ []

@@ -1,5 +1,5 @@
 -- The text of the names, piece by piece. Assumes nothing.
-use Prim.Native.Nat.{ℕ, zero, suc, ◌+◌, ◌≤◌, ◌<◌}
+use Prim.Native.Nat.{ℕ, suc, ◌+◌, ◌≤◌, ◌<◌}
 use mathlib.Core.Path.{◌≡◌, refl, sym, ap, ◌∙◌}
 use mathlib.Core.Bool.{Bool, true, false, cond}
 use mathlib.Core.List.{List, [], ◌∷◌, ◌++◌, map, append_assoc, append-nil}
@@ -7,11 +7,9 @@ use native.Mathlib.Omega.{arith}
 use native.Mathlib.Numerals.{add-one}
 use borrow.Author.Tests.{eqb-true, eq-eqb, ne_eqb, lt-ltb, le-ltb, ltb-true, ltb-false}
 use lib.Dec.{eqb, ltb}
-use lib.ListN.{length, length-append, get_or, take, drop, drop_of_length-le, get_or-eq_default}
+use lib.ListN.{length, length-append, get_or, take, drop, drop_of_length-le}
 use lib.Seq.{take-suc, drop-cons}
 use Rattle.num_text.specs.Text.{text, decimal}
-use Rattle.num_text.specs.Appended.{Appended}
-use Rattle.num_text.proofs.Laws.{appended-as}
 use Rattle.say_name.specs.Name.{name_text}
 use Rattle.say_note.specs.Note.{occurs, item, firsts, behind, joined, names, about, malformed_after}
 use Rattle.say_note.specs.Parts.{piece_at}

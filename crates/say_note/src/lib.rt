@@ -1,5 +1,7 @@
 // The notes of a list: document 01, 'Notes program'. The lines are put into a lent buffer, which has room for the notes
 // of every list.
+#![tactic(auto)]
+
 ghost use Rattle.std.specs.Prelude.{◌≡◌, cond, ◌∷◌, [], ◌+◌, ◌≤◌, ◌<◌, ltb, length, get_or, take};
 ghost use Rattle.num_text.specs.Appended.{Appended};
 ghost use Rattle.dng.specs.List.{items_of};
@@ -11,7 +13,7 @@ use dng::{Cursor, Opcode, Reading, Step};
 use list_classes::Class;
 
 // Which opcodes a line is about: the pixel opcodes, those that the f32 run skips, or all.
-#[derive(Drop)]
+#[derive(Clone, Copy)]
 pub enum Part {
     Pixel,
     Skipped,

@@ -1,12 +1,14 @@
 // A frame as a binary greymap, netpbm's P5: its header, and its raster as samples and back.
 // The header and the bytes are defined in specs/Pgm; every function here is equal to its definition for every input.
+#![tactic(auto)]
+
 ghost use Rattle.std.specs.Prelude.{◌≡◌, ◌+◌, ◌-◌, ◌*◌, ◌/◌, ◌%◌, ◌≤◌, ◌<◌, min, ltb, length, get_or};
 ghost use Rattle.pointwise.specs.Points.{each};
 ghost use Rattle.say_pgm.specs.Pgm.{white, line_end, goes_on, inside, past, is_digit, Held, sound, p5, header_of, raster_len, InSizes, frame_on, frame_of, word_of, sample_at, byte_at, over, Encoded, area_of, float_at, nth_byte, float_byte_at, header_text, Put};
 ghost use Rattle.num_text.specs.Appended.{Appended};
 
 // What stands at the start of a file.
-#[derive(Drop)]
+#[derive(Clone, Copy)]
 pub enum Found {
     // `at` is where the raster starts.
     Header {
@@ -19,7 +21,7 @@ pub enum Found {
 }
 
 // A number of the header: where its digits start, where they end, and what they say.
-#[derive(Drop)]
+#[derive(Clone, Copy)]
 struct Field {
     from: usize,
     end: usize,
@@ -183,7 +185,7 @@ pub fn header(bytes: &[u8]) -> Found
 // ---- a frame in a file
 
 // A header, with room for its samples and a raster that is all there; or why not.
-#[derive(Drop)]
+#[derive(Clone, Copy)]
 pub enum Frame {
     Whole {
         width: usize,
@@ -247,7 +249,7 @@ pub fn read_frame(bytes: &[u8], most: usize) -> Frame
 // ---- a number by itself
 
 // What a word says: a number from 0 to 65,536, or something else.
-#[derive(Drop)]
+#[derive(Clone, Copy)]
 pub enum Word {
     Number { value: usize },
     Other,

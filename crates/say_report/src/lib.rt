@@ -1,6 +1,8 @@
 // What a run answered, as text: a refusal is one line, of a malformed list two; a result has a line each for the form,
 // what was skipped, the totals and the verdict. The verdict is the caller's; what was skipped and what stays unrepaired
 // are said beside it.
+#![tactic(auto)]
+
 ghost use Rattle.std.specs.Prelude.{◌≡◌, ◌+◌, ◌≤◌, length};
 ghost use Rattle.num_text.specs.Appended.{Appended};
 ghost use Rattle.say_report.specs.Report.{occurs, line, line_if, Within, skipped_text, form_text, verdict_text};
@@ -9,7 +11,7 @@ ghost use Rattle.say_report.specs.Report.{done_text, why_text, malformed_text, t
 use dng::{Answer, Reason, Refusal};
 
 // By which rules the samples were run.
-#[derive(Drop)]
+#[derive(Clone, Copy)]
 pub enum Form {
     // whole numbers
     Whole,

@@ -1,5 +1,7 @@
 // Calls as the comparison with the Rust stores them, read one after the other, and bytes as text. compare/README.md has
 // the format.
+#![tactic(auto)]
+
 ghost use Rattle.std.specs.Prelude.{◌≡◌, ◌++◌, ◌+◌, ◌*◌, ◌≤◌, ◌<◌, length, take};
 ghost use Rattle.std.proofs.Math.Seq.{paste};
 ghost use Rattle.num_words.specs.Words.{big};
@@ -18,14 +20,14 @@ ghost use Rattle.try_call.specs.Hex.{digit_of, pair_of, hex_to};
 use dng::Window;
 
 // A part of the input.
-#[derive(Drop)]
+#[derive(Clone, Copy)]
 pub struct Span {
     pub start: usize,
     pub end: usize,
 }
 
 // One call: which function, where its list and its samples stand in the input, and how long the lent buffers are.
-#[derive(Drop)]
+#[derive(Clone, Copy)]
 pub struct Call {
     pub form: u32,
     pub list: Span,
@@ -57,13 +59,13 @@ impl Call {
     pub const MAX_SAMPLE_BYTES: usize = 256;
 }
 
-#[derive(Drop)]
+#[derive(Clone, Copy)]
 pub enum Found {
     One { call: Call },
     Broken,
 }
 
-#[derive(Drop)]
+#[derive(Clone, Copy)]
 pub enum Part {
     Bytes { span: Span },
     Broken,

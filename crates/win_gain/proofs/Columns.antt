@@ -1,6 +1,6 @@
 -- Blocks of columns over a window: one after another they are one block, and all of them the region's rule, since each sample lies in one of them.
 -- Over any sample kind A and any rule. A walk over a region's plane walks a block's columns. Assumes nothing.
-use Prim.Native.Nat.{ℕ, ◌+◌, ◌*◌, ◌≤◌, ◌<◌, min, max}
+use Prim.Native.Nat.{ℕ, ◌+◌, ◌*◌, ◌≤◌, ◌<◌, min}
 use mathlib.Core.Path.{◌≡◌, refl, sym, ap, ap₂, subst, ◌∙◌}
 use mathlib.Core.Bool.{Bool, true, false, cond}
 use mathlib.Core.List.{List}

@@ -1,4 +1,6 @@
 // A gain map over a window: the positions of a block of columns are worked out once and serve every row.
+#![tactic(auto)]
+
 ghost use Rattle.std.specs.Prelude.{◌≡◌, ◌+◌, ◌*◌, ◌≤◌, ◌<◌, min, length};
 ghost use Rattle.pointwise.specs.Points.{each};
 ghost use Rattle.pointwise.specs.Select.{First};
@@ -371,7 +373,7 @@ pub fn gain_window(
 // ---- which opcodes are gain maps
 
 // A gain map, or any other opcode.
-#[derive(Drop)]
+#[derive(Clone, Copy)]
 pub enum Gain {
     Map {
         region: Region,

@@ -1,5 +1,7 @@
 // One opcode over a whole window. Each row is lent from its own start, as a part of the samples. A gain map goes by
 // blocks of columns.
+#![tactic(auto)]
+
 ghost use Rattle.std.specs.Prelude.{◌≡◌, true, length};
 ghost use Rattle.pointwise.specs.Points.{each};
 ghost use Rattle.dng.specs.Select.{on_window};

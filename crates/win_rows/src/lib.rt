@@ -1,4 +1,6 @@
 // The rows of a window: their sizes, and where each lies in the image. proofs/Turns has the laws of a loop over them.
+#![tactic(auto)]
+
 ghost use Rattle.std.specs.Prelude.{◌≡◌, ◌*◌, ◌<◌};
 ghost use Rattle.win_rows.specs.Windows.{WindowFits, place_of};
 

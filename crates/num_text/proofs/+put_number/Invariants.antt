@@ -1,0 +1,5 @@
+-- The measure of `num_text::put_number`: the number.
+use Rattle.num_text.proofs.+put_number.Given as goal
+
+abbrev pub decreases-put_number : goal.decreases-put_number
+decreases-put_number l = l.n

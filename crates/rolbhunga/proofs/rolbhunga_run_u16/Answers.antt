@@ -1,0 +1,6 @@
+-- `rolbhunga::rolbhunga_run_u16` meets its contract: the run's promise, in numbers. Assumes nothing.
+use Rattle.rolbhunga.proofs.Windows.{told}
+use Rattle.rolbhunga.proofs.rolbhunga_run_u16.Goals as goal
+
+pub returns : goal.returns
+returns c = told _ _ c.run_u16.result c.numbers.result _ _ _ c.run_u16.ensures c.numbers.ensures

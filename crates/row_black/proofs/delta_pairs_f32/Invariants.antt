@@ -1,0 +1,12 @@
+-- `delta_pairs_f32` meets its contract: a turn is a pair, and a sample may be left. Assumes nothing.
+use Prim.Native.Nat.{◌-◌, ◌≤◌}
+use lib.Ieee.{nan}
+use Rattle.row_black.specs.Rows.{own_delta}
+use Rattle.row_black.proofs.Evens.{Paired}
+use Rattle.row_black.proofs.delta_pairs_f32.Given as goal
+
+abbrev pub invariant-loop-j : goal.invariant-loop-j
+invariant-loop-j l = Paired nan (λ x. x) l.input (own_delta l.deltas) l.even l.odd l.initial.out l.out l.j × (l.j ≤ l.end)
+
+abbrev pub decreases-loop-j : goal.decreases-loop-j
+decreases-loop-j l = l.end - l.j

@@ -1,0 +1,11 @@
+-- `scale_apart` meets its contract: each turn is one step of the run. Assumes nothing.
+use Prim.Native.Nat.{ℕ, ◌-◌}
+use Rattle.row_select.proofs.Steps.{Steps}
+use Rattle.dng.specs.Value.{scaled}
+use Rattle.row_deltas.proofs.scale_apart.Given as goal
+
+abbrev pub invariant-loop-i : goal.invariant-loop-i
+invariant-loop-i l = (m : ℕ) × Steps l.begin l.stop l.step (λ j v. scaled l.s v) l.initial.row l.row m l.i
+
+abbrev pub decreases-loop-i : goal.decreases-loop-i
+decreases-loop-i l = l.stop - l.i

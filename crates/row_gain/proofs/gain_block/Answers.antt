@@ -1,0 +1,13 @@
+-- `row_gain::gain_block` meets its contract: along the strip of the row's position the rule is `times_gain`, in the block as in the row.
+use mathlib.Core.Path.{◌∙◌}
+use Rattle.row_gain.proofs.Blocks.{within-agree}
+use Rattle.row_gain.proofs.Rows.{walked-agree, along-is}
+use Rattle.row_gain.proofs.gain_block.Goals as goal
+
+pub returns : goal.returns
+returns c =
+    let a = c.args in
+    let is = c.strip_at-s.ensures in
+    c.block_along.ensures
+    ∙ walked-agree a.k _ _ _
+    (λ x v. within-agree _ _ _ _ x a.k.plane v (along-is _ a.g _ _ _ _ a.full_width _ _ is x a.k.plane v))

@@ -1,0 +1,13 @@
+-- `delta_columns` meets its contract: the walk's columns are the region's. Assumes nothing.
+use Prim.Native.Nat.{ℕ, ◌-◌, ◌/◌}
+use mathlib.Core.Path.{ap₂, ◌∙◌}
+use Rattle.row_select.specs.Walks.{walked}
+use Rattle.dng.specs.Value.{nought, nth, delta}
+use Rattle.row_opcode.proofs.delta_columns.Goals as goal
+
+pub returns : goal.returns
+returns c =
+    let a = c.args in
+    c.add_columns.ensures
+    ∙ ap₂ (λ (l q : ℕ). walked a.k (λ x p v. delta a.scale (nth a.n a.body.now nought ((x - l) / q)) v) a.row.now)
+    c.requires.1.left_is c.requires.1.pitch-is

@@ -1,0 +1,19 @@
+-- `region_row` meets its contract: a row that has none of the region's samples stays. Assumes nothing.
+use mathlib.Core.Path.{◌∙◌}
+use Rattle.row_vignette.specs.Reach.{frame_at}
+use Rattle.row_opcode.specs.Plans.{task_rule}
+use Rattle.row_opcode.proofs.Planes.{row_in, row-untouched}
+use Rattle.row_opcode.proofs.region_row.Goals as goal
+
+pub returns-then-touched : goal.returns-then-touched
+returns-then-touched c =
+    let a = c.args in
+    c.region_planes.ensures
+    ∙ row_in a.g a.r (task_rule (frame_at a.scale a.g.full_width a.g.full_height) a.r a.body.now a.t) a.row.now
+    (c.touched.ensures.0 c.if-touched.true)
+
+pub returns-else-touched : goal.returns-else-touched
+returns-else-touched c =
+    let a = c.args in
+    row-untouched a.g a.r (task_rule (frame_at a.scale a.g.full_width a.g.full_height) a.r a.body.now a.t) a.row.now
+    (c.touched.ensures.1 c.if-touched.false)

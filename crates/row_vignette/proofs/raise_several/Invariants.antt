@@ -1,0 +1,11 @@
+-- `raise_several` meets its contract: each turn is one pixel. Assumes nothing.
+use Prim.Native.Nat.{◌-◌}
+use lib.ListN.{length}
+use Rattle.row_vignette.proofs.Pixels.{Upto}
+use Rattle.row_vignette.proofs.raise_several.Given as goal
+
+abbrev pub invariant-loop-j : goal.invariant-loop-j
+invariant-loop-j l = Upto l.gains l.a l.planes l.initial.row l.row l.j l.i
+
+abbrev pub decreases-loop-j : goal.decreases-loop-j
+decreases-loop-j l = length l.gains - l.j

@@ -1,0 +1,11 @@
+-- `run_bytes::clear_u16` meets its contract. The places before i are clear. Assumes nothing.
+use Prim.Native.Nat.{◌-◌}
+use lib.ListN.{length}
+use Rattle.run_bytes.proofs.Laws.{Till}
+use Rattle.run_bytes.proofs.clear_u16.Given as goal
+
+abbrev pub invariant-loop-i : goal.invariant-loop-i
+invariant-loop-i l = Till (λ j. 0) l.initial.room l.room l.i
+
+abbrev pub decreases-loop-i : goal.decreases-loop-i
+decreases-loop-i l = length l.initial.room - l.i

@@ -1,0 +1,11 @@
+-- `run_bytes::encode_u16` meets its contract. The bytes of the samples before i are put. Assumes nothing.
+use Prim.Native.Nat.{◌-◌}
+use lib.ListN.{length}
+use Rattle.run_bytes.proofs.Laws.{Put}
+use Rattle.run_bytes.proofs.encode_u16.Given as goal
+
+abbrev pub invariant-loop-i : goal.invariant-loop-i
+invariant-loop-i l = Put 2 (λ n. n) 0 l.room l.initial.bytes l.bytes l.i
+
+abbrev pub decreases-loop-i : goal.decreases-loop-i
+decreases-loop-i l = length l.room - l.i

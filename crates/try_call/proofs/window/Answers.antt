@@ -1,0 +1,5 @@
+-- `try_call::window` meets its contract: each field is the word that was read. Assumes nothing.
+use Rattle.try_call.proofs.window.Goals as goal
+
+pub returns : goal.returns
+returns c = cc

@@ -1,0 +1,11 @@
+-- `rows16` meets its contract: the rows before y are done, and row y starts at `at`. Assumes nothing.
+use Prim.Native.Nat.{◌-◌}
+use Rattle.dng.specs.Value.{rule16_of}
+use Rattle.win_rows.proofs.Turns.{Rows}
+use Rattle.win_opcode.proofs.rows16.Given as goal
+
+abbrev pub invariant-loop-y : goal.invariant-loop-y
+invariant-loop-y l = Rows l.w (rule16_of l.op l.body) l.initial.samples l.samples l.y l.at
+
+abbrev pub decreases-loop-y : goal.decreases-loop-y
+decreases-loop-y l = l.w.height - l.y
