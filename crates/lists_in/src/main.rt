@@ -1,12 +1,15 @@
 // lists_in FILE [WHICH OUT]: where the opcode lists of the DNG file FILE lie, a line for each; with WHICH, 1 to 3,
 // that list is written to OUT, and its line is printed. OUT is written under another name first, so that it is never
 // half written; on a refusal nothing is written.
-use libc::STDOUT_FILENO;
-use list_find::{Found, Which};
+#![tactic(auto)]
 
-fn say(line: &[u8]) {
-    io::write_all(STDOUT_FILENO, line);
-    io::write_all(STDOUT_FILENO, b"\n");
+use list_find::{Found, Which};
+use std::io;
+use std::io::Write;
+
+fn say(rt: &HostRuntime, line: &[u8]) -> io::Result<()> {
+    rt.write_all(line)?;
+    rt.write_all(b"\n")
 }
 
 // The first n bytes; all where there are fewer.
@@ -29,8 +32,8 @@ fn digit(text: &[u8]) -> usize {
     }
 }
 
-fn wanted() -> usize {
-    let n = os::arg_count();
+fn wanted(rt: &HostRuntime) -> usize {
+    let n = say_stream::arg_count(rt);
     if n == 2 {
         return 0;
     }
@@ -38,7 +41,7 @@ fn wanted() -> usize {
         return 4;
     }
     let mut text = [0u8; 16];
-    let n = os::arg(2, &mut text);
+    let n = say_stream::arg(rt, 2, &mut text);
     digit(&text[..n])
 }
 
@@ -53,29 +56,30 @@ fn which_of(n: usize) -> Which {
 // ---- files
 
 // What was read of a file: so many bytes, or nothing, and the reason is printed.
-#[derive(Drop)]
+#[derive(Clone, Copy)]
 enum Bytes {
     Read { n: usize },
     Failed,
 }
 
 // Reads FILE into a buffer. One that fills the buffer is too long.
-fn read_file(buffer: &mut [u8]) -> Bytes {
-    let mut path = io::buffer();
-    let length = os::arg(1, &mut path);
-    let fd = os::open_read(&path[..length]);
-    if fd < 0 {
-        os::fail(&path[..length]);
-        return Bytes::Failed;
+fn read_file(rt: &HostRuntime, buffer: &mut [u8]) -> io::Result<Bytes> {
+    let mut path = [0u8; 4096];
+    let length = say_stream::arg(rt, 1, &mut path);
+    match say_stream::read_path(rt, &path[..length], &mut *buffer) {
+        Ok(n) => {
+            if n < buffer.len() {
+                return Ok(Bytes::Read { n });
+            }
+        }
+        Err(e) => {
+            say_stream::fail(rt, &path[..length], e)?;
+            return Ok(Bytes::Failed);
+        }
     }
-    let n = io::read_full(fd, &mut *buffer);
-    libc::close(fd);
-    if n < buffer.len() {
-        return Bytes::Read { n };
-    }
-    io::write_all(STDOUT_FILENO, &path[..length]);
-    say(b": too long");
-    Bytes::Failed
+    rt.write_all(&path[..length])?;
+    say(rt, b": too long")?;
+    Ok(Bytes::Failed)
 }
 
 // A path and what is put behind it, at the start of a buffer; 0 where they do not fit.
@@ -94,103 +98,95 @@ fn join(path: &[u8], end: &[u8], out: &mut [u8]) -> usize {
 }
 
 // Writes a list under the name `part`, and gives it the name `path` once all of it is there.
-fn write_as(path: &[u8], part: &[u8], list: &[u8]) -> bool {
-    let fd = os::create(part);
-    if fd < 0 {
-        os::fail(part);
-        return false;
-    }
-    let written = io::write_all(fd, list);
-    libc::close(fd);
-    if written {
-        if os::rename(part, path) == 0 {
-            return true;
+fn write_as(rt: &HostRuntime, path: &[u8], part: &[u8], list: &[u8]) -> io::Result<bool> {
+    let mut file = match say_stream::create(rt, part) {
+        Ok(file) => file,
+        Err(e) => {
+            say_stream::fail(rt, part, e)?;
+            return Ok(false);
         }
+    };
+    let written = file.write_all(list);
+    drop(file);
+    if let Err(e) = written.and_then(|()| say_stream::rename(rt, part, path)) {
+        let _ = say_stream::remove(rt, part);
+        say_stream::fail(rt, path, e)?;
+        return Ok(false);
     }
-    os::fail(path);
-    os::unlink(part);
-    false
+    Ok(true)
 }
 
 // Writes a list to OUT.
-fn write_list(list: &[u8]) -> bool {
-    let mut path = io::buffer();
-    let length = os::arg(3, &mut path);
+fn write_list(rt: &HostRuntime, list: &[u8]) -> io::Result<bool> {
+    let mut path = [0u8; 4096];
+    let length = say_stream::arg(rt, 3, &mut path);
     let mut part = [0u8; 4096];
     let n = join(&path[..length], b".part", &mut part);
     if n <= 5 {
-        say(b"OUT: no name, or one that is too long");
-        return false;
+        say(rt, b"OUT: no name, or one that is too long")?;
+        return Ok(false);
     }
-    write_as(&path[..length], front(&part, n), list)
+    write_as(rt, &path[..length], front(&part, n), list)
 }
 
 // ---- the lists
 
-fn print_text(text: &[u8; 256], n: usize) {
-    io::write_all(STDOUT_FILENO, front(text, n));
+fn print_text(rt: &HostRuntime, text: &[u8; 256], n: usize) -> io::Result<()> {
+    rt.write_all(front(text, n))
 }
 
-fn print_line(which: Which, found: Found) {
+fn print_line(rt: &HostRuntime, which: Which, found: Found) -> io::Result<()> {
     let mut text = [0u8; 256];
     let n = say_found::line(which, found, &mut text);
-    print_text(&text, n);
+    print_text(rt, &text, n)
 }
 
-fn print_lines(file: &[u8]) {
+fn print_lines(rt: &HostRuntime, file: &[u8]) -> io::Result<()> {
     let mut text = [0u8; 256];
     let n = say_found::lines(file, &mut text);
-    print_text(&text, n);
+    print_text(rt, &text, n)
 }
 
 // The list is written first, so that its line is printed of a list that is there.
-fn extract(file: &[u8], which: Which) {
+fn extract(rt: &HostRuntime, file: &[u8], which: Which) -> io::Result<()> {
     let found = list_find::find(file, which);
     match found {
         Found::At { start, len } => {
-            if write_list(list_find::part(file, start, len)) {
-                print_line(which, found);
+            if write_list(rt, list_find::part(file, start, len))? {
+                print_line(rt, which, found)?;
             }
+            Ok(())
         }
-        Found::NotTiff => {
-            print_line(which, found);
-        }
-        Found::Outside => {
-            print_line(which, found);
-        }
-        Found::TooMany => {
-            print_line(which, found);
-        }
-        Found::Missing => {
-            print_line(which, found);
-        }
+        Found::NotTiff => print_line(rt, which, found),
+        Found::Outside => print_line(rt, which, found),
+        Found::TooMany => print_line(rt, which, found),
+        Found::Missing => print_line(rt, which, found),
     }
 }
 
-fn run(list: usize, file: &mut [u8]) {
-    let Bytes::Read { n } = read_file(&mut *file) else {
-        return;
+fn run(rt: &HostRuntime, list: usize, file: &mut [u8]) -> io::Result<()> {
+    let Bytes::Read { n } = read_file(rt, &mut *file)? else {
+        return Ok(());
     };
     if list == 0 {
-        print_lines(front(file, n));
+        print_lines(rt, front(file, n))
     } else {
-        extract(front(file, n), which_of(list));
+        extract(rt, front(file, n), which_of(list))
     }
 }
 
 // The large buffer goes on as a slice from here.
-fn run_in(list: usize, file: &mut [u8; 7340032]) {
-    run(list, file);
+fn run_in(rt: &HostRuntime, list: usize, file: &mut [u8; 7340032]) -> io::Result<()> {
+    run(rt, list, file)
 }
 
 // The room for the file is here: seven of the eight megabytes of a default stack, so that a file has at most 7,340,031
 // bytes.
-fn main() {
-    let list = wanted();
+fn main(rt: HostRuntime) -> io::Result<()> {
+    let list = wanted(&rt);
     if 3 < list {
-        say(b"lists_in FILE [WHICH OUT]");
-        return;
+        return say(&rt, b"lists_in FILE [WHICH OUT]");
     }
     let mut file = [0u8; 7340032];
-    run_in(list, &mut file);
+    run_in(&rt, list, &mut file)
 }

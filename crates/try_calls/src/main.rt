@@ -1,48 +1,50 @@
 // Runs the calls that stand in its input and prints what each of them answers and leaves, a line for each. The
 // comparison with the Rust wrote both the input and the lines that are expected: compare/run SOURCE frames FOLDER.
+#![tactic(auto)]
+
 ghost use Rattle.std.specs.Prelude.{◌≤◌, length};
 ghost use Rattle.try_call.specs.Calls.{Sound};
 
 use dng::{Numbers, RowWindow, Settings, Window};
-use libc::{STDIN_FILENO, STDOUT_FILENO};
+use std::io;
 use try_call::{Call, Found};
 
 // ---- a line
 
-fn print_number(n: u64) {
-    io::write_all(STDOUT_FILENO, b" ");
-    io::print_decimal(STDOUT_FILENO, n);
+fn print_number(rt: &HostRuntime, n: u64) -> io::Result<()> {
+    rt.write_all(b" ")?;
+    rt.print(n)
 }
 
-fn print_bytes(bytes: &[u8])
+fn print_bytes(rt: &HostRuntime, bytes: &[u8]) -> io::Result<()>
     requires { length bytes.now ≤ 256 }
 {
     let mut text = [0u8; 512];
     let n = try_call::put_hex(bytes, &mut text);
-    io::write_all(STDOUT_FILENO, &text[0..n]);
+    rt.write_all(&text[0..n])
 }
 
 // Nothing is a `-`, so that every line has its ten words.
-fn print_field(bytes: &[u8])
+fn print_field(rt: &HostRuntime, bytes: &[u8]) -> io::Result<()>
     requires { length bytes.now ≤ 256 }
 {
-    io::write_all(STDOUT_FILENO, b" ");
+    rt.write_all(b" ")?;
     if bytes.len() == 0 {
-        io::write_all(STDOUT_FILENO, b"-");
+        rt.write_all(b"-")
     } else {
-        print_bytes(bytes);
+        print_bytes(rt, bytes)
     }
 }
 
-fn print_numbers(form: u32, n: Numbers) {
-    io::print_decimal(STDOUT_FILENO, form as u64);
-    print_number(n.number as u64);
-    print_number(n.entry as u64);
-    print_number(n.offset as u64);
-    print_number(n.opcode as u64);
-    print_number(n.names as u64);
-    print_number(n.repaired);
-    print_number(n.left);
+fn print_numbers(rt: &HostRuntime, form: u32, n: Numbers) -> io::Result<()> {
+    rt.print(form)?;
+    print_number(rt, n.number as u64)?;
+    print_number(rt, n.entry as u64)?;
+    print_number(rt, n.offset as u64)?;
+    print_number(rt, n.opcode as u64)?;
+    print_number(rt, n.names as u64)?;
+    print_number(rt, n.repaired)?;
+    print_number(rt, n.left)
 }
 
 // ---- a call
@@ -125,19 +127,25 @@ fn run(list: &[u8], bytes: &mut [u8], c: Call, names: &mut [u8]) -> Numbers
 }
 
 // The line of a call: what it answers, and what it leaves in the names and in the samples.
-fn answer(list: &[u8], bytes: &mut [u8], c: Call, names: &mut [u8])
+fn answer(
+    rt: &HostRuntime,
+    list: &[u8],
+    bytes: &mut [u8],
+    c: Call,
+    names: &mut [u8],
+) -> io::Result<()>
     requires marks_bound { c.marks ≤ 64 }
     requires bytes_len_bound { (length bytes.old ≤ 256) × (length names.old ≤ 64) }
 {
     let r = run(list, &mut *bytes, c, &mut *names);
-    print_numbers(c.form, r);
-    print_field(names);
-    print_field(bytes);
-    io::write_all(STDOUT_FILENO, b"\n");
+    print_numbers(rt, c.form, r)?;
+    print_field(rt, names)?;
+    print_field(rt, bytes)?;
+    rt.write_all(b"\n")
 }
 
 // The samples are copied, since the list stands in the same input.
-fn show(s: &[u8], c: Call)
+fn show(rt: &HostRuntime, s: &[u8], c: Call) -> io::Result<()>
     requires { Sound s.now c }
 {
     let mut bytes = [0u8; 256];
@@ -151,11 +159,11 @@ fn show(s: &[u8], c: Call)
     let n = d - b;
     let m = c.names;
     try_call::copy(&s[b..d], &mut bytes);
-    answer(&s[a..e], &mut bytes[0..n], c, &mut names[0..m]);
+    answer(rt, &s[a..e], &mut bytes[0..n], c, &mut names[0..m])
 }
 
 // Whether the input was as many calls as its first word says, and nothing else.
-fn show_all(s: &[u8]) -> bool {
+fn show_all(rt: &HostRuntime, s: &[u8]) -> io::Result<bool> {
     let count = num_words::u32_at(s, 0);
     let mut at: usize = 4;
     let mut k: u32 = 0;
@@ -163,22 +171,23 @@ fn show_all(s: &[u8]) -> bool {
         match try_call::call_at(s, at) {
             Found::One { call } => {
                 let p = call.samples;
-                show(s, call);
+                show(rt, s, call)?;
                 at = p.end;
                 k += 1;
             }
             Found::Broken => {
-                return false;
+                return Ok(false);
             }
         }
     }
-    at == s.len()
+    Ok(at == s.len())
 }
 
-fn main() {
+fn main(rt: HostRuntime) -> io::Result<()> {
     let mut input = [0u8; 262144];
-    let n = io::read_full(STDIN_FILENO, &mut input);
-    if !show_all(&input[..n]) {
-        io::write_all(STDOUT_FILENO, b"broken input\n");
+    let n = say_stream::read_full(&mut rt.reader(), &mut input)?;
+    if !show_all(&rt, &input[..n])? {
+        rt.write_all(b"broken input\n")?;
     }
+    Ok(())
 }

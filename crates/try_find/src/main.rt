@@ -1,24 +1,27 @@
 // The lists of the files that stand in its input, three lines for each. A file stands behind its length, a big-endian
 // u32. compare/find wrote both the input and the lines that are expected, by a second reading of document 02.
-use libc::{STDIN_FILENO, STDOUT_FILENO};
+#![tactic(auto)]
 
-fn show(file: &[u8]) {
+use std::io;
+
+fn show(rt: &HostRuntime, file: &[u8]) -> io::Result<()> {
     let mut text = [0u8; 256];
     let n = say_found::lines(file, &mut text);
-    io::write_all(STDOUT_FILENO, &text[..n]);
+    rt.write_all(&text[..n])
 }
 
-fn show_all(s: &[u8]) {
+fn show_all(rt: &HostRuntime, s: &[u8]) -> io::Result<()> {
     let mut at: usize = 0;
     while at < s.len() {
         let n = num_words::u32_at(s, at) as usize;
-        show(list_find::part(s, at + 4, n));
+        show(rt, list_find::part(s, at + 4, n))?;
         at += 4 + n;
     }
+    Ok(())
 }
 
-fn main() {
+fn main(rt: HostRuntime) -> io::Result<()> {
     let mut input = [0u8; 262144];
-    let n = io::read_full(STDIN_FILENO, &mut input);
-    show_all(&input[..n]);
+    let n = say_stream::read_full(&mut rt.reader(), &mut input)?;
+    show_all(&rt, &input[..n])
 }

@@ -1,7 +1,9 @@
 // Runs every leaf over a dense set of bit patterns and prints a sum of what it gave for each sweep. The stored output
 // was printed by the Rust of compare/leaves/leaves.rs, which works the same sweeps out with Rust's own casts and
 // functions.
-use libc::STDOUT_FILENO;
+#![tactic(auto)]
+
+use std::io;
 
 // What a leaf gives at a bit pattern, as a number.
 fn leaf(kind: u32, bits: u64) -> u64 {
@@ -75,66 +77,71 @@ fn sweep(kind: u32, from: u64, step: u64, n: u32) -> u64 {
     sum % 0x1_0000_0000
 }
 
-fn line(kind: u32, from: u64, step: u64, n: u32) {
-    io::print_decimal(STDOUT_FILENO, kind as u64);
-    io::write_all(STDOUT_FILENO, b" ");
-    io::print_hex(STDOUT_FILENO, from, 16);
-    io::write_all(STDOUT_FILENO, b" ");
-    io::print_hex(STDOUT_FILENO, step, 16);
-    io::write_all(STDOUT_FILENO, b" ");
-    io::print_decimal(STDOUT_FILENO, n as u64);
-    io::write_all(STDOUT_FILENO, b" ");
-    io::print_hex(STDOUT_FILENO, sweep(kind, from, step, n), 8);
-    io::write_all(STDOUT_FILENO, b"\n");
+fn line(rt: &HostRuntime, kind: u32, from: u64, step: u64, n: u32) -> io::Result<()> {
+    let sum = sweep(kind, from, step, n);
+    println!(rt; "{kind} {from:016x} {step:016x} {n} {sum:08x}")
 }
 
 // A sweep over all patterns of 64 bits, and one over all of 32 bits in both halves.
-fn all(kind: u32) {
-    line(kind, 0, 0x0000_1357_9bdf_0245, 900000);
-    line(kind, 0x8000_0000_0000_0001, 0x0000_0000_0001_0f3d, 300000);
-    line(kind, 0x7ff0_0000_0000_0000, 0x0000_0000_0000_10f3, 100000);
+fn all(rt: &HostRuntime, kind: u32) -> io::Result<()> {
+    line(rt, kind, 0, 0x0000_1357_9bdf_0245, 900000)?;
+    line(
+        rt,
+        kind,
+        0x8000_0000_0000_0001,
+        0x0000_0000_0001_0f3d,
+        300000,
+    )?;
+    line(
+        rt,
+        kind,
+        0x7ff0_0000_0000_0000,
+        0x0000_0000_0000_10f3,
+        100000,
+    )
 }
 
 // Around a pattern, one by one.
-fn near(kind: u32, bits: u64) {
-    line(kind, std::num::wrapping_sub_u64(bits, 500), 1, 1000);
+fn near(rt: &HostRuntime, kind: u32, bits: u64) -> io::Result<()> {
+    line(rt, kind, std::num::wrapping_sub_u64(bits, 500), 1, 1000)
 }
 
-fn main() {
-    all(0);
-    near(0, 0x3690_0000_0000_0000);
-    near(0, 0x36a0_0000_0000_0000);
-    near(0, 0x3810_0000_0000_0000);
-    near(0, 0x380f_ffff_e000_0000);
-    near(0, 0x3ff0_0000_1000_0000);
-    near(0, 0x3ff0_0000_3000_0000);
-    near(0, 0xbfff_ffff_f000_0000);
-    near(0, 0x47ef_ffff_e000_0000);
-    near(0, 0x47ef_ffff_f000_0000);
-    near(0, 0x7ff0_0000_0000_0000);
-    all(1);
-    near(1, 0x3f00_0000);
-    near(1, 0x4700_0000);
-    near(1, 0x477f_ff00);
-    all(2);
-    near(2, 0x4affffff);
-    near(2, 0x4b80_0000);
-    near(2, 0x7f80_0000);
-    all(3);
-    near(3, 0xbf00_0000);
-    all(4);
-    near(4, 0x3ff0_0000_0000_0000);
-    near(4, 0x4170_0000_0000_0000);
-    near(4, 0x41f0_0000_0000_0000);
-    near(4, 0x8000_0000_0000_0000);
-    all(5);
-    near(5, 0x0100_0000);
-    near(5, 0xffff_ff80);
-    all(6);
-    all(7);
-    all(8);
-    near(8, 0x40af_fe00_0000_0000);
-    all(9);
-    all(10);
-    near(10, 0x0000_0001_7f80_0000);
+fn main(rt: HostRuntime) -> io::Result<()> {
+    all(&rt, 0)?;
+    near(&rt, 0, 0x3690_0000_0000_0000)?;
+    near(&rt, 0, 0x36a0_0000_0000_0000)?;
+    near(&rt, 0, 0x3810_0000_0000_0000)?;
+    near(&rt, 0, 0x380f_ffff_e000_0000)?;
+    near(&rt, 0, 0x3ff0_0000_1000_0000)?;
+    near(&rt, 0, 0x3ff0_0000_3000_0000)?;
+    near(&rt, 0, 0xbfff_ffff_f000_0000)?;
+    near(&rt, 0, 0x47ef_ffff_e000_0000)?;
+    near(&rt, 0, 0x47ef_ffff_f000_0000)?;
+    near(&rt, 0, 0x7ff0_0000_0000_0000)?;
+    all(&rt, 1)?;
+    near(&rt, 1, 0x3f00_0000)?;
+    near(&rt, 1, 0x4700_0000)?;
+    near(&rt, 1, 0x477f_ff00)?;
+    all(&rt, 2)?;
+    near(&rt, 2, 0x4affffff)?;
+    near(&rt, 2, 0x4b80_0000)?;
+    near(&rt, 2, 0x7f80_0000)?;
+    all(&rt, 3)?;
+    near(&rt, 3, 0xbf00_0000)?;
+    all(&rt, 4)?;
+    near(&rt, 4, 0x3ff0_0000_0000_0000)?;
+    near(&rt, 4, 0x4170_0000_0000_0000)?;
+    near(&rt, 4, 0x41f0_0000_0000_0000)?;
+    near(&rt, 4, 0x8000_0000_0000_0000)?;
+    all(&rt, 5)?;
+    near(&rt, 5, 0x0100_0000)?;
+    near(&rt, 5, 0xffff_ff80)?;
+    all(&rt, 6)?;
+    all(&rt, 7)?;
+    all(&rt, 8)?;
+    near(&rt, 8, 0x40af_fe00_0000_0000)?;
+    all(&rt, 9)?;
+    all(&rt, 10)?;
+    near(&rt, 10, 0x0000_0001_7f80_0000)?;
+    Ok(())
 }

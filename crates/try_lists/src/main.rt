@@ -1,101 +1,102 @@
 // What is said of the lists that stand in its input, each under its title: how it is read, which forms take it and how
 // many opcodes each skips, the same for a preview, and its note. The input is a length and the title, a length and the list, again and again;
 // words are big-endian. compare/lists writes it.
-use dng::Reading;
-use libc::{STDIN_FILENO, STDOUT_FILENO};
-use list_survey::Survey;
+#![tactic(auto)]
 
-fn number(text: &[u8], n: usize) {
-    io::write_all(STDOUT_FILENO, text);
-    io::print_decimal(STDOUT_FILENO, n as u64);
+use dng::Reading;
+use list_survey::Survey;
+use std::io;
+
+fn number(rt: &HostRuntime, text: &[u8], n: usize) -> io::Result<()> {
+    rt.write_all(text)?;
+    rt.print(n)
 }
 
-fn print_reading(r: Reading) {
+fn print_reading(rt: &HostRuntime, r: Reading) -> io::Result<()> {
     match r {
-        Reading::Whole { opcodes } => {
-            number(b"0, opcodes ", opcodes);
-        }
+        Reading::Whole { opcodes } => number(rt, b"0, opcodes ", opcodes),
         Reading::Malformed { after, why } => {
             let reason = why.reason;
-            number(b"", run_answers::reason_number(reason) as usize);
-            number(b" at byte ", why.at);
-            number(b", after ", after);
+            number(rt, b"", run_answers::reason_number(reason) as usize)?;
+            number(rt, b" at byte ", why.at)?;
+            number(rt, b", after ", after)
         }
     }
 }
 
-fn print_taken(text: &[u8], taken: bool) {
-    io::write_all(STDOUT_FILENO, text);
+fn print_taken(rt: &HostRuntime, text: &[u8], taken: bool) -> io::Result<()> {
+    rt.write_all(text)?;
     if taken {
-        io::write_all(STDOUT_FILENO, b"yes");
+        rt.write_all(b"yes")
     } else {
-        io::write_all(STDOUT_FILENO, b"no");
+        rt.write_all(b"no")
     }
 }
 
-fn print_survey(s: Survey) {
-    number(b"; skipped ", s.skips);
-    number(b", ", s.skips16);
-    print_taken(b"; whole-number form ", s.takes16);
-    print_taken(b", row form ", s.takes_rows);
-    io::write_all(STDOUT_FILENO, b"\n");
+fn print_survey(rt: &HostRuntime, s: Survey) -> io::Result<()> {
+    number(rt, b"; skipped ", s.skips)?;
+    number(rt, b", ", s.skips16)?;
+    print_taken(rt, b"; whole-number form ", s.takes16)?;
+    print_taken(rt, b", row form ", s.takes_rows)?;
+    rt.write_all(b"\n")
 }
 
-fn print_found(list: &[u8]) {
+fn print_found(rt: &HostRuntime, list: &[u8]) -> io::Result<()> {
     let found = list_survey::read(list, false);
     let reading = found.reading;
-    print_reading(reading);
+    print_reading(rt, reading)?;
     let survey = found.survey;
-    print_survey(survey);
+    print_survey(rt, survey)
 }
 
-fn print_preview(list: &[u8]) {
+fn print_preview(rt: &HostRuntime, list: &[u8]) -> io::Result<()> {
     let found = list_survey::read(list, true);
-    io::write_all(STDOUT_FILENO, b"a preview");
+    rt.write_all(b"a preview")?;
     let survey = found.survey;
-    print_survey(survey);
+    print_survey(rt, survey)
 }
 
-fn print_note(list: &[u8]) {
+fn print_note(rt: &HostRuntime, list: &[u8]) -> io::Result<()> {
     let mut text = [0u8; 1024];
     let end = say_note::note(list, &mut text);
-    io::write_all(STDOUT_FILENO, &text[..end]);
+    rt.write_all(&text[..end])
 }
 
-fn print_list(title: &[u8], list: &[u8]) {
-    io::write_all(STDOUT_FILENO, b"-- ");
-    io::write_all(STDOUT_FILENO, title);
-    io::write_all(STDOUT_FILENO, b"\n");
-    print_found(list);
-    print_preview(list);
-    print_note(list);
+fn print_list(rt: &HostRuntime, title: &[u8], list: &[u8]) -> io::Result<()> {
+    rt.write_all(b"-- ")?;
+    rt.write_all(title)?;
+    rt.write_all(b"\n")?;
+    print_found(rt, list)?;
+    print_preview(rt, list)?;
+    print_note(rt, list)
 }
 
 // One list; where the next one's title stands.
-fn print_next(s: &[u8], at: usize) -> usize {
+fn print_next(rt: &HostRuntime, s: &[u8], at: usize) -> io::Result<usize> {
     let title = try_call::span_at(s, at);
     let a = title.start;
     let b = title.end;
     let list = try_call::span_at(s, b);
     let c = list.start;
     let d = list.end;
-    print_list(&s[a..b], &s[c..d]);
-    d
+    print_list(rt, &s[a..b], &s[c..d])?;
+    Ok(d)
 }
 
-fn print_all(s: &[u8]) {
+fn print_all(rt: &HostRuntime, s: &[u8]) -> io::Result<()> {
     let mut at: usize = 0;
     let mut left: usize = s.len(); // more than there are lists
     while 0 < left {
         if at < s.len() {
-            at = print_next(s, at);
+            at = print_next(rt, s, at)?;
         }
         left -= 1;
     }
+    Ok(())
 }
 
-fn main() {
+fn main(rt: HostRuntime) -> io::Result<()> {
     let mut input = [0u8; 327680];
-    let n = io::read_full(STDIN_FILENO, &mut input);
-    print_all(&input[..n]);
+    let n = say_stream::read_full(&mut rt.reader(), &mut input)?;
+    print_all(&rt, &input[..n])
 }
