@@ -1,4 +1,4 @@
-// Links the archive that `rt staticlib rolbhunga` writes. ROLBHUNGA_LIB names the folder that holds librolbhunga.a,
+// Links the archive that `tools/archive` writes. ROLBHUNGA_LIB names the folder that holds librolbhunga.a,
 // where it is not the repository's own target/staticlib.
 use std::env;
 use std::path::Path;

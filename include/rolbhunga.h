@@ -3,7 +3,7 @@
  * Every function answers for every argument: a number out of its range, a malformed list or a buffer that is too short
  * is an answer, and nothing is touched that the answer does not name. What each does is proved of its code.
  *
- * Link with the archive that `rt staticlib rolbhunga` writes (x86-64). size_t has 64 bits.
+ * Link with the archive that `tools/archive` writes (x86-64). size_t has 64 bits.
  *
  * A buffer crosses as its first element and its length in elements. The pointer is not null and is aligned for its
  * type, also where the length is 0. No two buffers of a call overlap, and no other thread touches them until it
