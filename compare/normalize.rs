@@ -1,6 +1,6 @@
-// What `Calib::norm` and `normalize` of process.rs need of their crate, whose other files are not at hand: an image, its
-// calibration as it is given, and the function of par.rs as it is without threads. compare/tools puts the text of the
-// struct `Calib` and of the two functions behind this, as it stands in the published file.
+// What `Calib::norm` and `normalize` of process.rs need of their crate, whose other files are not at hand: an image,
+// its calibration as it is given, and the function of par.rs as it is without threads. compare/tools puts the text of
+// the struct `Calib` and of the two functions behind this, as it stands in the published file.
 pub enum PixelData {
     U16(Vec<u16>),
     F32(Vec<f32>),

@@ -1,5 +1,5 @@
-// Black level: cases made by chance, each through the four calls, held to `normalize` of the Rust and, for what it has no
-// word for, to document 02, M-109. Allowed to differ, and nothing wider: where the Rust gives −0, +0 is wanted
+// Black level: cases made by chance, each through the four calls, held to `normalize` of the Rust and, for what it has
+// no word for, to document 02, M-109. Allowed to differ, and nothing wider: where the Rust gives −0, +0 is wanted
 // (docs/DIFFERENCES.md, B1).
 use crate::check::Lent;
 use crate::rng::{f32_bits, Rng};

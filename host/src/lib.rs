@@ -564,8 +564,8 @@ impl Frame {
 /// together they leave the samples that the one run of the frame leaves, bit for bit, NaN for NaN. A tile may be lent
 /// the samples from its first on up to its last, or anywhere past it; a period and scratch of its own change nothing.
 ///
-/// This is proved of the calls (`law_promises`, `Tile-calls`). Bands of whole rows are such a cut (`law_tiles`,
-/// `Bands-cut`).
+/// This is proved of the calls (`law_promises`, `tile-calls`). Bands of whole rows are such a cut (`law_tiles`,
+/// `bands-cut`).
 ///
 /// ```
 /// use rolbhunga::{Frame, Scratch};

@@ -5,270 +5,120 @@
 // what was skipped and the positions that stay unrepaired are facts of their own, above it.
 #![tactic(auto)]
 
+ghost use Rattle.std.specs.Prelude.{◌≤◌};
+
 use dng::{Answer, Settings, Window};
-use run_stored::Mended;
-use say_pgm::{Frame, Word};
+use run_stored::{Mended, NoRoom};
+use say_pgm::{Frame, FrameError};
 use say_report::Form;
-use std::fs::File;
 use std::io;
-use std::io::Write;
-
-fn say(rt: &HostRuntime, line: &[u8]) -> io::Result<()> {
-    rt.write_all(line)?;
-    rt.write_all(b"\n")
-}
-
-// The first n bytes; all where there are fewer.
-fn front(s: &[u8], n: usize) -> &[u8] {
-    if n <= s.len() { &s[0..n] } else { &s[..] }
-}
 
 // ---- the arguments
 
-// The period, whether this is a preview, the size of a raw f32 frame if one is given, and which argument LIST is: 0
-// where the arguments are not in order.
+#[derive(Clone, Copy)]
+struct Size {
+    width: usize,
+    height: usize,
+}
+
+// The period, whether this is a preview, the size of a raw f32 frame if one is given, and which argument LIST is.
 #[derive(Clone, Copy)]
 struct Options {
     period: usize,
     preview: bool,
-    raw: bool,
-    width: usize,
-    height: usize,
+    raw: Option<Size>,
     first: usize,
-}
-
-fn same(a: &[u8], b: &[u8]) -> bool {
-    if a.len() != b.len() {
-        return false;
-    }
-    let mut i: usize = 0;
-    while i < a.len() {
-        if i < b.len() {
-            if a[i] != b[i] {
-                return false;
-            }
-        }
-        i += 1;
-    }
-    true
 }
 
 fn is_arg(rt: &HostRuntime, i: usize, word: &[u8]) -> bool {
     let mut text = [0u8; 16];
     let n = say_stream::arg(rt, i, &mut text);
-    same(&text[..n], word)
+    &text[..n] == word
 }
 
 // A number from 0 to 65,536; 65,537 where the argument is none.
 fn number_arg(rt: &HostRuntime, i: usize) -> usize {
     let mut text = [0u8; 16];
     let n = say_stream::arg(rt, i, &mut text);
-    match say_pgm::read_number(&text[..n]) {
-        Word::Number { value } => value,
-        Word::Other => 65537,
-    }
+    say_pgm::read_number(&text[..n]).unwrap_or(65537)
 }
 
-fn period_option(rt: &HostRuntime) -> Options {
+fn period_option(rt: &HostRuntime) -> Options
+    ensures { result.first ≤ 3 }
+{
     let none = Options {
         period: 1,
         preview: false,
-        raw: false,
-        width: 0,
-        height: 0,
+        raw: None,
         first: 1,
     };
     if is_arg(rt, 1, b"--period") {
         Options {
             period: number_arg(rt, 2),
-            preview: false,
-            raw: false,
-            width: 0,
-            height: 0,
             first: 3,
+            ..none
         }
     } else {
         none
     }
 }
 
-fn preview_option(rt: &HostRuntime, o: Options) -> Options {
-    let at = o.first;
-    if 8 < at {
-        return o;
-    }
-    if is_arg(rt, at, b"--preview") {
+fn preview_option(rt: &HostRuntime, o: Options) -> Options
+    requires { o.first ≤ 3 }
+    ensures { result.first ≤ 4 }
+{
+    if is_arg(rt, o.first, b"--preview") {
         Options {
-            period: o.period,
             preview: true,
-            raw: o.raw,
-            width: o.width,
-            height: o.height,
-            first: at + 1,
+            first: o.first + 1,
+            ..o
         }
     } else {
         o
     }
 }
 
-fn raw_option(rt: &HostRuntime, o: Options) -> Options {
-    let at = o.first;
-    if 8 < at {
-        return o;
-    }
-    if is_arg(rt, at, b"--f32") {
+fn raw_option(rt: &HostRuntime, o: Options) -> Options
+    requires { o.first ≤ 4 }
+    ensures { result.first ≤ 7 }
+{
+    if is_arg(rt, o.first, b"--f32") {
+        let size = Size {
+            width: number_arg(rt, o.first + 1),
+            height: number_arg(rt, o.first + 2),
+        };
         Options {
-            period: o.period,
-            preview: o.preview,
-            raw: true,
-            width: number_arg(rt, at + 1),
-            height: number_arg(rt, at + 2),
-            first: at + 3,
+            raw: Some(size),
+            first: o.first + 3,
+            ..o
         }
     } else {
         o
     }
 }
 
-fn is_in_order(rt: &HostRuntime, o: Options) -> bool {
-    let first = o.first;
-    if 8 < first {
-        return false;
-    }
-    (say_stream::arg_count(rt) == first + 3)
-        & ((o.period <= 65536) & ((o.width <= 65536) & (o.height <= 65536)))
+fn is_small(s: Size) -> bool {
+    (s.width <= 65536) & (s.height <= 65536)
+}
+
+fn is_in_order(rt: &HostRuntime, o: Options) -> bool
+    requires { o.first ≤ 7 }
+{
+    say_stream::arg_count(rt) == o.first + 3 && o.period <= 65536 && o.raw.is_none_or(is_small)
 }
 
 // ---- files
 
-// What was read of a file: so many bytes, or nothing, and the reason is printed.
-#[derive(Clone, Copy)]
-enum Bytes {
-    Read { n: usize },
-    Failed,
-}
-
-// Reads the file that argument i names into a buffer. One that fills the buffer is too long.
-fn read_file(rt: &HostRuntime, i: usize, buffer: &mut [u8]) -> io::Result<Bytes> {
-    let mut path = [0u8; 4096];
-    let length = say_stream::arg(rt, i, &mut path);
-    match say_stream::read_path(rt, &path[..length], &mut *buffer) {
-        Ok(n) => {
-            if n < buffer.len() {
-                return Ok(Bytes::Read { n });
-            }
-        }
-        Err(e) => {
-            say_stream::fail(rt, &path[..length], e)?;
-            return Ok(Bytes::Failed);
-        }
-    }
-    rt.write_all(&path[..length])?;
-    say(rt, b": too long")?;
-    Ok(Bytes::Failed)
-}
-
-// A path and what is put behind it, at the start of a buffer; 0 where they do not fit.
-fn join(path: &[u8], end: &[u8], out: &mut [u8]) -> usize {
-    if out.len() < 4096 {
-        return 0;
-    }
-    if 4000 < path.len() {
-        return 0;
-    }
-    if 16 < end.len() {
-        return 0;
-    }
-    let n = num_text::put(&mut *out, 0, path);
-    num_text::put(&mut *out, n, end)
-}
-
-// Writes what stands before a raster, and the raster.
-fn write_both(file: &mut File, head: &[u8], raster: &[u8]) -> io::Result<()> {
-    file.write_all(head)?;
-    file.write_all(raster)
-}
-
-// Writes a frame under the name `part`, and gives it the name `path` once all of it is there.
-fn write_as(
-    rt: &HostRuntime,
-    path: &[u8],
-    part: &[u8],
-    head: &[u8],
-    raster: &[u8],
-) -> io::Result<bool> {
-    let mut file = match say_stream::create(rt, part) {
-        Ok(file) => file,
-        Err(e) => {
-            say_stream::fail(rt, part, e)?;
-            return Ok(false);
-        }
-    };
-    let written = write_both(&mut file, head, raster);
-    drop(file);
-    if let Err(e) = written.and_then(|()| say_stream::rename(rt, part, path)) {
-        let _ = say_stream::remove(rt, part);
-        say_stream::fail(rt, path, e)?;
-        return Ok(false);
-    }
-    Ok(true)
-}
-
-// Writes a frame to the file that argument i names.
-fn write_frame(rt: &HostRuntime, i: usize, head: &[u8], raster: &[u8]) -> io::Result<bool> {
-    let mut path = [0u8; 4096];
-    let length = say_stream::arg(rt, i, &mut path);
-    let mut part = [0u8; 4096];
-    let n = join(&path[..length], b".part", &mut part);
-    if n <= 5 {
-        say(rt, b"OUT: no name, or one that is too long")?;
-        return Ok(false);
-    }
-    write_as(rt, &path[..length], front(&part, n), head, raster)
-}
-
-fn write_front(
-    rt: &HostRuntime,
-    i: usize,
-    head: &[u8; 66],
-    n: usize,
-    raster: &[u8],
-) -> io::Result<bool> {
-    write_frame(rt, i, front(head, n), raster)
-}
-
-fn write_pgm(
-    rt: &HostRuntime,
-    i: usize,
-    width: usize,
-    height: usize,
-    maxval: usize,
-    raster: &[u8],
-) -> io::Result<bool> {
+fn write_pgm(rt: &HostRuntime, i: usize, f: Frame, raster: &[u8]) -> io::Result<bool> {
     let mut head = [0u8; 66];
-    let n = say_pgm::write_header(&mut head, width, height, maxval);
-    write_front(rt, i, &head, n, raster)
+    let n = say_pgm::write_header(&mut head, f.width, f.height, f.maxval);
+    say_stream::write_arg(rt, i, head.get(..n).unwrap_or(&head), raster)
 }
 
 // ---- a frame
 
 fn is_done(a: Answer) -> bool {
-    match a {
-        Answer::Done {
-            names: _,
-            repaired: _,
-            left: _,
-        } => true,
-        Answer::Range => false,
-        Answer::Malformed { entry: _, why: _ } => false,
-        Answer::NotTaken => false,
-        Answer::Names => false,
-        Answer::Marks { opcode: _ } => false,
-    }
-}
-
-fn print_text(rt: &HostRuntime, text: &[u8; 512], n: usize) -> io::Result<()> {
-    rt.write_all(front(text, n))
+    matches!(a, Answer::Done { .. })
 }
 
 fn print_answer(
@@ -281,7 +131,12 @@ fn print_answer(
 ) -> io::Result<()> {
     let mut text = [0u8; 512];
     let n = say_report::write(&mut text, a, form, names, held as u64, whole);
-    print_text(rt, &text, n)
+    rt.write_all(&text[..n])
+}
+
+fn print_error(rt: &HostRuntime, why: FrameError) -> io::Result<()> {
+    rt.write_all(b"FRAME: ")?;
+    rt.println(why)
 }
 
 // The whole frame, at 0, 0.
@@ -303,13 +158,13 @@ fn side(n: usize) -> u32 {
     if n <= 65536 { n as u32 } else { 65537 }
 }
 
-fn whole_mended(list: &[u8], width: usize, height: usize, preview: bool, m: Mended) -> bool {
-    run_stored::is_whole(list, side(width), side(height), preview, m)
+fn whole_mended(list: &[u8], f: Frame, preview: bool, m: Result<Mended, NoRoom>) -> bool {
+    run_stored::is_whole(list, side(f.width), side(f.height), preview, m)
 }
 
-fn whole_run(list: &[u8], width: usize, height: usize, preview: bool, a: Answer) -> bool {
+fn whole_run(list: &[u8], s: Size, preview: bool, a: Answer) -> bool {
     let n = run_answers::numbers(a);
-    run_verdict::whole_frame(list, side(width), side(height), preview, n.number)
+    run_verdict::whole_frame(list, side(s.width), side(s.height), preview, n.number)
 }
 
 // A refusal is printed and nothing is written; otherwise the frame is, and then the answer with the verdict.
@@ -322,15 +177,13 @@ fn finish(
     wide_held: usize,
     whole: bool,
     samples: &[u16],
-    width: usize,
-    height: usize,
-    maxval: usize,
+    f: Frame,
     raster: &mut [u8],
 ) -> io::Result<()> {
     if is_done(a) {
-        let over = say_pgm::encode(samples, maxval, &mut *raster);
-        if write_pgm(rt, out, width, height, maxval, raster)? {
-            let held = run_stored::held_above(maxval, wide_held, over);
+        let over = say_pgm::encode(samples, f.maxval, &mut *raster);
+        if write_pgm(rt, out, f, raster)? {
+            let held = run_stored::held_above(f.maxval, wide_held, over);
             print_answer(rt, a, form, names, held, whole)?;
         }
         Ok(())
@@ -342,34 +195,33 @@ fn finish(
 // The raster's samples, mended, and back.
 fn mend_raster(
     rt: &HostRuntime,
-    out: usize,
-    period: usize,
-    preview: bool,
+    o: Options,
     list: &[u8],
-    width: usize,
-    height: usize,
-    maxval: usize,
+    f: Frame,
     raster: &mut [u8],
     samples: &mut [u16],
     wide: &mut [f32],
     marks: &mut [u32],
-) -> io::Result<()> {
-    say_pgm::decode(raster, maxval, &mut *samples);
-    let w = window_of(width, height);
+) -> io::Result<()>
+    requires { o.first ≤ 7 }
+{
+    say_pgm::decode(raster, f.maxval, &mut *samples);
+    let w = window_of(f.width, f.height);
     let mut names = [0u8; 4096];
     let m = run_stored::mend(
         list,
         &mut *samples,
         wide,
         w,
-        period,
-        preview,
+        o.period,
+        o.preview,
         marks,
         &mut names,
     );
-    let whole = whole_mended(list, width, height, preview, m);
+    let whole = whole_mended(list, f, o.preview, m);
+    let out = o.first + 2;
     match m {
-        Mended::Whole { answer } => finish(
+        Ok(Mended::Whole { answer }) => finish(
             rt,
             out,
             answer,
@@ -378,12 +230,10 @@ fn mend_raster(
             0,
             whole,
             samples,
-            width,
-            height,
-            maxval,
+            f,
             raster,
         ),
-        Mended::Widened { answer, held } => finish(
+        Ok(Mended::Widened { answer, held }) => finish(
             rt,
             out,
             answer,
@@ -392,54 +242,37 @@ fn mend_raster(
             held,
             whole,
             samples,
-            width,
-            height,
-            maxval,
+            f,
             raster,
         ),
-        Mended::NoRoom => say(rt, b"80: no room for the samples as f32"),
+        Err(why) => rt.println(why),
     }
 }
 
 // A frame in a file of n bytes.
 fn mend_file(
     rt: &HostRuntime,
-    out: usize,
-    period: usize,
-    preview: bool,
+    o: Options,
     list: &[u8],
     n: usize,
     file: &mut [u8],
     samples: &mut [u16],
     wide: &mut [f32],
     marks: &mut [u32],
-) -> io::Result<()> {
-    match say_pgm::read_frame(front(file, n), samples.len()) {
-        Frame::Whole {
-            width,
-            height,
-            maxval,
-            samples: count,
-            at,
-            end,
-        } => {
-            if count <= samples.len() {
-                if at <= end {
-                    if end <= file.len() {
-                        let raster = &mut file[at..end];
-                        let part = &mut samples[0..count];
-                        return mend_raster(
-                            rt, out, period, preview, list, width, height, maxval, raster, part,
-                            wide, marks,
-                        );
-                    }
-                }
-            }
-            Ok(())
+) -> io::Result<()>
+    requires { o.first ≤ 7 }
+{
+    match say_pgm::read_frame(file.get(..n).unwrap_or(&*file), samples.len()) {
+        Ok(f) => {
+            let Some(raster) = file.get_mut(f.at..f.end) else {
+                return Ok(());
+            };
+            let Some(part) = samples.get_mut(..f.samples) else {
+                return Ok(());
+            };
+            mend_raster(rt, o, list, f, raster, part, wide, marks)
         }
-        Frame::Broken => say(rt, b"FRAME: no binary greymap (P5)"),
-        Frame::TooLarge => say(rt, b"FRAME: too many samples"),
-        Frame::Short => say(rt, b"FRAME: the raster is cut short"),
+        Err(why) => print_error(rt, why),
     }
 }
 
@@ -456,7 +289,7 @@ fn finish_raw(
 ) -> io::Result<()> {
     if is_done(a) {
         say_pgm::encode_f32(samples, &mut *raster);
-        if write_frame(rt, out, b"", raster)? {
+        if say_stream::write_arg(rt, out, b"", raster)? {
             print_answer(rt, a, Form::Float, names, 0, whole)?;
         }
         Ok(())
@@ -467,60 +300,55 @@ fn finish_raw(
 
 fn run_raw(
     rt: &HostRuntime,
-    out: usize,
-    period: usize,
-    preview: bool,
+    o: Options,
     list: &[u8],
-    width: usize,
-    height: usize,
+    s: Size,
     raster: &mut [u8],
     samples: &mut [f32],
     marks: &mut [u32],
-) -> io::Result<()> {
+) -> io::Result<()>
+    requires { o.first ≤ 7 }
+{
     say_pgm::decode_f32(raster, &mut *samples);
     let mut names = [0u8; 4096];
-    let w = window_of(width, height);
+    let w = window_of(s.width, s.height);
     let set = Settings {
-        period,
+        period: o.period,
         scale: 1.0,
-        preview,
+        preview: o.preview,
     };
-    let a = run_window::run_f32(list, &mut *samples, w, set, marks, &mut names);
-    let whole = whole_run(list, width, height, preview, a);
-    finish_raw(rt, out, a, &names, whole, samples, raster)
+    let a = run_window::run(list, &mut *samples, w, set, marks, &mut names);
+    let whole = whole_run(list, s, o.preview, a);
+    finish_raw(rt, o.first + 2, a, &names, whole, samples, raster)
 }
 
 fn run_raw_file(
     rt: &HostRuntime,
-    out: usize,
-    period: usize,
-    preview: bool,
+    o: Options,
     list: &[u8],
-    width: usize,
-    height: usize,
+    s: Size,
     n: usize,
     file: &mut [u8],
     samples: &mut [f32],
     marks: &mut [u32],
-) -> io::Result<()> {
-    let count = say_pgm::area(width, height);
+) -> io::Result<()>
+    requires { o.first ≤ 7 }
+{
+    let count = say_pgm::area(s.width, s.height);
     if 524288 < count {
-        return say(rt, b"FRAME: too many samples");
+        return print_error(rt, FrameError::TooLarge);
     }
     let bytes = 4 * count;
     if n != bytes {
-        return say(rt, b"FRAME: its length is not that of WIDTH by HEIGHT f32");
+        return say_stream::say(rt, b"FRAME: its length is not that of WIDTH by HEIGHT f32");
     }
-    if count <= samples.len() {
-        if bytes <= file.len() {
-            let raster = &mut file[0..bytes];
-            let part = &mut samples[0..count];
-            return run_raw(
-                rt, out, period, preview, list, width, height, raster, part, marks,
-            );
-        }
-    }
-    Ok(())
+    let Some(raster) = file.get_mut(..bytes) else {
+        return Ok(());
+    };
+    let Some(part) = samples.get_mut(..count) else {
+        return Ok(());
+    };
+    run_raw(rt, o, list, s, raster, part, marks)
 }
 
 // ---- the files
@@ -533,44 +361,18 @@ fn mend_args(
     samples: &mut [u16],
     wide: &mut [f32],
     marks: &mut [u32],
-) -> io::Result<()> {
-    let first = o.first;
-    if 8 < first {
-        return Ok(());
-    }
-    let Bytes::Read { n: long } = read_file(rt, first, &mut *list)? else {
+) -> io::Result<()>
+    requires { o.first ≤ 7 }
+{
+    let Some(long) = say_stream::read_arg(rt, o.first, &mut *list)? else {
         return Ok(());
     };
-    let Bytes::Read { n } = read_file(rt, first + 1, &mut *file)? else {
+    let Some(n) = say_stream::read_arg(rt, o.first + 1, &mut *file)? else {
         return Ok(());
     };
-    if o.raw {
-        run_raw_file(
-            rt,
-            first + 2,
-            o.period,
-            o.preview,
-            front(list, long),
-            o.width,
-            o.height,
-            n,
-            file,
-            wide,
-            marks,
-        )
-    } else {
-        mend_file(
-            rt,
-            first + 2,
-            o.period,
-            o.preview,
-            front(list, long),
-            n,
-            file,
-            samples,
-            wide,
-            marks,
-        )
+    match o.raw {
+        Some(s) => run_raw_file(rt, o, &list[..long], s, n, file, wide, marks),
+        None => mend_file(rt, o, &list[..long], n, file, samples, wide, marks),
     }
 }
 
@@ -583,7 +385,9 @@ fn mend_in(
     samples: &mut [u16; 524288],
     wide: &mut [f32; 524288],
     marks: &mut [u32; 131072],
-) -> io::Result<()> {
+) -> io::Result<()>
+    requires { o.first ≤ 7 }
+{
     mend_args(rt, o, list, file, samples, wide, marks)
 }
 
@@ -592,7 +396,7 @@ fn mend_in(
 fn main(rt: HostRuntime) -> io::Result<()> {
     let o = raw_option(&rt, preview_option(&rt, period_option(&rt)));
     if !is_in_order(&rt, o) {
-        return say(
+        return say_stream::say(
             &rt,
             b"correct [--period N] [--preview] [--f32 WIDTH HEIGHT] LIST FRAME OUT",
         );

@@ -1,6 +1,6 @@
 -- What comes back: the ranges, the order of the refusals, and what each answer leaves. Document 01, 'Taken and left'
 -- and 'What comes back'.
-use Rattle.std.specs.Prelude.{ℕ, ◌*◌, Bool, true, ◌&&◌, cond, List, ◌++◌, ◌≡◌, leb, Float, length, drop, replicate}
+use Rattle.std.specs.Prelude.{ℕ, ◌*◌, Bool, true, ◌&&◌, cond, List, ◌++◌, ◌≡◌, leb, Float, length, drop, replicate, Ok, Err}
 use Rattle.dng.specs.declared.Window.{Window}
 use Rattle.dng.specs.declared.RowWindow.{RowWindow}
 use Rattle.dng.specs.declared.Settings.{Settings}
@@ -10,11 +10,10 @@ use Rattle.dng.specs.declared.Answer.TheVariants as Ans
 use Rattle.dng.specs.declared.RowAnswer.{RowAnswer}
 use Rattle.dng.specs.declared.RowAnswer.TheVariants as Row
 use Rattle.dng.specs.declared.Refusal.{Refusal}
-use Rattle.dng.specs.declared.Reading.{Reading}
-use Rattle.dng.specs.declared.Reading.TheVariants as R
-use Rattle.dng.specs.List.{Item, reason_number, reading_of, items_of}
+use Rattle.dng.specs.List.{Item, reason_number, Reading, reading_of, items_of}
 use Rattle.dng.specs.Value.{Frame}
-use Rattle.dng.specs.Run.{kept_in, Kind, f32_kind, u16_kind, Class, skipped, skipped16, takes16, takes_rows, names_of, Progress, going, marks_full, Room, perform_all, row_on}
+use Rattle.dng.specs.declared.Class.{Class}
+use Rattle.dng.specs.Run.{kept_in, Kind, f32_kind, u16_kind, skipped, skipped16, takes16, takes_rows, names_of, Progress, going, marks_full, Room, perform_all, row_on}
 
 -- ---- the ranges
 
@@ -58,7 +57,7 @@ numbers_of Ans.Names = record { number = 4; entry = 0; offset = 0; opcode = 0; n
 numbers_of (Ans.Marks k) = record { number = 5; entry = 0; offset = 0; opcode = k; names = 0; repaired = 0; left = 0 }
 
 abbrev pub reading_numbers_of : Reading → Numbers
-reading_numbers_of (R.Whole n) = record {
+reading_numbers_of (Ok n) = record {
   number = 0;
   entry = 0;
   offset = 0;
@@ -67,7 +66,7 @@ reading_numbers_of (R.Whole n) = record {
   repaired = 0;
   left = 0;
 }
-reading_numbers_of (R.Malformed k why) = malformed_numbers k why
+reading_numbers_of (Err m) = malformed_numbers m.after m.why
 
 abbrev pub row_numbers_of : RowAnswer → Numbers
 row_numbers_of (Row.Done n) = record { number = 0; entry = 0; offset = 0; opcode = 0; names = 0; repaired = 0; left = 0 }
@@ -106,8 +105,8 @@ module _ {A : Type 0} (kind : Kind A) (takes : List Item → Bool) (skip : Class
       (unchanged Ans.NotTaken s names)
 
   abbrev pub read_out : Window → (period : ℕ) → (preview : Bool) → Room → List ℕ → List A → List ℕ → Reading → Out A
-  read_out w period preview room list s names (R.Whole n) = ran_on w period preview room list s names
-  read_out w period preview room list s names (R.Malformed k why) = unchanged (Ans.Malformed k why) s names
+  read_out w period preview room list s names (Ok n) = ran_on w period preview room list s names
+  read_out w period preview room list s names (Err m) = unchanged (Ans.Malformed m.after m.why) s names
 
   unfoldable pub run_out : Window → (period : ℕ) → (preview : Bool) → Room → List ℕ → List A → List ℕ → Out A
   run_out w period preview room list s names =
@@ -148,14 +147,14 @@ abbrev pub row_frame_of : RowWindow → Float → Frame
 row_frame_of w scale = record { scale = scale; full_width = w.full_width; full_height = w.full_height }
 
 abbrev pub row_read : RowWindow → Float → (preview : Bool) → (y : ℕ) → List ℕ → List Float → Reading → RowOut
-row_read w scale preview y list row (R.Whole n) =
+row_read w scale preview y list row (Ok n) =
     cond (takes_rows (kept_in preview list))
     (record {
       answer = Row.Done (length (names_of skipped (kept_in preview list)));
       row = row_on (row_frame_of w scale) w.x0 w.planes y list (kept_in preview list) row;
     })
     (record { answer = Row.NotTaken; row = row })
-row_read w scale preview y list row (R.Malformed k why) = record { answer = Row.Malformed k why; row = row }
+row_read w scale preview y list row (Err m) = record { answer = Row.Malformed m.after m.why; row = row }
 
 unfoldable pub row_out : RowWindow → Float → (preview : Bool) → (y : ℕ) → List ℕ → List Float → RowOut
 row_out w scale preview y list row =

@@ -1,7 +1,7 @@
 -- The bench frames P1 to P12 of document 01, 'Bench frames', as one table over the definitions. `bench`, at the end, is
 -- the one statement.
 -- The reasons of P1, P2 and P12 are document 02's, M-100.
-use Rattle.std.specs.Prelude.{ℕ, ◌/◌, ◌%◌, ◌≡◌, refl, false, List, [], ◌∷◌, ◌++◌, map, Float, pos, negsuc, length, replicate}
+use Rattle.std.specs.Prelude.{ℕ, ◌/◌, ◌%◌, ◌≡◌, refl, false, List, [], ◌∷◌, ◌++◌, map, Float, pos, negsuc, length, replicate, Ok, Err}
 use Rattle.std.specs.Float.{binary32, fin}
 use Rattle.std.specs.Float.Ieee.{of_int, round, mul, div, add, eq, units, odd, size, span, climb}
 use Rattle.num_words.specs.Words.{big}
@@ -14,9 +14,8 @@ use Rattle.dng.specs.declared.Opcode.TheVariants.{WarpRectilinear, FixBadPixelsL
 use Rattle.dng.specs.declared.Answer.{Answer}
 use Rattle.dng.specs.declared.Answer.TheVariants as Ans
 use Rattle.dng.specs.declared.RowAnswer.TheVariants as Row
-use Rattle.dng.specs.declared.Reading.TheVariants as R
 use Rattle.dng.specs.declared.Reason.TheVariants as Why
-use Rattle.dng.specs.List.{Item, refusal, extent, first_cut, header_why, inside_why, field_why, why_from, why_of, reading_of, items_of, counted, read_from, step_at, next_at, parsed_at, warp_at, vignette_at, constant_at, trim_at, polynomial_at, counted_at, gain_at, bad_list_at, half}
+use Rattle.dng.specs.List.{Item, refusal, extent, first_cut, header_why, inside_why, field_why, why_from, why_of, malformed, reading_of, items_of, counted, read_from, step_at, next_at, parsed_at, warp_at, vignette_at, constant_at, trim_at, polynomial_at, counted_at, gain_at, bad_list_at, half}
 use Rattle.dng.specs.Select.{on_region, on_window, in_window, active, whole_pixel}
 use Rattle.dng.specs.Value.{map_table, map_table16}
 use Rattle.dng.specs.Repair.{any_below, count_below, complete, point_at, rect_at, listed, bad_value, marks_of, moved, sound, tally_on, repair_at, sound_on, marked_in, repaired_in, left_in}
@@ -102,10 +101,10 @@ abbrev pub out : {A : Type 0} → Answer → List A → List ℕ → Out A
 out a s n = record { answer = a; samples = s; names = n }
 
 pub record Bench : Type 0 where
-  pub P1 : reading_of [] ≡ R.Malformed 0 (refusal Why.Ends 0)
+  pub P1 : reading_of [] ≡ Err (malformed 0 (refusal Why.Ends 0))
   pub P1Number : (reading_numbers_of (reading_of [])).number ≡ 20
-  pub P2 : reading_of (word 0) ≡ R.Whole 0
-  pub P2Over : reading_of (word 4097 ++ entry 2 []) ≡ R.Malformed 0 (refusal Why.TooMany 0)
+  pub P2 : reading_of (word 0) ≡ Ok 0
+  pub P2Over : reading_of (word 4097 ++ entry 2 []) ≡ Err (malformed 0 (refusal Why.TooMany 0))
   pub P2Number : (reading_numbers_of (reading_of (word 4097 ++ entry 2 []))).number ≡ 21
   pub P3 : touched (region 1 6 0 1 2) third (0 ∷ 0 ∷ 0 ∷ 0 ∷ []) ≡ 0 ∷ 1 ∷ 0 ∷ 1 ∷ []
   pub P4 : touched (region 0 1 1 5 1) pixel (0 ∷ 0 ∷ 0 ∷ []) ≡ 0 ∷ 1 ∷ 1 ∷ []
@@ -126,15 +125,15 @@ pub record Bench : Type 0 where
       ≡ out (Ans.Done 0 0 0) (3 ∷ []) (9 ∷ 9 ∷ [])
   pub P9Row : row_out (record { width = 1; planes = 1; x0 = 0; full_width = 1; full_height = 1 }) (whole 1) false 0
       (list_of (table [] 0 ∷ [])) (whole 3 ∷ []) ≡ record { answer = Row.NotTaken; row = whole 3 ∷ [] }
-  pub P10 : reading_of (list_of (entry 1 (word 0) ∷ [])) ≡ R.Whole 1
+  pub P10 : reading_of (list_of (entry 1 (word 0) ∷ [])) ≡ Ok 1
   pub P10Planes : map (λ (i : Item). i.op) (items_of (list_of (entry 1 (word 0) ∷ [])))
       ≡ WarpRectilinear 0 half half ∷ []
   pub P11 : marked_in (frame 2 2) (marks_of {A = ℕ} 0 (frame 2 2) (λ c v. false) (FixBadPixelsList 0 0 1)
       (words (0 ∷ 0 ∷ 1 ∷ 0 ∷ 0 ∷ 1 ∷ 1 ∷ [])) (3 ∷ 3 ∷ 3 ∷ 3 ∷ [])) ≡ 1
   pub P11Run : u16_out (frame 2 2) 1 false room (list_of (entry 5 (words (0 ∷ 0 ∷ 1 ∷ 0 ∷ 0 ∷ 1 ∷ 1 ∷ [])) ∷ []))
       (3 ∷ 5 ∷ 7 ∷ 9 ∷ []) [] ≡ out (Ans.Done 0 1 0) (7 ∷ 5 ∷ 7 ∷ 9 ∷ []) []
-  pub P12 : reading_of (list_of (polynomial 8 72 ∷ [])) ≡ R.Whole 1
-  pub P12Over : reading_of (list_of (polynomial 9 80 ∷ [])) ≡ R.Malformed 0 (refusal Why.Degree 52)
+  pub P12 : reading_of (list_of (polynomial 8 72 ∷ [])) ≡ Ok 1
+  pub P12Over : reading_of (list_of (polynomial 9 80 ∷ [])) ≡ Err (malformed 0 (refusal Why.Degree 52))
   pub P12Number : (reading_numbers_of (reading_of (list_of (polynomial 9 80 ∷ [])))).number ≡ 25
 
 pub bench : Bench

@@ -2,7 +2,7 @@
 -- Why one is refused, and at which byte: document 02, M-100.
 -- Big-endian throughout. Positions count from the list's first byte. Bytes left over in a body or after the list are
 -- ignored, and so is the version.
-use Rattle.std.specs.Prelude.{ℕ, zero, suc, ◌+◌, ◌-◌, ◌*◌, ◌/◌, ◌%◌, min, max, Bool, false, ◌&&◌, cond, List, [], ◌∷◌, ◌++◌, leb, eqb, Float, negsuc, length, take, drop, replicate}
+use Rattle.std.specs.Prelude.{ℕ, zero, suc, ◌+◌, ◌-◌, ◌*◌, ◌/◌, ◌%◌, min, max, Bool, false, ◌&&◌, cond, List, [], ◌∷◌, ◌++◌, leb, eqb, Float, negsuc, length, take, drop, replicate, Result, Ok, Err}
 use Rattle.std.specs.Float.{binary64, fin}
 use Rattle.std.specs.Float.Ieee.{of_bits}
 use Rattle.num_words.specs.Words.{big}
@@ -16,14 +16,9 @@ use Rattle.dng.specs.declared.Cursor.{Cursor}
 use Rattle.dng.specs.declared.Reason.{Reason}
 use Rattle.dng.specs.declared.Reason.TheVariants as Why
 use Rattle.dng.specs.declared.Refusal.{Refusal}
-use Rattle.dng.specs.declared.Next.{Next}
-use Rattle.dng.specs.declared.Next.TheVariants as N
-use Rattle.dng.specs.declared.Parsed.{Parsed}
-use Rattle.dng.specs.declared.Parsed.TheVariants as P
+use Rattle.dng.specs.declared.Found.{Found}
 use Rattle.dng.specs.declared.Step.{Step}
-use Rattle.dng.specs.declared.Step.TheVariants as S
-use Rattle.dng.specs.declared.Reading.{Reading}
-use Rattle.dng.specs.declared.Reading.TheVariants as R
+use Rattle.dng.specs.declared.Malformed.{Malformed}
 
 -- ---- words
 
@@ -118,11 +113,11 @@ header_why s at =
     cond (leb (at + 16) (length s)) (refusal Why.TooLong (at + 12))
     (refusal Why.Ends (at + first_cut header_fields (length s - at)))
 
-unfoldable pub next_at : List ℕ → Cursor → Next
+unfoldable pub next_at : List ℕ → Cursor → Result Found Refusal
 next_at s c =
     cond (leb (c.at + 16) (length s) && leb (c.at + 16 + u32_at s (c.at + 12)) (length s))
-    (N.Found (header_at s c.at) (record { at = c.at + 16 + u32_at s (c.at + 12) }))
-    (N.Malformed (header_why s c.at))
+    (Ok (record { entry = header_at s c.at; next = record { at = c.at + 16 + u32_at s (c.at + 12) } }))
+    (Err (header_why s c.at))
 
 -- flag bit 0: a reader that does not know the opcode may pass it over
 abbrev pub optional_of : Entry → Bool
@@ -176,8 +171,8 @@ radial_at s at =
     }
 
 -- the opcode where its counts hold; where not, a malformed body, and why
-abbrev pub given : Bool → Opcode → Refusal → Parsed
-given ok op why = cond ok (P.Read op) (P.Malformed why)
+abbrev pub given : Bool → Opcode → Refusal → Result Opcode Refusal
+given ok op why = cond ok (Ok op) (Err why)
 
 -- 23 at the first of a body's fields that is not whole
 unfoldable pub inside_why : List ℕ → List ℕ → (at len : ℕ) → Refusal
@@ -200,17 +195,17 @@ warp_at s at len =
     (WarpRectilinear 0 half half)
 
 -- 3: seven f64
-unfoldable pub vignette_at : List ℕ → ℕ → ℕ → Parsed
+unfoldable pub vignette_at : List ℕ → ℕ → ℕ → Result Opcode Refusal
 vignette_at s at len = given (leb 56 len) (FixVignetteRadial (radial_at s at)) (inside_why vignette_fields s at len)
 
 -- 4: constant, phase
-unfoldable pub constant_at : List ℕ → ℕ → ℕ → Parsed
+unfoldable pub constant_at : List ℕ → ℕ → ℕ → Result Opcode Refusal
 constant_at s at len =
     given (leb 8 len) (FixBadPixelsConstant (u32_at s at) (u32_at s (at + 4))) (inside_why constant_fields s at len)
 
 -- 5: phase, np, nr, then np points (row, column) and nr rectangles (top, left, bottom, right);
 -- 24 at np, the first of the sum's counts
-unfoldable pub bad_list_at : List ℕ → ℕ → ℕ → Parsed
+unfoldable pub bad_list_at : List ℕ → ℕ → ℕ → Result Opcode Refusal
 bad_list_at s at len =
     let np = u32_at s (at + 4) in
     let nr = u32_at s (at + 8) in
@@ -218,20 +213,20 @@ bad_list_at s at len =
     (field_why bad_list_fields Why.Count 4 s at len)
 
 -- 6: four numbers
-unfoldable pub trim_at : List ℕ → ℕ → ℕ → Parsed
+unfoldable pub trim_at : List ℕ → ℕ → ℕ → Result Opcode Refusal
 trim_at s at len =
     given (leb 16 len) (TrimBounds (u32_at s at) (u32_at s (at + 4)) (u32_at s (at + 8)) (u32_at s (at + 12)))
     (inside_why trim_fields s at len)
 
 -- 7 and 10 to 13: a region, n, and n values of `size` bytes; n is at most 16,777,216, and 0 is allowed
-unfoldable pub counted_at : ℕ → (Region → ℕ → Opcode) → List ℕ → ℕ → ℕ → Parsed
+unfoldable pub counted_at : ℕ → (Region → ℕ → Opcode) → List ℕ → ℕ → ℕ → Result Opcode Refusal
 counted_at size op s at len =
     let n = u32_at s (at + 32) in
     given (leb 36 len && (leb n 16777216 && leb (36 + size * n) len)) (op (region_at s at) n)
     (field_why counted_fields Why.Count 32 s at len)
 
 -- 8: a region, the degree 0..8, and degree+1 f64; 25 before 24
-unfoldable pub polynomial_at : List ℕ → ℕ → ℕ → Parsed
+unfoldable pub polynomial_at : List ℕ → ℕ → ℕ → Result Opcode Refusal
 polynomial_at s at len =
     let d = u32_at s (at + 32) in
     given (leb 36 len && (leb d 8 && leb (36 + 8 * (d + 1)) len)) (MapPolynomial (region_at s at) d)
@@ -239,7 +234,7 @@ polynomial_at s at len =
 
 -- 9: a region, points v and h, the grid, map planes (0 becomes 1), and v·h·planes f32; that product is 1 to 16,777,216;
 -- 24 at points v, the first of the product's
-unfoldable pub gain_at : List ℕ → ℕ → ℕ → Parsed
+unfoldable pub gain_at : List ℕ → ℕ → ℕ → Result Opcode Refusal
 gain_at s at len =
     let v = u32_at s (at + 32) in
     let h = u32_at s (at + 36) in
@@ -250,10 +245,10 @@ gain_at s at len =
     (field_why gain_fields Why.Count 32 s at len)
 
 -- the body of an entry, by its id; the bodies of 2 and of any other id are not read
-unfoldable pub parsed_at : List ℕ → ℕ → ℕ → ℕ → Parsed
+unfoldable pub parsed_at : List ℕ → ℕ → ℕ → ℕ → Result Opcode Refusal
 parsed_at s id at len =
-    cond (eqb id 1) (P.Read (warp_at s at len))
-    (cond (eqb id 2) (P.Read WarpFisheye)
+    cond (eqb id 1) (Ok (warp_at s at len))
+    (cond (eqb id 2) (Ok WarpFisheye)
     (cond (eqb id 3) (vignette_at s at len)
     (cond (eqb id 4) (constant_at s at len)
     (cond (eqb id 5) (bad_list_at s at len)
@@ -265,20 +260,20 @@ parsed_at s id at len =
     (cond (eqb id 11) (counted_at 4 DeltaPerColumn s at len)
     (cond (eqb id 12) (counted_at 4 ScalePerRow s at len)
     (cond (eqb id 13) (counted_at 4 ScalePerColumn s at len)
-    (P.Read (Other id))))))))))))))
+    (Ok (Other id))))))))))))))
 
 -- ---- the list: a count, at most 4,096, and as many entries
 
-abbrev pub step_on : Entry → Cursor → Parsed → Step
-step_on e next (P.Read op) = S.Item e op next
-step_on e next (P.Malformed why) = S.Malformed why
+abbrev pub step_on : Found → Result Opcode Refusal → Result Step Refusal
+step_on f (Ok op) = Ok (record { entry = f.entry; op = op; next = f.next })
+step_on f (Err why) = Err why
 
-abbrev pub step_of : List ℕ → Next → Step
-step_of s (N.Found e next) = step_on e next (parsed_at s e.id e.at e.len)
-step_of s (N.Malformed why) = S.Malformed why
+abbrev pub step_of : List ℕ → Result Found Refusal → Result Step Refusal
+step_of s (Ok f) = step_on f (parsed_at s f.entry.id f.entry.at f.entry.len)
+step_of s (Err why) = Err why
 
 -- the entry at a cursor, header and body
-unfoldable pub step_at : List ℕ → Cursor → Step
+unfoldable pub step_at : List ℕ → Cursor → Result Step Refusal
 step_at s c = step_of s (next_at s c)
 
 -- an opcode of a list, with its entry
@@ -286,9 +281,12 @@ pub record Item : Type 0 where
   pub entry : Entry
   pub op : Opcode
 
-abbrev pub read_on : (Cursor → List Item) → Step → List Item
-read_on rest (S.Item e op next) = record { entry = e; op = op } ∷ rest next
-read_on rest (S.Malformed why) = []
+abbrev pub item_of : Step → Item
+item_of i = record { entry = i.entry; op = i.op }
+
+abbrev pub read_on : (Cursor → List Item) → Result Step Refusal → List Item
+read_on rest (Ok i) = item_of i ∷ rest i.next
+read_on rest (Err why) = []
 
 -- the entries that are read whole, one after another from a cursor on: n of them, or as many as stand before the first
 -- malformed one
@@ -305,9 +303,9 @@ unfoldable pub items_of : List ℕ → List Item
 items_of s = cond (counted s) (read_from s (u32_at s 0) (record { at = 4 })) []
 
 -- why the first malformed entry is refused, of n from a cursor on; where there is none, no one asks
-abbrev pub why_on : (Cursor → Refusal) → Step → Refusal
-why_on rest (S.Item e op next) = rest next
-why_on rest (S.Malformed why) = why
+abbrev pub why_on : (Cursor → Refusal) → Result Step Refusal → Refusal
+why_on rest (Ok i) = rest i.next
+why_on rest (Err why) = why
 
 unfoldable pub why_from : List ℕ → ℕ → Cursor → Refusal
 why_from s zero c = refusal Why.Ends 0
@@ -320,9 +318,16 @@ why_of s =
     (cond (leb (u32_at s 0) 4096) (why_from s (u32_at s 0) (record { at = 4 })) (refusal Why.TooMany 0))
     (refusal Why.Ends 0)
 
+abbrev pub malformed : (after : ℕ) → Refusal → Malformed
+malformed k why = record { after = k; why = why }
+
+-- how many opcodes there are, or after how many, and why, the list is malformed
+abbrev pub Reading : Type 0
+Reading = Result ℕ Malformed
+
 -- A list is whole where its count can be read and kept and every entry is read whole. If not, it is malformed after
 -- those that were.
 unfoldable pub reading_of : List ℕ → Reading
 reading_of s =
-    cond (counted s && eqb (length (items_of s)) (u32_at s 0)) (R.Whole (u32_at s 0))
-    (R.Malformed (length (items_of s)) (why_of s))
+    cond (counted s && eqb (length (items_of s)) (u32_at s 0)) (Ok (u32_at s 0))
+    (Err (malformed (length (items_of s)) (why_of s)))

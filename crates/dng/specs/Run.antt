@@ -8,6 +8,8 @@ use Rattle.pointwise.specs.Points.{each}
 use Rattle.num_round.specs.Whole.{round_held}
 use Rattle.num_convert.specs.Convert.{whole_in}
 use Rattle.dng.specs.declared.Window.{Window}
+use Rattle.dng.specs.declared.Class.{Class}
+use Rattle.dng.specs.declared.Class.TheVariants.{Table, Empty, Local, Repair, Unapplied}
 use Rattle.dng.specs.declared.Opcode.{Opcode}
 use Rattle.dng.specs.declared.Opcode.TheVariants.{WarpRectilinear, WarpFisheye, FixVignetteRadial, FixBadPixelsConstant, FixBadPixelsList, TrimBounds, MapTable, MapPolynomial, GainMap, DeltaPerRow, DeltaPerColumn, ScalePerRow, ScalePerColumn, Other}
 use Rattle.dng.specs.List.{Item, preview_of, items_of, body_of}
@@ -33,25 +35,21 @@ kept_in preview list = kept_of preview (items_of list)
 -- ---- classes of opcodes
 
 -- the class of an opcode, as the forms and the names go by it
-pub data Class : Type 0 where
-  -- a table with entries, a table with none, another row-local pixel opcode, a repair, and what is never applied
-  table empty local repair unapplied : Class
-
 abbrev pub class_of : Opcode → Class
-class_of (WarpRectilinear n cx cy) = unapplied
-class_of WarpFisheye = unapplied
-class_of (FixVignetteRadial q) = local
-class_of (FixBadPixelsConstant c p) = repair
-class_of (FixBadPixelsList p np nr) = repair
-class_of (TrimBounds t l bm r) = unapplied
-class_of (MapTable r n) = cond (eqb n 0) empty table
-class_of (MapPolynomial r d) = local
-class_of (GainMap r pv ph g mp) = local
-class_of (DeltaPerRow r n) = local
-class_of (DeltaPerColumn r n) = local
-class_of (ScalePerRow r n) = local
-class_of (ScalePerColumn r n) = local
-class_of (Other i) = unapplied
+class_of (WarpRectilinear n cx cy) = Unapplied
+class_of WarpFisheye = Unapplied
+class_of (FixVignetteRadial q) = Local
+class_of (FixBadPixelsConstant c p) = Repair
+class_of (FixBadPixelsList p np nr) = Repair
+class_of (TrimBounds t l bm r) = Unapplied
+class_of (MapTable r n) = cond (eqb n 0) Empty Table
+class_of (MapPolynomial r d) = Local
+class_of (GainMap r pv ph g mp) = Local
+class_of (DeltaPerRow r n) = Local
+class_of (DeltaPerColumn r n) = Local
+class_of (ScalePerRow r n) = Local
+class_of (ScalePerColumn r n) = Local
+class_of (Other i) = Unapplied
 
 -- the byte that names a skipped opcode: its id, 0 for `Other`
 abbrev pub name_of : Opcode → ℕ
@@ -74,18 +72,18 @@ name_of (Other i) = 0
 -- has no name
 
 abbrev pub skipped : Class → Bool
-skipped table = false
-skipped empty = true
-skipped local = false
-skipped repair = false
-skipped unapplied = true
+skipped Table = false
+skipped Empty = true
+skipped Local = false
+skipped Repair = false
+skipped Unapplied = true
 
 abbrev pub skipped16 : Class → Bool
-skipped16 table = false
-skipped16 empty = false
-skipped16 local = false
-skipped16 repair = false
-skipped16 unapplied = true
+skipped16 Table = false
+skipped16 Empty = false
+skipped16 Local = false
+skipped16 Repair = false
+skipped16 Unapplied = true
 
 -- one byte for each skipped opcode, in list order
 unfoldable pub names_of : (Class → Bool) → List Item → List ℕ
@@ -96,11 +94,11 @@ names_of skip (i ∷ is) = cond (skip (class_of i.op)) (name_of i.op ∷ names_o
 
 -- The whole-number form: tables, non-pixel opcodes and at most one repair. `free` says whether a repair may still come.
 unfoldable pub takes16_on : Class → Bool → (Bool → Bool) → Bool
-takes16_on table free rest = rest free
-takes16_on empty free rest = rest free
-takes16_on local free rest = false
-takes16_on repair free rest = free && rest false
-takes16_on unapplied free rest = rest free
+takes16_on Table free rest = rest free
+takes16_on Empty free rest = rest free
+takes16_on Local free rest = false
+takes16_on Repair free rest = free && rest false
+takes16_on Unapplied free rest = rest free
 
 unfoldable pub takes16_from : Bool → List Item → Bool
 takes16_from free [] = true
@@ -111,11 +109,11 @@ takes16 is = takes16_from true is
 
 -- The row form: no repair and no empty table.
 abbrev pub row_takes : Class → Bool
-row_takes table = true
-row_takes empty = false
-row_takes local = true
-row_takes repair = false
-row_takes unapplied = true
+row_takes Table = true
+row_takes Empty = false
+row_takes Local = true
+row_takes Repair = false
+row_takes Unapplied = true
 
 unfoldable pub takes_rows : List Item → Bool
 takes_rows [] = true
@@ -177,11 +175,11 @@ module _ {A : Type 0} (kind : Kind A) (w : Window) (period : ℕ) (room : Room) 
 
   -- One opcode, over the whole window. One that is never applied, and a table with no entries, change nothing.
   abbrev pub perform_on : Class → Opcode → List ℕ → (opcode : ℕ) → List A → (repaired left : ℕ) → Progress A
-  perform_on table op b k s r l = going (each (on_window w (length s) (kind.rule op b)) s) r l
-  perform_on empty op b k s r l = going s r l
-  perform_on local op b k s r l = going (each (on_window w (length s) (kind.rule op b)) s) r l
-  perform_on repair op b k s r l = repair_on (marks_of kind.none w kind.is_bad op b s) k s r l
-  perform_on unapplied op b k s r l = going s r l
+  perform_on Table op b k s r l = going (each (on_window w (length s) (kind.rule op b)) s) r l
+  perform_on Empty op b k s r l = going s r l
+  perform_on Local op b k s r l = going (each (on_window w (length s) (kind.rule op b)) s) r l
+  perform_on Repair op b k s r l = repair_on (marks_of kind.none w kind.is_bad op b s) k s r l
+  perform_on Unapplied op b k s r l = going s r l
 
   abbrev pub perform : List ℕ → Item → (opcode : ℕ) → Progress A → Progress A
   perform list i k (going s r l) = perform_on (class_of i.op) i.op (body_of list i.entry) k s r l

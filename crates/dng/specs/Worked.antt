@@ -1,6 +1,6 @@
 -- Worked values of the definitions, which the checker computes: one for each layout of a body, and one for each rule
 -- where a slip would show.
-use Rattle.std.specs.Prelude.{ℕ, ◌≡◌, refl, Bool, true, false, ◌&&◌, cond, eqb, List, [], ◌∷◌, ◌++◌, map, Float, pos, negsuc, length, replicate}
+use Rattle.std.specs.Prelude.{ℕ, ◌≡◌, refl, Bool, true, false, ◌&&◌, cond, eqb, List, [], ◌∷◌, ◌++◌, map, Float, pos, negsuc, length, replicate, Result, Ok, Err}
 use Rattle.std.specs.Float.{binary64, fin, nan, inf}
 use Rattle.std.specs.Float.Ieee.{of_int, of_bits, of_fields, round, mul, div, add, sub, neg, sum, eq, lt, units, odd, size, span, climb, to_unsigned}
 use Rattle.std.specs.Int.Count.{count_trailing_zeros}
@@ -18,13 +18,11 @@ use Rattle.dng.specs.declared.Opcode.TheVariants.{WarpRectilinear, FixVignetteRa
 use Rattle.dng.specs.declared.Entry.{Entry}
 use Rattle.dng.specs.declared.Answer.TheVariants as Ans
 use Rattle.dng.specs.declared.RowAnswer.TheVariants as Row
-use Rattle.dng.specs.declared.Reading.{Reading}
-use Rattle.dng.specs.declared.Reading.TheVariants as R
 use Rattle.dng.specs.declared.Reason.{Reason}
 use Rattle.dng.specs.declared.Reason.TheVariants as Why
-use Rattle.dng.specs.declared.Parsed.{Parsed}
-use Rattle.dng.specs.declared.Parsed.TheVariants as P
-use Rattle.dng.specs.List.{Item, reason_number, refusal, extent, first_cut, header_fields, vignette_fields, constant_fields, bad_list_fields, trim_fields, counted_fields, gain_fields, header_why, inside_why, field_why, why_from, why_of, items_of, reading_of, counted, read_from, step_at, next_at, parsed_at, warp_at, vignette_at, constant_at, trim_at, bad_list_at, counted_at, polynomial_at, gain_at}
+use Rattle.dng.specs.declared.Opcode.{Opcode}
+use Rattle.dng.specs.declared.Refusal.{Refusal}
+use Rattle.dng.specs.List.{Item, reason_number, refusal, extent, first_cut, header_fields, vignette_fields, constant_fields, bad_list_fields, trim_fields, counted_fields, gain_fields, header_why, inside_why, field_why, why_from, why_of, items_of, malformed, Reading, reading_of, counted, read_from, step_at, next_at, parsed_at, warp_at, vignette_at, constant_at, trim_at, bad_list_at, counted_at, polynomial_at, gain_at}
 use Rattle.dng.specs.Select.{on_region, on_row, in_window, active}
 use Rattle.dng.specs.Value.{Frame, map_table, map_polynomial, horner, nth, delta, scaled, position, mix, line_at, gain_of, gained, rule_of}
 use Rattle.dng.specs.Repair.{count_below, complete, point_at, rect_at, bad_value, marks_of, moved, sound, tally_on, tally_at, repair_at, sound_on, marked_in, repaired_in, left_in}
@@ -46,15 +44,15 @@ abbrev one_pixel : RowWindow
 one_pixel = record { width = 1; planes = 1; x0 = 0; full_width = 1; full_height = 1 }
 
 -- the body b as the opcode with this id
-abbrev read : ℕ → List ℕ → Parsed
+abbrev read : ℕ → List ℕ → Result Opcode Refusal
 read id b = parsed_at b id 0 (length b)
 
 -- 23 and 24 of a body that starts with the list
-abbrev cut : ℕ → Parsed
-cut k = P.Malformed (refusal Why.Inside k)
+abbrev cut : ℕ → Result Opcode Refusal
+cut k = Err (refusal Why.Inside k)
 
-abbrev miscounted : ℕ → Parsed
-miscounted k = P.Malformed (refusal Why.Count k)
+abbrev miscounted : ℕ → Result Opcode Refusal
+miscounted k = Err (refusal Why.Count k)
 
 abbrev area : List ℕ
 area = words (1 ∷ 2 ∷ 3 ∷ 4 ∷ 5 ∷ 6 ∷ 7 ∷ 8 ∷ [])
@@ -64,9 +62,9 @@ area_is = record { top = 1; left = 2; bottom = 3; right = 4; plane = 5; planes =
 
 pub record Layouts : Type 0 where
   -- one plane: six coefficients, then the centre
-  pub warp : read 1 (words (1 ∷ []) ++ (doubles ++ (doubles ++ []))) ≡ P.Read (WarpRectilinear 1 (double 3) (double 4))
+  pub warp : read 1 (words (1 ∷ []) ++ (doubles ++ (doubles ++ []))) ≡ Ok (WarpRectilinear 1 (double 3) (double 4))
   pub vignette : read 3 (doubles ++ words (1075052544 ∷ 0 ∷ 1075314688 ∷ 0 ∷ 1075576832 ∷ 0 ∷ []))
-      ≡ P.Read (FixVignetteRadial (record {
+      ≡ Ok (FixVignetteRadial (record {
         k0 = double 1;
         k1 = double 2;
         k2 = double 3;
@@ -76,17 +74,17 @@ pub record Layouts : Type 0 where
         cy = double 7;
       }))
   -- bytes left over in a body are ignored
-  pub constant : read 4 (words (8 ∷ 9 ∷ []) ++ (1 ∷ [])) ≡ P.Read (FixBadPixelsConstant 8 9)
+  pub constant : read 4 (words (8 ∷ 9 ∷ []) ++ (1 ∷ [])) ≡ Ok (FixBadPixelsConstant 8 9)
   pub constant-short : read 4 (words (8 ∷ []) ++ (0 ∷ 0 ∷ 0 ∷ [])) ≡ cut 4
   pub bad-list : read 5 (words (9 ∷ 1 ∷ 2 ∷ 0 ∷ 0 ∷ 0 ∷ 0 ∷ 0 ∷ 0 ∷ 0 ∷ 0 ∷ 0 ∷ 0 ∷ []))
-      ≡ P.Read (FixBadPixelsList 9 1 2)
+      ≡ Ok (FixBadPixelsList 9 1 2)
   pub bad-list-short : read 5 (words (9 ∷ 2 ∷ 1 ∷ 0 ∷ 0 ∷ 0 ∷ 0 ∷ 0 ∷ 0 ∷ 0 ∷ [])) ≡ miscounted 4
-  pub trim : read 6 (words (1 ∷ 2 ∷ 3 ∷ 4 ∷ [])) ≡ P.Read (TrimBounds 1 2 3 4)
-  pub table : read 7 (area ++ (words (2 ∷ []) ++ (0 ∷ 1 ∷ 0 ∷ 2 ∷ []))) ≡ P.Read (MapTable area_is 2)
+  pub trim : read 6 (words (1 ∷ 2 ∷ 3 ∷ 4 ∷ [])) ≡ Ok (TrimBounds 1 2 3 4)
+  pub table : read 7 (area ++ (words (2 ∷ []) ++ (0 ∷ 1 ∷ 0 ∷ 2 ∷ []))) ≡ Ok (MapTable area_is 2)
   pub table-short : read 7 (area ++ (words (2 ∷ []) ++ (0 ∷ 1 ∷ 0 ∷ []))) ≡ miscounted 32
-  pub polynomial : read 8 (area ++ (words (3 ∷ []) ++ doubles)) ≡ P.Read (MapPolynomial area_is 3)
+  pub polynomial : read 8 (area ++ (words (3 ∷ []) ++ doubles)) ≡ Ok (MapPolynomial area_is 3)
   pub gain : read 9 (area ++ (words (2 ∷ 1 ∷ []) ++ (doubles ++ (words (2 ∷ []) ++ singles))))
-      ≡ P.Read (GainMap area_is 2 1 (record {
+      ≡ Ok (GainMap area_is 2 1 (record {
         spacing_v = double 1;
         spacing_h = double 2;
         origin_v = double 3;
@@ -94,7 +92,7 @@ pub record Layouts : Type 0 where
       }) 2)
   -- map planes of 0 count as 1: four points have their four gains, five do not. A product of 0 is malformed
   pub gain-no-planes : read 9 (area ++ (words (2 ∷ 2 ∷ []) ++ (doubles ++ (words (0 ∷ []) ++ singles))))
-      ≡ P.Read (GainMap area_is 2 2 (record {
+      ≡ Ok (GainMap area_is 2 2 (record {
         spacing_v = double 1;
         spacing_h = double 2;
         origin_v = double 3;
@@ -103,11 +101,11 @@ pub record Layouts : Type 0 where
   pub gain-no-planes-short : read 9 (area ++ (words (5 ∷ 1 ∷ []) ++ (doubles ++ (words (0 ∷ []) ++ singles))))
       ≡ miscounted 32
   pub gain-none : read 9 (area ++ (words (0 ∷ 1 ∷ []) ++ (doubles ++ (words (2 ∷ []) ++ singles)))) ≡ miscounted 32
-  pub delta-row : read 10 (area ++ words (1 ∷ 0 ∷ [])) ≡ P.Read (DeltaPerRow area_is 1)
-  pub delta-column : read 11 (area ++ words (1 ∷ 0 ∷ [])) ≡ P.Read (DeltaPerColumn area_is 1)
-  pub scale-row : read 12 (area ++ words (1 ∷ 0 ∷ [])) ≡ P.Read (ScalePerRow area_is 1)
-  pub scale-column : read 13 (area ++ words (1 ∷ 0 ∷ [])) ≡ P.Read (ScalePerColumn area_is 1)
-  pub other : read 14 [] ≡ P.Read (Other 14)
+  pub delta-row : read 10 (area ++ words (1 ∷ 0 ∷ [])) ≡ Ok (DeltaPerRow area_is 1)
+  pub delta-column : read 11 (area ++ words (1 ∷ 0 ∷ [])) ≡ Ok (DeltaPerColumn area_is 1)
+  pub scale-row : read 12 (area ++ words (1 ∷ 0 ∷ [])) ≡ Ok (ScalePerRow area_is 1)
+  pub scale-column : read 13 (area ++ words (1 ∷ 0 ∷ [])) ≡ Ok (ScalePerColumn area_is 1)
+  pub other : read 14 [] ≡ Ok (Other 14)
 
 pub layouts : Layouts
 unfolding big extent first_cut inside_why field_why parsed_at vignette_at constant_at trim_at warp_at bad_list_at counted_at
@@ -343,7 +341,7 @@ extents =
     }
 
 -- a body of n zeros
-abbrev zeros : (id n : ℕ) → Parsed
+abbrev zeros : (id n : ℕ) → Result Opcode Refusal
 zeros id n = read id (replicate n 0)
 
 -- each body's first and last field, a byte short; where that byte is there, the body is read, or its counts are refused
@@ -436,7 +434,7 @@ pub record Counts : Type 0 where
   pub line : read 10 (area ++ words (16777217 ∷ [])) ≡ miscounted 32
   -- one field can give both 24 and 25: 25 comes first
   pub degree : read 8 (area ++ words (8 ∷ [])) ≡ miscounted 32
-  pub degree-over : read 8 (area ++ words (9 ∷ [])) ≡ P.Malformed (refusal Why.Degree 32)
+  pub degree-over : read 8 (area ++ words (9 ∷ [])) ≡ Err (refusal Why.Degree 32)
   -- at points v, though it is points h that are 0, the map planes that are too many, or the gains that are missing
   pub gain-points : read 9 (area ++ (words (1 ∷ 0 ∷ []) ++ (doubles ++ words (1 ∷ [])))) ≡ miscounted 32
   pub gain-planes : read 9 (area ++ (words (1 ∷ 1 ∷ []) ++ (doubles ++ words (16777217 ∷ [])))) ≡ miscounted 32
@@ -460,7 +458,7 @@ counts =
 
 -- refused after k entries, for the reason, at the byte
 abbrev refused : ℕ → Reason → ℕ → Reading
-refused k r at = R.Malformed k (refusal r at)
+refused k r at = Err (malformed k (refusal r at))
 
 -- a header and no body, whatever its length says
 abbrev header : (id len : ℕ) → List ℕ
@@ -485,7 +483,7 @@ pub record Refusals : Type 0 where
   pub long-second : reading_of (words (2 ∷ []) ++ (entry 2 [] ++ header 1 1)) ≡ refused 1 Why.TooLong 32
   pub long-degree : reading_of (words (1 ∷ []) ++ (header 8 37 ++ (area ++ words (9 ∷ []))))
       ≡ refused 0 Why.TooLong 16
-  pub warp : reading_of (list_of (entry 1 [] ∷ [])) ≡ R.Whole 1
+  pub warp : reading_of (list_of (entry 1 [] ∷ [])) ≡ Ok 1
   -- 23: a body ends where its length says, though the list goes on; and comes before the next entry's header, which is
   -- not there
   pub inside : reading_of (list_of (entry 4 [] ∷ [])) ≡ refused 0 Why.Inside 20

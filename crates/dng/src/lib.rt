@@ -3,6 +3,12 @@
 // Words are kept as the list has them (a pitch of 0 stays 0 here); what a 0 means is said where it is used.
 #![tactic(auto)]
 
+ghost use Rattle.std.specs.Prelude.{◌≡◌};
+ghost use Rattle.dng.specs.declared.Reason.TheVariants.{Inside};
+ghost use Rattle.dng.specs.List.{refusal};
+
+use num_words::Cut;
+
 // The area and the planes that an opcode touches. Document 01, 'The list'.
 #[derive(Clone, Copy)]
 pub struct Region {
@@ -137,6 +143,17 @@ impl Opcode {
     pub const MAX_DEGREE: u32 = 8;
 }
 
+// What an opcode is to the forms of a run: a table with entries, a table with none, another row-local pixel opcode, a
+// repair, and what is never applied.
+#[derive(Clone, Copy)]
+pub enum Class {
+    Table,
+    Empty,
+    Local,
+    Repair,
+    Unapplied,
+}
+
 // An entry of a list: its header words as they stand, and where its body lies in the list.
 #[derive(Clone, Copy)]
 pub struct Entry {
@@ -177,38 +194,38 @@ pub struct Refusal {
     pub at: usize,
 }
 
-// What stands at a cursor: an entry's header, with the cursor past its body, or nothing that can be read.
-#[derive(Clone, Copy)]
-pub enum Next {
-    Found { entry: Entry, next: Cursor },
-    Malformed { why: Refusal },
+// A body that ends inside a field of fixed size.
+impl From<Cut> for Refusal {
+    ghost from_gives = { λ c r. r ≡ refusal Inside c.at };
+
+    fn from(c: Cut) -> Refusal {
+        Refusal {
+            reason: Reason::Inside,
+            at: c.at,
+        }
+    }
 }
 
-// What an entry's body is read as.
+// What stands at a cursor: an entry's header, with the cursor past its body.
 #[derive(Clone, Copy)]
-pub enum Parsed {
-    Read { op: Opcode },
-    Malformed { why: Refusal },
+pub struct Found {
+    pub entry: Entry,
+    pub next: Cursor,
 }
 
-// An entry read whole, header and body, with the cursor past it; or a malformed one.
+// An entry read whole, header and body, with the cursor past it.
 #[derive(Clone, Copy)]
-pub enum Step {
-    Item {
-        entry: Entry,
-        op: Opcode,
-        next: Cursor,
-    },
-    Malformed {
-        why: Refusal,
-    },
+pub struct Step {
+    pub entry: Entry,
+    pub op: Opcode,
+    pub next: Cursor,
 }
 
-// What reading a whole list answers.
+// A list that cannot be read whole: after how many entries that were, and why.
 #[derive(Clone, Copy)]
-pub enum Reading {
-    Whole { opcodes: usize },
-    Malformed { after: usize, why: Refusal },
+pub struct Malformed {
+    pub after: usize,
+    pub why: Refusal,
 }
 
 // The window of a frame that a run changes: `width` by `height` pixels of `planes` samples, rows `stride` pixels apart,

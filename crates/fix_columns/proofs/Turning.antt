@@ -16,9 +16,7 @@ use Rattle.dng.specs.declared.Window.{Window}
 use Rattle.dng.specs.Repair.{count_below, positions, listed}
 use Rattle.num_sorted.specs.Sorts.{has, occ, Distinct}
 use Rattle.num_sorted.proofs.Occ.{occ-at, occ-some, has-true, some-has}
-use Rattle.fix_scratch.specs.declared.Marked.{Marked}
-use Rattle.fix_scratch.specs.declared.Marked.TheVariants as M
-use Rattle.fix_scratch.specs.Marks.{chosen, Holds, Gathered, Fits}
+use Rattle.fix_scratch.specs.Marks.{chosen, Holds, Fits}
 use Rattle.fix_scratch.proofs.Chosen.{count_same, chosen-has, chosen-in, chosen-count, is-chosen-has}
 use Rattle.fix_scratch.proofs.Joining.{iff-eq}
 use Rattle.fix_listed.specs.Listed.{listed_at, listed_in}
@@ -126,6 +124,18 @@ still-below w h s₀ s i v e l =
     ∙ between-high 0 i (λ j q. turned w h q) i (get_or s₀ i 0) (omega arith) in
     subst (λ (n : ℕ). n < w * h) (sym same) (v.below (get_or s₀ i 0) (some-has s₀ _ (occ-at s₀ i l)))
 
+-- its parts, and that they are small
+pub record Entry (w h q x : ℕ) : Type 0 where
+  pub parts : Parts w h q x
+  pub low : q < w * h
+  pub small : w * h ≤ 4294967296
+
+pub entry : (w h : ℕ) (s₀ s : List ℕ) (i x : ℕ) → Turns w h s₀ → s ≡ each (between 0 i (λ j q. turned w h q)) s₀ → i < length s₀
+    → x ≡ get_or s i 0 / h → Entry w h (get_or s i 0) x
+entry w h s₀ s i x v e l is =
+    let low : get_or s i 0 < w * h = still-below w h s₀ s i v e l in
+    record { parts = parts w h (get_or s i 0) x v.tall low is; low = low; small = few w h s₀ v }
+
 -- ---- counts: a window's marks, row by row, and column by column
 
 abbrev sum_below : ℕ → (ℕ → ℕ) → ℕ
@@ -185,13 +195,6 @@ count-turned w h m m' tall e =
         ∙ ap m (there w h x y k)
 
 -- ---- the window's marks
-
--- what was gathered, by the answer
-pub all_held : (top : ℕ) (m : ℕ → Bool) (s s' : List ℕ) (r : Marked) (n : ℕ) → r ≡ M.All n → Gathered top m s s' r → Holds top m s s' n
-all_held top m s s' r n e g = subst (λ (x : Marked). Gathered top m s s' x) e g
-
-pub over-held : (top : ℕ) (m : ℕ → Bool) (s s' : List ℕ) (r : Marked) → r ≡ M.TooMany → Gathered top m s s' r → length s < count_below top m
-over-held top m s s' r e g = subst (λ (x : Marked). Gathered top m s s' x) e g
 
 module _ (w : Window) (b : List ℕ) (np nr : ℕ) (f : Fits w) where
   abbrev W : ℕ

@@ -11,7 +11,6 @@ ghost use Rattle.fix_listed.specs.Listed.{listed_at};
 ghost use Rattle.fix_columns.specs.Columns.{turned, Turns};
 
 use dng::Window;
-use fix_scratch::Marked;
 
 // A column that begins no later than position q: `from`, or the first.
 fn begin(q: usize, height: usize, from: usize) -> usize
@@ -28,6 +27,7 @@ fn column_of(q: usize, height: usize, from: usize) -> usize
     ensures { result ≡ q / height }
 {
     let mut x = begin(q, height, from);
+    // A range of columns would be no plainer: its end is what is looked for.
     while height <= q - x * height {
         x += 1;
     }
@@ -40,12 +40,10 @@ fn turn(s: &mut [u32], width: usize, height: usize)
     ensures { s.new ≡ each (λ i q. turned width height q) s.old }
 {
     let mut x = 0;
-    let mut i = 0;
-    while i < s.len() {
-        let q = s[i] as usize;
+    for v in s.iter_mut() {
+        let q = *v as usize;
         x = column_of(q, height, x);
-        s[i] = ((q - x * height) * width + x) as u32;
-        i += 1;
+        *v = ((q - x * height) * width + x) as u32;
     }
 }
 
@@ -58,29 +56,22 @@ fn in_order(s: &mut [u32], width: usize, height: usize) -> usize
     num_sorted::pack(s)
 }
 
-fn by_columns(body: &[u8], points: u32, rects: u32, w: Window, marks: &mut [u32]) -> Marked
+fn by_columns(body: &[u8], points: u32, rects: u32, w: Window, marks: &mut [u32]) -> Option<usize>
     requires { Fits w }
     ensures { Gathered (positions w) (listed_at w body.now points rects) marks.old
         marks.new result }
 {
-    match fix_listed::gather(body, points, rects, w, marks, true) {
-        Marked::All { n } => Marked::All {
-            n: in_order(&mut marks[..n], w.width, w.height),
-        },
-        Marked::TooMany => Marked::TooMany,
-    }
+    let n = fix_listed::gather(body, points, rects, w, marks, true)?;
+    Some(in_order(&mut marks[..n], w.width, w.height))
 }
 
 // Whether a rectangle may have far more rows than the window has columns.
 fn narrow(w: Window, rects: u32) -> bool {
-    if rects == 0 {
-        return false;
-    }
-    w.width < w.height / 16
+    rects != 0 && w.width < w.height / 16
 }
 
-// The listed positions inside the window, each once, ascending at the front of `marks`; or that there are more than it
-// has entries.
+// The listed positions inside the window, each once, ascending at the front of `marks`, and how many they are; or
+// nothing: there are more than it has entries.
 //
 // Cost. A run, which is a point, a row of a rectangle or a rectangle of whole rows, takes a binary search, and one more
 // for each stretch of it that the front of the scratch holds; rows are columns here where those are far fewer. Each of
@@ -96,7 +87,13 @@ fn narrow(w: Window, rects: u32) -> bool {
 // a positions that the second join adds, and all of them at most a few times the marks, or 1,024 if that is more. So n
 // rectangles append no more than a few times √n times the marks, or times 1,024, however large they are and however
 // they overlap.
-pub fn list_marks(body: &[u8], points: u32, rects: u32, w: Window, marks: &mut [u32]) -> Marked
+pub fn list_marks(
+    body: &[u8],
+    points: u32,
+    rects: u32,
+    w: Window,
+    marks: &mut [u32],
+) -> Option<usize>
     requires { Fits w }
     ensures { Gathered (positions w) (listed_at w body.now points rects) marks.old
         marks.new result }

@@ -2,7 +2,7 @@
 -- Over any width d and base b. Assumes nothing.
 use Prim.Native.Nat.{ℕ, ◌+◌, ◌-◌, ◌*◌, ◌/◌, ◌≤◌, ◌<◌}
 use mathlib.Core.Path.{◌≡◌, sym, ap, ◌∙◌}
-use native.Mathlib.Nat.{add-mul, mul-add, mul_assoc, mul_comm, mul_right_comm, mul-le-mul_left, mul-le-mul_right, mul-lt-mul_of_pos_right, le_of_mul-le-mul_right, lt_of_mul-lt-mul_right, lt_of_le_of_lt, div-mul-le_self, lt-div-mul-add, div-le_self}
+use native.Mathlib.Nat.{add-mul, mul-add, mul_assoc, mul_comm, mul_right_comm, mul-le-mul_left, mul-le-mul_right, mul-lt-mul_of_pos_right, le_of_mul-le-mul_right, lt_of_mul-lt-mul_right, div-mul-le_self, lt-div-mul-add}
 use native.Mathlib.Omega.{arith}
 use lib.Arith.{digits_div}
 
@@ -13,12 +13,6 @@ row_is d q y low high =
     sym (digits_div y (omega arith)) ∙ ap (λ (n : ℕ). n / d) back
 
 module _ (b d q m : ℕ) (some : 1 ≤ d) (h : q < b) (e : m ≡ b / d) where
-  -- the product fits twice the base's bits
-  pub near_fits : q * m < b * b
-  near_fits =
-      let part : m ≤ b = omega (arith, e, div-le_self b d) in
-      lt_of_le_of_lt (mul-le-mul_left q part) (mul-lt-mul_of_pos_right h (omega arith))
-
   -- m · d is at most b, and at most d below it
   part_low : m * d ≤ b
   part_low = rw e (div-mul-le_self b d)

@@ -1,7 +1,7 @@
 -- A scan, over any marks: one position more, positions that are passed over, and when there are too many. Assumes nothing.
-use Prim.Native.Nat.{ℕ, zero, suc, ◌+◌, ◌-◌, ◌*◌, ◌≤◌, ◌<◌}
+use Prim.Native.Nat.{ℕ, zero, suc, ◌+◌, ◌-◌, ◌*◌, ◌≤◌, ◌<◌, min}
 use mathlib.Core.Path.{◌≡◌, refl, sym, ap, subst, ◌∙◌}
-use mathlib.Core.Bool.{Bool, true, false, ◌||◌, cond, false≢true}
+use mathlib.Core.Bool.{Bool, true, false, cond}
 use mathlib.Core.List.{List, [], ◌∷◌, ◌++◌, append-nil}
 use native.Mathlib.Nat.{add-zero, add-suc, suc-add, zero-add, suc-mul, mul_comm, mul-le-mul_right}
 use native.Mathlib.Numerals.{add-one}
@@ -10,9 +10,9 @@ use lib.ListN.{length, get_or, take, drop, set, length-set, length-take, length-
 use lib.Seq.{take-suc-set, get_or-take, get_or-drop}
 use Rattle.dng.specs.declared.Window.{Window}
 use Rattle.dng.specs.Repair.{count_below, positions, bad_value}
-use Rattle.num_sorted.proofs.Occ.{below_or}
+use Rattle.std.specs.Prelude.{Some}
 use Rattle.fix_scratch.specs.Marks.{chosen, Holds}
-use Rattle.fix_constant.specs.Parts.{Part, Before, Clear, Keeps}
+use Rattle.fix_constant.specs.Parts.{Whole, Part, Before, Clear, Keeps}
 use Rattle.fix_constant.proofs.Places.{place_in, bad-read}
 
 -- the last number looked at stands last
@@ -85,6 +85,10 @@ hold-skip zero h f = rw add-zero h
 hold-skip (suc k) {p} h f =
     hold_at (hold-past (hold-skip k h (λ q a b. f q a (omega arith))) (f (p + k) (omega arith) (omega arith))) (p + suc k) (omega arith)
 
+-- no position at all is marked
+pub hold-none : (top : ℕ) (m : ℕ → Bool) (s : List ℕ) → ((q : ℕ) → q < top → m q ≡ false) → Holds top m s s 0
+hold-none top m s f = hold_at (hold-skip top (hold-start m s) (λ q a b. f q (omega arith))) top (omega arith)
+
 -- ---- a part of a row
 
 -- while columns up to `end` of row y are scanned: those before x are gathered
@@ -98,10 +102,10 @@ module _ {w : Window} {m : ℕ → Bool} {y end : ℕ} {s s' : List ℕ} {n x : 
   scan-past h e =
       record { within = omega arith; long = t.long; held = hold_at (hold-past t.held e) (y * w.width + (x + 1)) (omega arith) }
 
-  pub scan-more : {s'' : List ℕ} {v : ℕ} → x < end → m (y * w.width + x) ≡ true → v ≡ y * w.width + x → Keeps s' s'' n v true
-      → Scanned w m y end s s'' (n + 1) (x + 1)
+  pub scan-more : {s'' : List ℕ} {v k : ℕ} → x < end → m (y * w.width + x) ≡ true → v ≡ y * w.width + x → Keeps s' s'' n v (Some k)
+      → Scanned w m y end s s'' k (x + 1)
   scan-more h e g k =
-      rw (k.1, g)
+      rw (k.1, g, k.2)
       (record {
         within = omega arith;
         long = simp length-set t.long;
@@ -125,6 +129,21 @@ module _ {w : Window} {m : ℕ → Bool} {y end : ℕ} {s s' : List ℕ} {n x : 
 
   pub scan-over : (e : ℕ) → e ≤ end → length s' < count_below (y * w.width + e) m → length s < count_below (y * w.width + end) m
   scan-over e h g = omega (arith, t.long, count-mono m (y * w.width + e) (y * w.width + end) (omega arith))
+
+  -- a part of 64 columns, or of what is left
+  module _ {s'' : List ℕ} {k e : ℕ} (l : length s'' ≡ length s') (b : e ≡ min end (x + 64)) where
+    pub scan-block : 64 < end - x → Holds (y * w.width + e) m s' s'' k → Scanned w m y end s s'' k (x + 64)
+    scan-block h g =
+        let d : e ≡ x + 64 = omega arith in
+        subst (λ (z : ℕ). Scanned w m y end s s'' k z) d (scan-join (omega arith) l g)
+
+    pub scan-last : end - x ≤ 64 → Holds (y * w.width + e) m s' s'' k → Holds (y * w.width + end) m s s'' k
+    scan-last h g =
+        let d : e ≡ end = omega (arith, t.within) in
+        subst (λ (z : ℕ). Holds (y * w.width + z) m s s'' k) d (hold-base g s t.long)
+
+  pub scan-many : (e : ℕ) → e ≡ min end (x + 64) → length s' < count_below (y * w.width + e) m → length s < count_below (y * w.width + end) m
+  scan-many e b g = scan-over e (omega arith) g
 
 -- a part that is clear
 pub scan-clear : (w : Window) (y from end : ℕ) {m : ℕ → Bool} {s : List ℕ} {n : ℕ} → from ≤ end → Before w m s n y from
@@ -173,31 +192,18 @@ module _ {w : Window} {m : ℕ → Bool} {s s' : List ℕ} {n y : ℕ} (t : Rows
 
 -- ---- a test of many at once
 
--- the test fails at each of the first n
-abbrev pub None : (ℕ → Bool) → ℕ → Type 0
-None f n = (k : ℕ) → k < n → f k ≡ false
-
-or-false : (a b : Bool) → (a || b) ≡ false → (a ≡ false) × (b ≡ false)
-or-false true b e = absurd (false≢true (sym e))
-or-false false b e = (refl, e)
-
-pub none_more : (f : ℕ → Bool) (n : ℕ) (a : Bool) → (a ≡ false → None f n) → (a || f n) ≡ false → None f (n + 1)
-none_more f n a h e k l =
-    let both = or-false a (f n) e in
-    below_or k n (λ p. h both.0 k p) (λ p. subst (λ (j : ℕ). f j ≡ false) {x = n} (omega arith) both.1)
-
 -- of a window of one plane the samples of a part of a row lie side by side
-module _ {A : Type 0} (d : A) (w : Window) (test : A → Bool) (s : List A) (y from end at past : ℕ) (p : Part (length s) w y from end)
-    (h : from < end) (e : w.planes ≡ 1) (a : at ≡ (y * w.stride + from) * w.planes + 0) (b : past ≡ at + (end - from)) where
+module _ {A : Type 0} (d : A) (w : Window) (test : A → Bool) (s : List A) (y from end at past : ℕ) (g : Whole (length s) w)
+    (p : Part w y from end) (h : from < end) (e : w.planes ≡ 1) (a : at ≡ (y * w.stride + from) * w.planes + 0) (b : past ≡ at + (end - from)) where
   side : (x : ℕ) → (y * w.stride + x) * w.planes + 0 ≡ y * w.stride + x
   side x = rw e (omega arith)
 
   pub part_in : past ≤ length s
   part_in =
-      let last = place_in w (end - 1) y (omega (arith, p.edge)) p.row (length s) 0 p.whole.fits.some p.whole.full in
+      let last = place_in w (end - 1) y (omega (arith, p.edge)) p.row (length s) 0 g.fits.some g.full in
       omega (arith, b, a, side from, side (end - 1), last)
 
-  pub part-clear : None (λ k. test (get_or (take (past - at) (drop at s)) k d)) (length (take (past - at) (drop at s)))
+  pub part-clear : ((k : ℕ) → k < length (take (past - at) (drop at s)) → test (get_or (take (past - at) (drop at s)) k d) ≡ false)
       → Clear w (bad_value d w test s) y from end
   part-clear f x l k =
       bad-read d w test s x y (at + (x - from)) false (omega (arith, p.edge)) (omega (arith, a, side from, side x))

@@ -1,15 +1,13 @@
 // The positions of a window, and where their samples lie; those whose plane 0 equals a constant, in the u32 scratch.
 #![tactic(auto)]
 
-ghost use Rattle.std.specs.Prelude.{◌≡◌, true, false, ℕ, ◌+◌, ◌*◌, ◌/◌, ◌%◌, ◌^◌, ◌≤◌, ◌<◌, length, get_or, eqb};
-ghost use Rattle.std.specs.Float.{nan};
-ghost use Rattle.std.specs.Float.Ieee.{eq};
+ghost use Rattle.std.specs.Prelude.{◌≡◌, true, false, ℕ, ◌+◌, ◌*◌, ◌/◌, ◌%◌, ◌^◌, ◌≤◌, ◌<◌, length, get_or};
 ghost use Rattle.dng.specs.Repair.{positions, bad_value};
 ghost use Rattle.fix_scratch.specs.Marks.{Fits, Gathered};
-ghost use Rattle.fix_constant.specs.Parts.{Pixel, Finds, Whole, Part, Keeps, Before, Clear, same32, same16};
+ghost use Rattle.fix_constant.specs.Parts.{Pixel, Finds, Whole, Part, Keeps, Before, Clear, same};
 
 use dng::Window;
-use fix_scratch::Marked;
+use sample::Sample;
 
 // A position's column and row.
 #[derive(Clone, Copy)]
@@ -72,287 +70,122 @@ fn tested(w: Window, x: usize, y: usize) -> usize
     place(w, x, y, 0)
 }
 
-// A position behind the first n, where there is room for it.
-fn keep(marks: &mut [u32], n: usize, q: u32) -> bool
+// A position behind the first n, where there is room for it; how many they are then.
+fn keep(marks: &mut [u32], n: usize, q: u32) -> Option<usize>
     ensures { Keeps marks.old marks.new n q result }
 {
     if n < marks.len() {
         marks[n] = q;
-        return true;
+        return Some(n + 1);
     }
-    false
+    None
 }
 
-// Where the block that starts at x ends: 64 columns on, or with the row.
-fn block_end(x: usize, width: usize) -> usize
-    requires { x < width }
-    ensures { (x < result) × (result ≤ width) }
-{
-    if width - x < 64 { width } else { x + 64 }
-}
+// ---- the scan, of either sample kind
 
-// ---- f32
-
-// Whether any sample equals the constant. It stops nowhere, so that many samples are tested at once.
-fn any_f32(s: &[f32], c: f32) -> bool
-    ensures { result ≡ false → (k : ℕ) → k < length s.now → eq (get_or s.now k nan) c
-        ≡ false }
+// Whether any sample equals k. It stops nowhere, so that many samples are tested at once.
+fn any<S: Sample>(s: &[S], k: S) -> bool
+    ensures { result ≡ false → (i : ℕ) → i < length s.now → S.eq (get_or s.now i S.none) k ≡ false }
 {
     let mut hit = false;
-    let mut i = 0;
-    while i < s.len() {
-        hit = hit | (s[i] == c);
-        i += 1;
+    for v in s {
+        hit |= *v == k;
     }
     hit
 }
 
-// Whether columns `from` up to `end` are known to hold no mark: those of a window of one plane lie side by side.
-fn clear_f32(samples: &[f32], w: Window, c: f32, y: usize, from: usize, end: usize) -> bool
-    requires { Part (length samples.now) w y from end × (from < end) }
-    ensures { result ≡ true → Clear w (same32 w c samples.now) y from end }
-{
-    if w.planes == 1 {
-        let at = tested(w, from, y);
-        let past = at + (end - from);
-        return !any_f32(&samples[at..past], c);
-    }
-    false
+// A window's samples, and the one that they are compared with.
+#[derive(Drop)]
+struct Scan<'a, S> {
+    samples: &'a [S],
+    w: Window,
+    k: S,
+    ghost whole: { Whole (length samples.now) w },
 }
 
-// Columns `from` up to `end` of row y, one by one, behind the n positions that are gathered.
-fn part_f32(
-    samples: &[f32],
-    w: Window,
-    c: f32,
-    y: usize,
-    from: usize,
-    end: usize,
-    marks: &mut [u32],
-    n: usize,
-) -> Marked
-    requires { Part (length samples.now) w y from end × Before w (same32 w c samples.now) marks.old n y from }
-    ensures { Gathered (y * w.width + end) (same32 w c samples.now) marks.old
-        marks.new result }
-{
-    let mut held = n;
-    let mut x = from;
-    while x < end {
-        let at = tested(w, x, y);
-        if samples[at] == c {
-            if keep(marks, held, position(w, x, y)) {
-                held += 1;
-                x += 1;
-            } else {
-                return Marked::TooMany;
-            }
-        } else {
-            x += 1;
+impl<S: Sample> Scan<'_, S> {
+    // Whether columns `from` up to `end` are known to hold no mark: those of a window of one plane lie side by side.
+    fn clear(&self, y: usize, from: usize, end: usize) -> bool
+        requires { let s = self.now in Part s.w y from end × (from < end) }
+        ensures { let s = self.now in result ≡ true → Clear s.w (same S.none S.eq s.w s.k s.samples.now) y from end }
+    {
+        if self.w.planes == 1 {
+            let at = tested(self.w, from, y);
+            return !any(&self.samples[at..at + (end - from)], self.k);
         }
+        false
     }
-    Marked::All { n: held }
-}
 
-// The same, at once where the part is clear.
-fn block_f32(
-    samples: &[f32],
-    w: Window,
-    c: f32,
-    y: usize,
-    from: usize,
-    end: usize,
-    marks: &mut [u32],
-    n: usize,
-) -> Marked
-    requires { Part (length samples.now) w y from end
-        × ((from < end) × Before w (same32 w c samples.now) marks.old n y from) }
-    ensures { Gathered (y * w.width + end) (same32 w c samples.now) marks.old
-        marks.new result }
-{
-    if clear_f32(samples, w, c, y, from, end) {
-        return Marked::All { n };
-    }
-    part_f32(samples, w, c, y, from, end, marks, n)
-}
-
-// Row y, block by block.
-fn row_f32(samples: &[f32], w: Window, c: f32, y: usize, marks: &mut [u32], n: usize) -> Marked
-    requires { Whole (length samples.now) w
-        × ((y < w.height) × Before w (same32 w c samples.now) marks.old n y 0) }
-    ensures { Gathered (y * w.width + w.width) (same32 w c samples.now) marks.old
-        marks.new result }
-{
-    let mut held = n;
-    let mut x = 0;
-    while x < w.width {
-        let end = block_end(x, w.width);
-        let got = block_f32(samples, w, c, y, x, end, marks, held);
-        match got {
-            Marked::All { n: k } => {
-                held = k;
-                x = end;
-            }
-            Marked::TooMany => {
-                return Marked::TooMany;
+    // Columns `from` up to `end` of row y, one by one, behind the n positions that are gathered.
+    fn part(&self, y: usize, from: usize, end: usize, marks: &mut [u32], n: usize) -> Option<usize>
+        requires { let s = self.now in Part s.w y from end
+            × Before s.w (same S.none S.eq s.w s.k s.samples.now) marks.old n y from }
+        ensures { let s = self.now in
+            Gathered (y * s.w.width + end) (same S.none S.eq s.w s.k s.samples.now) marks.old marks.new result }
+    {
+        let mut held = n;
+        for x in from..end {
+            if self.samples[tested(self.w, x, y)] == self.k {
+                held = keep(marks, held, position(self.w, x, y))?;
             }
         }
+        Some(held)
     }
-    Marked::All { n: held }
+
+    // The same, at once where the part is clear.
+    fn block(&self, y: usize, from: usize, end: usize, marks: &mut [u32], n: usize) -> Option<usize>
+        requires { let s = self.now in Part s.w y from end
+            × ((from < end) × Before s.w (same S.none S.eq s.w s.k s.samples.now) marks.old n y from) }
+        ensures { let s = self.now in
+            Gathered (y * s.w.width + end) (same S.none S.eq s.w s.k s.samples.now) marks.old marks.new result }
+    {
+        if self.clear(y, from, end) {
+            return Some(n);
+        }
+        self.part(y, from, end, marks, n)
+    }
+
+    // Row y, block by block, each of 64 columns or what is left.
+    fn row(&self, y: usize, marks: &mut [u32], n: usize) -> Option<usize>
+        requires { let s = self.now in (y < s.w.height)
+            × Before s.w (same S.none S.eq s.w s.k s.samples.now) marks.old n y 0 }
+        ensures { let s = self.now in
+            Gathered (y * s.w.width + s.w.width) (same S.none S.eq s.w s.k s.samples.now) marks.old marks.new result }
+    {
+        let mut held = n;
+        for from in (0..self.w.width).step_by(64) {
+            let end = self.w.width.min(from + 64);
+            held = self.block(y, from, end, marks, held)?;
+        }
+        Some(held)
+    }
+
+    // Row after row.
+    fn rows(&self, marks: &mut [u32]) -> Option<usize>
+        ensures { let s = self.now in
+            Gathered (positions s.w) (same S.none S.eq s.w s.k s.samples.now) marks.old marks.new result }
+    {
+        let mut held = 0;
+        for y in 0..self.w.height {
+            held = self.row(y, marks, held)?;
+        }
+        Some(held)
+    }
 }
 
-// The positions whose plane 0 equals the constant, ascending, or that there are more than the scratch has entries.
-pub fn constant_marks_f32(samples: &[f32], w: Window, c: f32, marks: &mut [u32]) -> Marked
+// The positions whose plane 0 equals the constant, ascending: how many they are. None where there are more than the
+// scratch has entries.
+pub fn constant_marks<S: Sample>(
+    samples: &[S],
+    w: Window,
+    c: S::Constant,
+    marks: &mut [u32],
+) -> Option<usize>
     requires { Whole (length samples.now) w }
-    ensures { Gathered (positions w) (bad_value nan w (λ v. eq v c) samples.now)
-        marks.old marks.new result }
+    ensures { Gathered (positions w) (bad_value S.none w (S.equals c) samples.now) marks.old marks.new result }
 {
-    let mut held = 0;
-    let mut y = 0;
-    while y < w.height {
-        let got = row_f32(samples, w, c, y, marks, held);
-        match got {
-            Marked::All { n: k } => {
-                held = k;
-                y += 1;
-            }
-            Marked::TooMany => {
-                return Marked::TooMany;
-            }
-        }
+    match S::sought(samples, c) {
+        Some(k) => Scan { samples, w, k }.rows(marks),
+        None => Some(0),
     }
-    Marked::All { n: held }
-}
-
-// ---- u16
-
-// Whether any sample equals the constant, as for f32.
-fn any_u16(s: &[u16], c: u16) -> bool
-    ensures { result ≡ false → (k : ℕ) → k < length s.now → eqb (get_or s.now k 0) c ≡ false }
-{
-    let mut hit = false;
-    let mut i = 0;
-    while i < s.len() {
-        hit = hit | (s[i] == c);
-        i += 1;
-    }
-    hit
-}
-
-// Whether columns `from` up to `end` are known to hold no mark. No sample equals a constant of more than 16 bits.
-fn clear_u16(samples: &[u16], w: Window, c: u32, y: usize, from: usize, end: usize) -> bool
-    requires { Part (length samples.now) w y from end × (from < end) }
-    ensures { result ≡ true → Clear w (same16 w c samples.now) y from end }
-{
-    if 65535 < c {
-        return true;
-    }
-    if w.planes == 1 {
-        let at = tested(w, from, y);
-        let past = at + (end - from);
-        return !any_u16(&samples[at..past], c as u16);
-    }
-    false
-}
-
-// Columns `from` up to `end` of row y, one by one, behind the n positions that are gathered.
-fn part_u16(
-    samples: &[u16],
-    w: Window,
-    c: u32,
-    y: usize,
-    from: usize,
-    end: usize,
-    marks: &mut [u32],
-    n: usize,
-) -> Marked
-    requires { Part (length samples.now) w y from end × Before w (same16 w c samples.now) marks.old n y from }
-    ensures { Gathered (y * w.width + end) (same16 w c samples.now) marks.old
-        marks.new result }
-{
-    let mut held = n;
-    let mut x = from;
-    while x < end {
-        let at = tested(w, x, y);
-        if samples[at] as u32 == c {
-            if keep(marks, held, position(w, x, y)) {
-                held += 1;
-                x += 1;
-            } else {
-                return Marked::TooMany;
-            }
-        } else {
-            x += 1;
-        }
-    }
-    Marked::All { n: held }
-}
-
-// The same, at once where the part is clear.
-fn block_u16(
-    samples: &[u16],
-    w: Window,
-    c: u32,
-    y: usize,
-    from: usize,
-    end: usize,
-    marks: &mut [u32],
-    n: usize,
-) -> Marked
-    requires { Part (length samples.now) w y from end
-        × ((from < end) × Before w (same16 w c samples.now) marks.old n y from) }
-    ensures { Gathered (y * w.width + end) (same16 w c samples.now) marks.old
-        marks.new result }
-{
-    if clear_u16(samples, w, c, y, from, end) {
-        return Marked::All { n };
-    }
-    part_u16(samples, w, c, y, from, end, marks, n)
-}
-
-// Row y, block by block.
-fn row_u16(samples: &[u16], w: Window, c: u32, y: usize, marks: &mut [u32], n: usize) -> Marked
-    requires { Whole (length samples.now) w
-        × ((y < w.height) × Before w (same16 w c samples.now) marks.old n y 0) }
-    ensures { Gathered (y * w.width + w.width) (same16 w c samples.now) marks.old
-        marks.new result }
-{
-    let mut held = n;
-    let mut x = 0;
-    while x < w.width {
-        let end = block_end(x, w.width);
-        let got = block_u16(samples, w, c, y, x, end, marks, held);
-        match got {
-            Marked::All { n: k } => {
-                held = k;
-                x = end;
-            }
-            Marked::TooMany => {
-                return Marked::TooMany;
-            }
-        }
-    }
-    Marked::All { n: held }
-}
-
-// The positions whose plane 0 equals the constant, ascending, or that there are more than the scratch has entries.
-pub fn constant_marks_u16(samples: &[u16], w: Window, c: u32, marks: &mut [u32]) -> Marked
-    requires { Whole (length samples.now) w }
-    ensures { Gathered (positions w) (bad_value 0 w (λ v. eqb v c) samples.now)
-        marks.old marks.new result }
-{
-    let mut held = 0;
-    let mut y = 0;
-    while y < w.height {
-        let got = row_u16(samples, w, c, y, marks, held);
-        match got {
-            Marked::All { n: k } => {
-                held = k;
-                y += 1;
-            }
-            Marked::TooMany => {
-                return Marked::TooMany;
-            }
-        }
-    }
-    Marked::All { n: held }
 }

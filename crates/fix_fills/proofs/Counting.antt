@@ -1,6 +1,6 @@
 -- Counts over a list of marks, entry by entry. Assumes nothing.
 use Prim.Native.Nat.{ℕ, ◌+◌, ◌≤◌, ◌<◌}
-use mathlib.Core.Path.{◌≡◌, refl, ap}
+use mathlib.Core.Path.{◌≡◌, refl}
 use mathlib.Core.Bool.{Bool, cond}
 use mathlib.Core.List.{List, [], ◌∷◌, ◌++◌}
 use native.Mathlib.Nat.{add-zero}
@@ -29,6 +29,3 @@ module _ (f : ℕ → Bool) where
 
   pub count_next : (l : List ℕ) (i : ℕ) → i < length l → count_in f (take (i + 1) l) ≡ count_in f (take i l) + cond (f (get_or l i 0)) 1 0
   count_next l i h = rw (add-one, take-suc l i 0 h, count-append, count-one) refl
-
-  pub count-end : (l : List ℕ) (i n : ℕ) → i ≤ n → n ≤ i → count_in f (take i l) ≡ count_in f (take n l)
-  count-end l i n h k = let e : i ≡ n = omega arith in ap (λ (k : ℕ). count_in f (take k l)) e

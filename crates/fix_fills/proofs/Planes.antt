@@ -5,14 +5,13 @@ use mathlib.Core.List.{List, [], ◌∷◌}
 use native.Mathlib.Nat.{add-sub_cancel_left, add_assoc}
 use native.Mathlib.Omega.{arith}
 use lib.Ieee.{Float, binary32, add}
-use lib.ListN.{length, get_or, take, set, length-set}
-use lib.Seq.{get_or-take, length-take-le}
+use lib.ListN.{length, get_or, set, length-set}
 use Rattle.pointwise.specs.Points.{each, between}
 use Rattle.pointwise.proofs.Each.{below_or, get_or-each}
 use Rattle.pointwise.proofs.Parts.{between-low, between-high, each-between-empty, store}
 use Rattle.dng.specs.Repair.{mean_of}
 use Rattle.dng.specs.Value.{nought}
-use Rattle.fix_means.specs.Means.{Reads, sum_over, mean_over}
+use Rattle.fix_means.specs.Means.{Reads, sum_over, mean_over, mean_in}
 use Rattle.fix_fills.specs.Fills.{Sees, Apart}
 
 sum-ext : (f g : ℕ → Float) (l : List ℕ) (acc : Float) → ((i : ℕ) → i < length l → f (get_or l i 0) ≡ g (get_or l i 0)) → sum_over f l acc ≡ sum_over g l acc
@@ -24,13 +23,10 @@ sum-ext f g (a ∷ l) acc h =
 mean-ext : (f g : ℕ → Float) (l : List ℕ) → ((i : ℕ) → i < length l → f (get_or l i 0) ≡ g (get_or l i 0)) → mean_over f l ≡ mean_over g l
 mean-ext f g l h = ap (λ (v : Float). mean_of (record { sum = v; n = length l })) (sum-ext f g l nought h)
 
-module _ {A : Type 0} (d : A) (to_float : A → Float) (keep : Float → A) (at : List ℕ) (n p from : ℕ) (s₀ : List A) where
-  -- the mean of plane k from the samples s, and what sample j takes
-  abbrev pub mean_in : List A → ℕ → Float
-  mean_in s k = mean_over (λ a. to_float (get_or s (a + k) d)) (take n at)
-
+module _ {A : Type 0} (d : A) (to_float : A → Float) (keep : Float → A) (at : List ℕ) (p from : ℕ) (s₀ : List A) where
+  -- what sample j takes
   abbrev pub taken : ℕ → A → A
-  taken j v = keep (mean_in s₀ (j - from))
+  taken j v = keep (mean_in d to_float s₀ at (j - from))
 
   -- the planes before k are written
   pub record Planes (s : List A) (k : ℕ) : Type 0 where
@@ -43,34 +39,32 @@ module _ {A : Type 0} (d : A) (to_float : A → Float) (keep : Float → A) (at 
 
   module _ (s : List A) (k : ℕ) (h : Planes s k) (l : k < p) where
     -- what is read is there, and was not written
-    pub planes-reads : Sees (length s₀) at n p → Reads (length s) at n k
+    pub planes-reads : Sees (length s₀) at p → Reads (length s) at k
     planes-reads sees =
         let r = sees k l in
-        record { few = r.few; held = r.held; there = λ j q. omega (arith, r.there j q, h.same) }
+        record { few = r.few; there = λ j q. omega (arith, r.there j q, h.same) }
 
-    pub planes-mean : Sees (length s₀) at n p → Apart at n p from → mean_in s k ≡ mean_in s₀ k
+    planes-mean : Sees (length s₀) at p → Apart at p from → mean_in d to_float s at k ≡ mean_in d to_float s₀ at k
     planes-mean sees apart =
-        mean-ext _ _ (take n at)
+        mean-ext _ _ at
         (λ i q.
         let r = sees k l in
-        let m : i < n = omega (arith, length-take-le n at r.held) in
-        let same : get_or (take n at) i 0 ≡ get_or at i 0 = get_or-take n at i 0 m in
         let j : ℕ = get_or at i 0 + k in
-        ap (λ (a : ℕ). to_float (get_or s (a + k) d)) same
-        ∙ ap (λ (t : List A). to_float (get_or t j d)) h.done
-        ∙ ap to_float (get_or-each (between from (from + k) taken) s₀ j d (r.there i m)
+        ap (λ (t : List A). to_float (get_or t j d)) h.done
+        ∙ ap to_float (get_or-each (between from (from + k) taken) s₀ j d (r.there i q)
         ∙ below_or j from (λ z. between-low from (from + k) taken j _ z)
-        (λ z. below_or j (from + p) (λ t. absurd (apart i k m l z t)) (λ t. between-high from (from + k) taken j _ (omega arith))))
-        ∙ ap (λ (a : ℕ). to_float (get_or s₀ (a + k) d)) (sym same))
+        (λ z. below_or j (from + p) (λ t. absurd (apart i k q l z t)) (λ t. between-high from (from + k) taken j _ (omega arith)))))
 
-    pub planes-next : (v : A) → from + p ≤ length s₀ → v ≡ keep (mean_in s₀ k) → Planes (set s (from + k) v) (k + 1)
-    planes-next v r e =
+    pub planes-next : Sees (length s₀) at p → Apart at p from → (u : Float) (v : A) → from + p ≤ length s₀
+        → u ≡ mean_in d to_float s at k → v ≡ keep u → Planes (set s (from + k) v) (k + 1)
+    planes-next sees apart u v r m e =
+        let new : v ≡ keep (mean_in d to_float s₀ at (from + k - from)) =
+        e ∙ ap keep (m ∙ planes-mean sees apart) ∙ ap (λ (m : ℕ). keep (mean_in d to_float s₀ at m)) (sym (add-sub_cancel_left from k)) in
         record {
           within = omega arith;
           same = length-set s (from + k) v ∙ h.same;
           done =
-              store v taken from (from + k) s₀ s v h.done (e ∙ ap (λ (m : ℕ). keep (mean_in s₀ m)) (sym (add-sub_cancel_left from k)))
-              (omega arith) (omega arith)
+              store v taken from (from + k) s₀ s v h.done new (omega arith) (omega arith)
               ∙ ap (λ (m : ℕ). each (between from m taken) s₀) (add_assoc from k 1);
         }
 

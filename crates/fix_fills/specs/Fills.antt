@@ -1,39 +1,39 @@
 -- Which marks a repair mends, and where their samples and those of their neighbours lie; and the repair, of either
 -- sample kind. Document 01, 'What each does to a value', Repair.
-use Rattle.std.specs.Prelude.{ℕ, ◌+◌, ◌/◌, ◌%◌, ◌≤◌, ◌<◌, Bool, true, cond, List, [], ◌∷◌, ◌≡◌, leb, Float, length, get_or, take}
-use Rattle.std.specs.Float.{nan, binary32}
+use Rattle.std.specs.Prelude.{ℕ, ◌+◌, ◌/◌, ◌%◌, ◌≤◌, ◌<◌, Bool, true, cond, List, [], ◌∷◌, ◌≡◌, leb, Float, length, get_or}
+use Rattle.std.specs.Float.{binary32}
 use Rattle.num_round.specs.Whole.{round_held}
 use Rattle.num_convert.specs.Convert.{whole_in}
 use Rattle.pointwise.specs.Points.{each}
 use Rattle.dng.specs.declared.Window.{Window}
 use Rattle.dng.specs.Repair.{positions, steps, sound_on, repair_at}
 use Rattle.fix_scratch.specs.Marks.{Fits}
-use Rattle.fix_near.specs.Looks.{marked, first_of, near_of}
+use Rattle.fix_near.specs.Looks.{first_of, near_of}
 use Rattle.fix_means.specs.Means.{Reads}
 use Rattle.num_sorted.specs.Sorts.{has, Rises}
 
 -- ---- what is asked
 
--- the first n entries of the scratch are positions of the window, ascending, and the step is in range
-pub record Marking (marks : List ℕ) (n : ℕ) (w : Window) (step : ℕ) : Type 0 where
+-- the marks are positions of the window, ascending, and the step is in range
+pub record Marking (marks : List ℕ) (w : Window) (step : ℕ) : Type 0 where
   pub fits : Fits w
   pub low : 1 ≤ step
   pub far : step ≤ 65536
-  pub held : n ≤ length marks
-  pub rises : Rises 0 (take n marks)
-  pub inside : (q : ℕ) → has (take n marks) q ≡ true → q < positions w
+  pub rises : Rises 0 marks
+  pub inside : (q : ℕ) → has marks q ≡ true → q < positions w
 
 -- position q is column x of row y
 abbrev pub Lies : Window → (q x y : ℕ) → Type 0
 Lies w q x y = (x ≡ q % w.width) × (y ≡ q / w.width)
 
--- the samples of each plane are there for the first n pixels
-abbrev pub Sees : (samples : ℕ) → (at : List ℕ) → (n planes : ℕ) → Type 0
-Sees samples at n planes = (k : ℕ) → k < planes → Reads samples at n k
+-- the samples of each plane are there for the pixels
+abbrev pub Sees : (samples : ℕ) → (at : List ℕ) → (planes : ℕ) → Type 0
+Sees samples at planes = (k : ℕ) → k < planes → Reads samples at k
 
 -- and none of them is one of the samples from `from` on
-abbrev pub Apart : (at : List ℕ) → (n planes from : ℕ) → Type 0
-Apart at n planes from = (i k : ℕ) → i < n → k < planes → from ≤ get_or at i 0 + k → get_or at i 0 + k < from + planes → ⊥
+abbrev pub Apart : (at : List ℕ) → (planes from : ℕ) → Type 0
+Apart at planes from =
+    (i k : ℕ) → i < length at → k < planes → from ≤ get_or at i 0 + k → get_or at i 0 + k < from + planes → ⊥
 
 -- ---- a position
 
@@ -56,16 +56,15 @@ unfoldable pub count_in : (ℕ → Bool) → List ℕ → ℕ
 count_in f [] = 0
 count_in f (q ∷ l) = cond (f q) 1 0 + count_in f l
 
--- how many of the first n marks
-abbrev pub mended : List ℕ → ℕ → Window → (step : ℕ) → ℕ
-mended marks n w step = count_in (mendable w step (marked marks n)) (take n marks)
+-- how many of the marks
+abbrev pub mended : List ℕ → Window → (step : ℕ) → ℕ
+mended marks w step = count_in (mendable w step (has marks)) marks
 
 -- ---- the repair, from the samples s at its start
 
--- f32
-abbrev pub repair32 : Window → (step : ℕ) → (ℕ → Bool) → List Float → List Float
-repair32 w step bad s = each (repair_at nan (λ u. u) (λ u. u) w step bad s) s
+abbrev pub repair_of : {A : Type 0} → A → (A → Float) → (Float → A) → Window → (step : ℕ) → (ℕ → Bool) → List A → List A
+repair_of none to_float of_mean w step bad s = each (repair_at none to_float of_mean w step bad s) s
 
--- u16: means are rounded to whole and held to 0..65535
+-- of u16: means are rounded to whole and held to 0..65535
 abbrev pub repair16 : Window → (step : ℕ) → (ℕ → Bool) → List ℕ → List ℕ
-repair16 w step bad s = each (repair_at 0 (λ u. whole_in binary32 u) (λ u. round_held 65535 u) w step bad s) s
+repair16 w step bad s = repair_of 0 (λ u. whole_in binary32 u) (λ u. round_held 65535 u) w step bad s

@@ -44,7 +44,7 @@ pub record Worked : Type 0 where
   -- all at once
   pub at_once : repair16 (row 3 1) 1 (has (0 ∷ 1 ∷ [])) (9 ∷ 9 ∷ 4 ∷ []) ≡ 9 ∷ 4 ∷ 4 ∷ []
   -- one of the two is repaired
-  pub one_of_two : mended (0 ∷ 1 ∷ []) 2 (row 3 1) 1 ≡ 1
+  pub one_of_two : mended (0 ∷ 1 ∷ []) (row 3 1) 1 ≡ 1
   -- each plane has its own mean; 2.5 and 7.5 are rounded up
   pub planes : placed (row 3 2) (1 ∷ []) (1 ∷ []) (1 ∷ 9 ∷ 0 ∷ 0 ∷ 4 ∷ 6 ∷ []) ≡ 1 ∷ 9 ∷ 3 ∷ 8 ∷ 4 ∷ 6 ∷ []
   -- position 3 is the second pixel of the second row

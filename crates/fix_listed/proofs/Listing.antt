@@ -15,16 +15,16 @@ use lib.Seq.{length-take-le}
 use Rattle.dng.specs.declared.Window.{Window}
 use Rattle.dng.specs.List.{u32_at}
 use Rattle.dng.specs.Repair.{count_below, any_below, positions, point_at, rect_at, listed}
-use Rattle.fix_scratch.specs.declared.Kept.{Kept}
-use Rattle.fix_scratch.specs.declared.Kept.TheVariants as K
+use Rattle.std.specs.Prelude.{Option, Some, None}
+use Rattle.fix_scratch.specs.declared.Held.{Held}
 use Rattle.fix_scratch.specs.Marks.{chosen, Holds, Fits}
 use Rattle.num_sorted.specs.Sorts.{occ, has, Rises}
 use Rattle.fix_scratch.specs.Scratch.{Front, Packed, Gains, Joined, span}
-use Rattle.fix_listed.specs.Listed.{block, Inside, Within, row_at, column_at, in_image, at_point, in_rect, listed_in}
+use Rattle.fix_listed.specs.Listed.{block, Inside, Within, Cutting, row_at, column_at, in_image, at_point, in_rect, listed_in}
 use Rattle.num_sorted.proofs.Occ.{equal-or}
 use Rattle.fix_scratch.proofs.Chosen.{both, count-le, count_same, chosen-count, is-chosen-has}
 use Rattle.fix_scratch.proofs.Sizes.{area}
-use Rattle.fix_scratch.proofs.Joining.{iff-eq, or_cases, or_left, or_right, and_both, and-of, span_of, span-is, held-front, gains-held, joined-next}
+use Rattle.fix_scratch.proofs.Joining.{iff-eq, or_cases, or_left, or_right, and_both, and-of, span_of, span-is, gains-held, joined-next}
 
 -- ---- rows
 
@@ -137,19 +137,6 @@ cut-columns w r0 c0 r1 c1 q h l =
     and_comm (span (c0 - w.x0) (min (c1 - w.x0) w.width) (q / w.height)) (span (r0 - w.y0) (min (r1 - w.y0) w.height) (q % w.height))
     ∙ sym (ap₂ ◌&&◌ (cut-span r0 r1 w.y0 w.height (q % w.height) y) (cut-span c0 c1 w.x0 w.width (q / w.height) x))
 
--- the numbers that the code has for the cut
-pub record Cutting (w : Window) (r0 c0 r1 c1 y0 x0 y1 x1 : ℕ) : Type 0 where
-  pub top : y0 ≡ r0 - w.y0
-  pub left : x0 ≡ c0 - w.x0
-  pub bottom : y1 ≡ min (r1 - w.y0) w.height
-  pub right : x1 ≡ min (c1 - w.x0) w.width
-
-pub cutting : (w : Window) (r0 c0 r1 c1 y0 x0 y1 x1 dy dx : ℕ) → y0 ≡ r0 - w.y0 → dy ≡ r1 - w.y0 → y1 ≡ min dy w.height
-    → x0 ≡ c0 - w.x0
-    → dx ≡ c1 - w.x0 → x1 ≡ min dx w.width → Cutting w r0 c0 r1 c1 y0 x0 y1 x1
-cutting w r0 c0 r1 c1 y0 x0 y1 x1 dy dx a b c d e f =
-    record { top = a; left = d; bottom = c ∙ ap (λ (n : ℕ). min n w.height) b; right = f ∙ ap (λ (n : ℕ). min n w.width) e }
-
 module _ (w : Window) (r0 c0 r1 c1 y0 x0 y1 x1 : ℕ) (f : Fits w) (v : Cutting w r0 c0 r1 c1 y0 x0 y1 x1) where
   pub row-marks : (q : ℕ) → q < positions w → block w.width y0 x0 y1 x1 q ≡ in_image false w r0 c0 r1 c1 q
   row-marks q l = rw (v.top, v.left, v.bottom, v.right) (cut-rows w r0 c0 r1 c1 q f.wide l)
@@ -189,7 +176,7 @@ module _ (w : Window) (r0 c0 r1 c1 y0 x0 y1 x1 : ℕ) (f : Fits w) (v : Cutting 
       }
 
 -- which way positions are counted, as a test told
-pub lies_so : (across b : Bool) (w : Window) (r0 c0 r1 c1 : ℕ) (s : List ℕ) (t : ℕ) (s' : List ℕ) (r : Kept) → across ≡ b
+pub lies_so : (across b : Bool) (w : Window) (r0 c0 r1 c1 : ℕ) (s : List ℕ) (t : ℕ) (s' : List ℕ) (r : Option Held) → across ≡ b
     → Joined (positions w) (in_image b w r0 c0 r1 c1) s t s' r → Joined (positions w) (in_image across w r0 c0 r1 c1) s t s' r
 lies_so across b w r0 c0 r1 c1 s t s' r e j =
     subst (λ (x : Bool). Joined (positions w) (in_image x w r0 c0 r1 c1) s t s' r) (sym e) j
@@ -328,36 +315,33 @@ pub listed-both : (across : Bool) (w : Window) (b : List ℕ) (np nr : ℕ) (q :
 unfolding listed
 listed-both across w b np nr q = refl
 
-module _ (across : Bool) (w : Window) (b : List ℕ) (np nr : ℕ) (s s₁ : List ℕ) (r : Kept)
-    (j : Joined (positions w) (λ q. any_below np (λ i. at_point across w b i q)) s 0 s₁ r) where
+module _ (across : Bool) (w : Window) (b : List ℕ) (np nr : ℕ) (s : List ℕ) where
   -- the points alone are too many
-  pub points-over : r ≡ K.Full → length s < count_below (positions w) (listed_in across w b np nr)
-  points-over e =
+  pub points-over : length s < count_below (positions w) (λ q. has (take 0 s) q || any_below np (λ i. at_point across w b i q))
+      → length s < count_below (positions w) (listed_in across w b np nr)
+  points-over over =
       let h : length s < count_below (positions w) (λ q. any_below np (λ i. at_point across w b i q)) =
-      listed-over (positions w) (λ q. any_below np (λ i. at_point across w b i q)) s
-      (subst (λ (x : Kept). Joined (positions w) (λ q. any_below np (λ i. at_point across w b i q)) s 0 s₁ x) e j) in
+      listed-over (positions w) (λ q. any_below np (λ i. at_point across w b i q)) s over in
       let k : count_below (positions w) (λ q. any_below np (λ i. at_point across w b i q)) ≤ count_below (positions w) (listed_in across w b np nr) =
       count-le (positions w) (λ q. any_below np (λ i. at_point across w b i q)) (listed_in across w b np nr)
       (λ q l d. listed-both across w b np nr q ∙ or_left _ (any_below nr (λ i. in_rect across w b np i q)) d) in
       omega arith
 
-  module _ (n t : ℕ) (e : r ≡ K.Held n t) (long : length s₁ ≡ length s) (s₂ : List ℕ) (r₂ : Kept)
-      (j₂ : Joined (positions w) (λ q. any_below nr (λ i. in_rect across w b np i q)) s₁ t s₂ r₂) where
-    both-joined : Joined (positions w) (listed_in across w b np nr) s 0 s₂ r₂
-    both-joined =
+  module _ (s₁ : List ℕ) (h : Held) (g : Gains (positions w) (λ q. any_below np (λ i. at_point across w b i q)) s 0 s₁ h.n h.t)
+      (long : length s₁ ≡ length s) where
+    both-joined : (s₂ : List ℕ) (r : Option Held) → Joined (positions w) (λ q. any_below nr (λ i. in_rect across w b np i q)) s₁ h.t s₂ r
+        → Joined (positions w) (listed_in across w b np nr) s 0 s₂ r
+    both-joined s₂ r =
         joined-next (positions w) (λ q. any_below np (λ i. at_point across w b i q)) (λ q. any_below nr (λ i. in_rect across w b np i q))
-        (listed_in across w b np nr) s 0 s₁ n t s₂ r₂
-        (held-front (positions w) (λ q. any_below np (λ i. at_point across w b i q)) s 0 s₁ r n t e j) long (λ q l. listed-both across w b np nr q) j₂
+        (listed_in across w b np nr) s 0 s₁ h.n h.t s₂ r g long (λ q l. listed-both across w b np nr q)
 
     -- with the rectangles they are too many
-    pub rects-over : r₂ ≡ K.Full → length s < count_below (positions w) (listed_in across w b np nr)
-    rects-over e₂ =
-        listed-over (positions w) (listed_in across w b np nr) s (subst
-        (λ (x : Kept). Joined (positions w) (listed_in across w b np nr) s 0 s₂ x) e₂ both-joined)
+    pub rects-over : length s₁ < count_below (positions w) (λ q. has (take h.t s₁) q || any_below nr (λ i. in_rect across w b np i q))
+        → length s < count_below (positions w) (listed_in across w b np nr)
+    rects-over over = listed-over (positions w) (listed_in across w b np nr) s (both-joined s₁ None over)
 
-    pub list_done : (k u : ℕ) → r₂ ≡ K.Held k u → length s₂ ≡ length s₁ → (s₃ : List ℕ) (m : ℕ) → Packed (positions w) s₂ u s₃ m
-        → length s₃ ≡ length s₂
+    pub list_done : (s₂ : List ℕ) (k : Held) → Gains (positions w) (λ q. any_below nr (λ i. in_rect across w b np i q)) s₁ h.t s₂ k.n k.t
+        → length s₂ ≡ length s₁ → (s₃ : List ℕ) (m : ℕ) → Packed (positions w) s₂ k.t s₃ m → length s₃ ≡ length s₂
         → Holds (positions w) (listed_in across w b np nr) s s₃ m
-    list_done k u e₂ d s₃ m v l =
-        listed-all (positions w) (listed_in across w b np nr) s s₂ k u s₃ m
-        (held-front (positions w) (listed_in across w b np nr) s 0 s₂ r₂ k u e₂ both-joined) v (d ∙ long) l
+    list_done s₂ k v d s₃ m p l =
+        listed-all (positions w) (listed_in across w b np nr) s s₂ k.n k.t s₃ m (both-joined s₂ (Some k) v) p (d ∙ long) l

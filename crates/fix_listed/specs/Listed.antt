@@ -1,6 +1,6 @@
 -- Listed positions: points and rectangles of the image in a window. Document 01, 'Repair': listed points and
 -- rectangles, bottom and right excluded.
-use Rattle.std.specs.Prelude.{ℕ, ◌+◌, ◌*◌, ◌/◌, ◌%◌, ◌^◌, ◌≤◌, ◌<◌, Bool, ◌&&◌, cond, List}
+use Rattle.std.specs.Prelude.{ℕ, ◌+◌, ◌-◌, ◌*◌, ◌/◌, ◌%◌, ◌^◌, ◌≤◌, ◌<◌, min, Bool, ◌&&◌, cond, List, ◌≡◌}
 use Rattle.dng.specs.declared.Window.{Window}
 use Rattle.dng.specs.Repair.{point_at, rect_at, listed}
 use Rattle.fix_scratch.specs.Scratch.{span}
@@ -22,6 +22,14 @@ pub record Inside (width c0 r1 c1 top : ℕ) : Type 0 where
   pub columns : c1 ≤ width
   pub rows : r1 * width ≤ top
   pub small : top ≤ 2 ^ 32
+
+-- rows y0 up to y1 and columns x0 up to x1 of the window are what it has of rows r0 up to r1, columns c0 up to c1 of the
+-- image
+pub record Cutting (w : Window) (r0 c0 r1 c1 y0 x0 y1 x1 : ℕ) : Type 0 where
+  pub top : y0 ≡ r0 - w.y0
+  pub left : x0 ≡ c0 - w.x0
+  pub bottom : y1 ≡ min (r1 - w.y0) w.height
+  pub right : x1 ≡ min (c1 - w.x0) w.width
 
 -- the image position lies in the window
 pub record Within (w : Window) (row column : ℕ) : Type 0 where

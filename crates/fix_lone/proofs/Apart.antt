@@ -6,29 +6,29 @@ use mathlib.Core.List.{List}
 use native.Mathlib.Nat.{add-mul, div-add-mod', le_refl}
 use native.Mathlib.Omega.{arith}
 use lib.IntN.{pos, negsuc}
-use lib.ListN.{length, get_or, take}
-use Rattle.num_sorted.specs.Sorts.{Rises}
+use lib.ListN.{length, get_or}
+use Rattle.num_sorted.specs.Sorts.{has, Rises}
 use Rattle.num_sorted.proofs.Occ.{below_or}
 use Rattle.dng.specs.declared.Window.{Window}
 use Rattle.dng.specs.Repair.{moved}
 use Rattle.fix_near.proofs.Moving.{moved_none, moved_on, moved_out, moved_back}
-use Rattle.fix_near.specs.Looks.{Asks, marked, LoneOn, Lone}
+use Rattle.fix_near.specs.Looks.{Asks, LoneOn, Lone}
 use Rattle.fix_places.specs.Beside.{Under, Over, Free}
 use Rattle.fix_places.proofs.Between.{under-from, over-from, free-between}
 
-module _ (marks : List ℕ) (n : ℕ) (held : n ≤ length marks) (rises : Rises 0 (take n marks)) where
+module _ (marks : List ℕ) (rises : Rises 0 marks) where
   -- between a mark and the one before it, and between it and the one after it
-  pub free-left : (i period t : ℕ) → i < n → 1 ≤ period → Under marks i (get_or marks i 0 - period) → t + period ≡ get_or marks i 0
-      → marked marks n t ≡ false
+  pub free-left : (i period t : ℕ) → i < length marks → 1 ≤ period → Under marks i (get_or marks i 0 - period) → t + period ≡ get_or marks i 0
+      → has marks t ≡ false
   free-left i period t h s u e =
-      free-between marks n held rises i (get_or marks i 0 - period) t u (over-from marks n held rises i t (omega (arith, s, e))) t (omega (arith, e)) (le_refl t)
+      free-between marks i (get_or marks i 0 - period) t u (over-from marks rises i t (omega (arith, s, e))) t (omega (arith, e)) (le_refl t)
 
-  pub free-right : (i period t : ℕ) → i < n → 1 ≤ period → Over marks n (i + 1) (get_or marks i 0 + period) → t ≡ get_or marks i 0 + period
-      → marked marks n t ≡ false
+  pub free-right : (i period t : ℕ) → i < length marks → 1 ≤ period → Over marks (i + 1) (get_or marks i 0 + period) → t ≡ get_or marks i 0 + period
+      → has marks t ≡ false
   free-right i period t h s o e =
       let d : i ≡ i + 1 - 1 = omega arith in
-      free-between marks n held rises (i + 1) t (get_or marks i 0 + period)
-      (under-from marks n held rises (i + 1) t (omega arith) (omega arith) (subst (λ (z : ℕ). get_or marks z 0 < t) d (omega (arith, s, e)))) o t (le_refl t)
+      free-between marks (i + 1) t (get_or marks i 0 + period)
+      (under-from marks rises (i + 1) t (omega arith) (omega arith) (subst (λ (z : ℕ). get_or marks z 0 < t) d (omega (arith, s, e)))) o t (le_refl t)
       (omega (arith, e))
 
 -- ---- lone
@@ -107,17 +107,17 @@ module _ (bad : ℕ → Bool) (w : Window) (period x y q : ℕ) (e : y * w.width
       )
 
 -- what `alone` has looked at is free around mark i
-pub lone-mark : (marks : List ℕ) (n : ℕ) (w : Window) (period i q far least lo hi : ℕ) → i < n
-    → Asks marks n w period (get_or marks i 0 % w.width) (get_or marks i 0 / w.width) → q ≡ get_or marks i 0 → far ≡ period * w.width
+pub lone-mark : (marks : List ℕ) (w : Window) (period i q far least lo hi : ℕ) → i < length marks
+    → Asks marks w period (get_or marks i 0 % w.width) (get_or marks i 0 / w.width) → q ≡ get_or marks i 0 → far ≡ period * w.width
     → least ≡ q - period → lo ≡ q - (far + period) → hi ≡ q + period - far → period ≤ far
-    → Under marks i least → Over marks n (i + 1) (q + period) → Free marks n lo hi → Free marks n (q + far - period) (q + far + period)
-    → Lone (marked marks n) w period (get_or marks i 0 % w.width) (get_or marks i 0 / w.width)
-lone-mark marks n w period i q far least lo hi h k e f eleast elo ehi wide u o above below =
-    lone-around (marked marks n) w period (get_or marks i 0 % w.width) (get_or marks i 0 / w.width) (get_or marks i 0)
+    → Under marks i least → Over marks (i + 1) (q + period) → Free marks lo hi → Free marks (q + far - period) (q + far + period)
+    → Lone (has marks) w period (get_or marks i 0 % w.width) (get_or marks i 0 / w.width)
+lone-mark marks w period i q far least lo hi h k e f eleast elo ehi wide u o above below =
+    lone-around (has marks) w period (get_or marks i 0 % w.width) (get_or marks i 0 / w.width) (get_or marks i 0)
     (div-add-mod' (get_or marks i 0) w.width)
     (record {
-      left = λ t d. free-left marks n k.held k.rises i period t h k.step (λ j l. omega (arith, u j l, e, eleast)) d;
-      right = λ t d. free-right marks n k.held k.rises i period t h k.step (λ j l m. omega (arith, o j l m, e)) d;
+      left = λ t d. free-left marks k.rises i period t h k.step (λ j l. omega (arith, u j l, e, eleast)) d;
+      right = λ t d. free-right marks k.rises i period t h k.step (λ j l m. omega (arith, o j l m, e)) d;
       above = λ t a b. above t (omega (arith, e, f, elo, a)) (omega (arith, e, f, ehi, b));
       below = λ t a b. below t (omega (arith, e, f, a, wide)) (omega (arith, e, f, b));
     })

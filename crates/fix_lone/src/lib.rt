@@ -3,90 +3,90 @@
 #![tactic(auto)]
 
 ghost use Rattle.std.specs.Prelude.{◌≡◌, true, ◌+◌, ◌-◌, ◌*◌, ◌≤◌, get_or};
-ghost use Rattle.fix_scratch.specs.Marks.{Fits};
 ghost use Rattle.fix_near.specs.Looks.{AsksMark, LoneMark};
 ghost use Rattle.fix_places.specs.Beside.{Reached};
+ghost use Rattle.fix_lone.specs.Asked.{AsksMark-prop};
 
 use dng::Window;
 
-// How far apart two positions are that stand in one column, one step from each other.
-fn reach(w: Window, period: usize) -> usize
-    requires { Fits w × (period ≤ 65536) }
-    ensures { (result ≡ period * w.width) × ((period ≤ result) × (result ≤ 4294967296)) }
-{
-    period * w.width
-}
-
-// Where the neighbours of mark i in the row above would stand among the marks, sought from an earlier answer on. A
-// hint: only speed depends on it.
-fn above_from(marks: &[u32], n: usize, w: Window, period: usize, i: usize, from: usize) -> usize
-    requires { AsksMark marks.now n w period i }
-    ensures { Reached marks.now n from (get_or marks.now i 0 - (period * w.width + period)) result }
-{
-    let q = fix_places::mark(marks, i);
-    let lo = num_small::less(q, reach(w, period) + period);
-    fix_places::onward(marks, n, from, lo)
-}
-
-// The same of the row below.
-fn below_from(marks: &[u32], n: usize, w: Window, period: usize, i: usize, from: usize) -> usize
-    requires { AsksMark marks.now n w period i }
-    ensures { Reached marks.now n from (get_or marks.now i 0 + period * w.width - period) result }
-{
-    let q = fix_places::mark(marks, i);
-    let lo = q + reach(w, period) - period;
-    fix_places::onward(marks, n, from, lo)
-}
-
-// Whether mark i is known to be lone. The places are hints: where they are not those of the rows above and below, the
-// answer is no.
-fn alone(
-    marks: &[u32],
-    n: usize,
+// Mark i of a window's, and how far apart neighbours are.
+#[derive(Drop)]
+struct Mark<'a> {
+    marks: &'a [u32],
     w: Window,
     period: usize,
     i: usize,
-    up: usize,
-    down: usize,
-) -> bool
-    requires { AsksMark marks.now n w period i }
-    ensures { result ≡ true → LoneMark marks.now n w period i }
+    ghost asks: { AsksMark marks.now w period i } by { AsksMark-prop marks.now w period i },
+}
+
+impl Mark<'_> {
+    // Its position.
+    fn position(&self) -> usize
+        ensures { let m = self.now in (result ≡ get_or m.marks.now m.i 0) × (result ≤ 4294967296) }
+    {
+        fix_places::mark(self.marks, self.i)
+    }
+
+    // How far apart two positions are that stand in one column, one step from each other.
+    fn reach(&self) -> usize
+        ensures { let m = self.now in (result ≡ m.period * m.w.width) × ((m.period ≤ result) × (result ≤ 4294967296)) }
+    {
+        self.period * self.w.width
+    }
+
+    // Where its neighbours in the row above would stand among the marks, sought from an earlier answer on. A hint: only
+    // speed depends on it.
+    fn above_from(&self, from: usize) -> usize
+        ensures { let m = self.now in Reached m.marks.now from (get_or m.marks.now m.i 0 - (m.period * m.w.width + m.period)) result }
+    {
+        let lo = self.position().saturating_sub(self.reach() + self.period);
+        fix_places::onward(self.marks, from, lo)
+    }
+
+    // The same of the row below.
+    fn below_from(&self, from: usize) -> usize
+        ensures { let m = self.now in Reached m.marks.now from (get_or m.marks.now m.i 0 + m.period * m.w.width - m.period) result }
+    {
+        let lo = self.position() + self.reach() - self.period;
+        fix_places::onward(self.marks, from, lo)
+    }
+
+    // Whether it is known to be lone. The places are hints: where they are not those of the rows above and below, the
+    // answer is no.
+    fn alone(&self, up: usize, down: usize) -> bool
+        ensures { let m = self.now in result ≡ true → LoneMark m.marks.now m.w m.period m.i }
+    {
+        let q = self.position();
+        let far = self.reach();
+        let period = self.period;
+        let first = q.saturating_sub(far + period);
+        let last = (q + period).saturating_sub(far);
+        if !fix_places::under(self.marks, self.i, q.saturating_sub(period)) {
+            return false;
+        }
+        if !fix_places::over(self.marks, self.i + 1, q + period) {
+            return false;
+        }
+        if !fix_places::free(self.marks, up, first, last) {
+            return false;
+        }
+        fix_places::free(self.marks, down, q + far - period, q + far + period)
+    }
+}
+
+// Whether mark i is known to be lone, where `rows` has an earlier mark's places of the rows above and below: they move
+// on to those of mark i.
+pub fn lone_mark(marks: &[u32], w: Window, period: usize, i: usize, rows: &mut [usize; 2]) -> bool
+    requires { AsksMark marks.now w period i }
+    ensures { result ≡ true → LoneMark marks.now w period i }
 {
-    let q = fix_places::mark(marks, i);
-    let far = reach(w, period);
-    if !fix_places::under(marks, n, i, num_small::less(q, period)) {
-        return false;
-    }
-    if !fix_places::over(marks, n, i + 1, q + period) {
-        return false;
-    }
-    if !fix_places::free(
+    let mark = Mark {
         marks,
-        n,
-        up,
-        num_small::less(q, far + period),
-        num_small::less(q + period, far),
-    ) {
-        return false;
-    }
-    fix_places::free(marks, n, down, q + far - period, q + far + period)
-}
-
-// The same where `rows` has an earlier mark's places of the rows above and below: they move on to those of mark i.
-pub fn lone_mark(
-    marks: &[u32],
-    n: usize,
-    w: Window,
-    period: usize,
-    i: usize,
-    rows: &mut [usize; 2],
-) -> bool
-    requires { AsksMark marks.now n w period i }
-    ensures { result ≡ true → LoneMark marks.now n w period i }
-{
-    let up = above_from(marks, n, w, period, i, rows[0]);
-    let down = below_from(marks, n, w, period, i, rows[1]);
-    rows[0] = up;
-    rows[1] = down;
-    alone(marks, n, w, period, i, up, down)
+        w,
+        period,
+        i,
+    };
+    rows[0] = mark.above_from(rows[0]);
+    rows[1] = mark.below_from(rows[1]);
+    mark.alone(rows[0], rows[1])
 }

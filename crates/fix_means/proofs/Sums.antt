@@ -9,15 +9,16 @@ use native.Mathlib.Numerals.{add-one}
 use native.Mathlib.Omega.{arith}
 use lib.IntN.{ℤ}
 use lib.Ieee.{Float, binary32, add}
-use lib.ListN.{length, get_or, take, drop}
-use lib.Seq.{drop-cons, get_or-take, length-take-le, drop-length}
+use lib.ListN.{length, get_or, drop}
+use lib.Seq.{drop-cons, drop-length}
+use Rattle.std.proofs.lemmas.List.{get_or_default}
 use Rattle.dng.specs.declared.Window.{Window}
 use Rattle.dng.specs.Repair.{Tally, complete, steps, sample_at, tally_on, tally_at, sound_on, mean_of}
 use Rattle.dng.specs.Value.{nought}
 use Rattle.fix_near.specs.Looks.{first_of, near_on, near_of}
 use Rattle.fix_near.proofs.Sound.{sound-any, sound-two}
 use Rattle.fix_constant.proofs.Places.{place_in}
-use Rattle.fix_means.specs.Means.{sum_over, mean_over}
+use Rattle.fix_means.specs.Means.{Reads, sum_over, mean_over}
 use Rattle.fix_means.proofs.Tallies.{more, sound-few}
 
 -- ---- turn by turn
@@ -30,27 +31,30 @@ pub record Summed (value : ℕ → Float) (l : List ℕ) (i : ℕ) (s : Float) :
 pub summed-start : (value : ℕ → Float) (l : List ℕ) → Summed value l 0 nought
 summed-start value l = record { within = omega arith; left = refl }
 
-module _ (value : ℕ → Float) (at : List ℕ) (n i : ℕ) (s : Float) (k : Summed value (take n at) i s) (held : n ≤ length at) where
-  long : length (take n at) ≡ n
-  long = length-take-le n at held
-
-  pub summed-next : (v : Float) → i < n → v ≡ value (get_or at i 0) → Summed value (take n at) (i + 1) (add binary32 s v)
+module _ (value : ℕ → Float) (at : List ℕ) (i : ℕ) (s : Float) (k : Summed value at i s) where
+  pub summed-next : (v : Float) → i < length at → v ≡ value (get_or at i 0) → Summed value at (i + 1) (add binary32 s v)
   unfolding sum_over
   summed-next v h e =
-      let l : i < length (take n at) = omega (arith, long) in
-      let same : v ≡ value (get_or (take n at) i 0) = e ∙ ap value (sym (get_or-take n at i 0 h)) in
-      let one : sum_over value (drop i (take n at)) s ≡ sum_over value (drop (i + 1) (take n at)) (add binary32 s (value (get_or (take n at) i 0))) =
-      rw (add-one, drop-cons (take n at) i 0 l) refl in
-      record { within = omega arith; left = rw same (sym one ∙ k.left) }
+      let one : sum_over value (drop i at) s ≡ sum_over value (drop (i + 1) at) (add binary32 s (value (get_or at i 0))) =
+      rw (add-one, drop-cons at i 0 h) refl in
+      record { within = omega arith; left = rw e (sym one ∙ k.left) }
 
   -- all are added: what is divided by their number is their mean
-  pub summed-mean : (v : Float) → n ≤ i → v ≡ mean_of (record { sum = s; n = n }) → v ≡ mean_over value (take n at)
+  pub summed-mean : (v : Float) → length at ≤ i → v ≡ mean_of (record { sum = s; n = length at }) → v ≡ mean_over value at
   unfolding sum_over
   summed-mean v h e =
-      let done : i ≡ length (take n at) = omega (arith, k.within, long) in
-      let whole : s ≡ sum_over value (take n at) nought =
-      ap (λ (r : List ℕ). sum_over value r s) (sym (ap (λ (j : ℕ). drop j (take n at)) done ∙ drop-length (take n at))) ∙ k.left in
-      e ∙ ap₂ (λ (u : Float) (m : ℕ). mean_of (record { sum = u; n = m })) whole (sym long)
+      let done : i ≡ length at = omega (arith, k.within) in
+      let whole : s ≡ sum_over value at nought =
+      ap (λ (r : List ℕ). sum_over value r s) (sym (ap (λ (j : ℕ). drop j at) done ∙ drop-length at)) ∙ k.left in
+      e ∙ ap (λ (u : Float). mean_of (record { sum = u; n = length at })) whole
+
+-- the sample u, read at any default
+pub summed-read : {A : Type 0} (none u : A) (to_float : A → Float) (s : List A) (at : List ℕ) (plane i : ℕ) (sum v : Float)
+    → Summed (λ a. to_float (get_or s (a + plane) none)) at i sum → i < length at → Reads (length s) at plane
+    → u ≡ get_or s (get_or at i 0 + plane) u → v ≡ to_float u
+    → Summed (λ a. to_float (get_or s (a + plane) none)) at (i + 1) (add binary32 sum v)
+summed-read none u to_float s at plane i sum v k h r d e =
+    summed-next _ at i sum k v h (e ∙ ap to_float (d ∙ get_or_default s (get_or at i 0 + plane) u none (r.there i h)))
 
 -- ---- the sound neighbours
 

@@ -3,14 +3,13 @@ use Prim.Native.Nat.{ℕ, ◌+◌, ◌*◌, ◌<◌}
 use mathlib.Core.Path.{◌≡◌, refl, sym, ap, ◌∙◌}
 use mathlib.Core.Bool.{Bool, true, false, not, ◌&&◌, cond}
 use mathlib.Core.List.{List, [], ◌∷◌}
-use native.Mathlib.Omega.{arith}
 use borrow.Author.Tests.{ltb-true}
 use lib.Dec.{ltb}
 use lib.IntN.{ℤ}
 use Rattle.dng.specs.declared.Window.{Window}
 use Rattle.dng.specs.Repair.{steps, moved, sound}
 use Rattle.num_sorted.specs.Sorts.{occ, has, Rises}
-use Rattle.fix_near.specs.Looks.{Asks, LoneOn, Lone, none, marked, first_of, near_on, near_of}
+use Rattle.fix_near.specs.Looks.{Asks, LoneOn, Lone, none, first_of, near_on, near_of}
 
 module _ (bad : ℕ → Bool) (w : Window) (period x y : ℕ) where
   lone-sound : {B : Type 0} (d : ℤ × ℤ) (f : ℕ → ℕ → B) (t : B)
@@ -40,16 +39,12 @@ module _ (bad : ℕ → Bool) (w : Window) (period x y : ℕ) where
   unfolding Lone
   lone-near l = lone-near-on steps l
 
--- a position that may be known to be lone asks for k marks: none where it is, all n of them where it is not
-module _ (marks : List ℕ) (n : ℕ) (w : Window) (period x y : ℕ) where
-  pub asked-asks : (lone : Bool) {k : ℕ} → k ≡ cond lone 0 n → Asks marks n w period x y → Asks marks k w period x y
-  unfolding Rises
-  asked-asks true e a =
-      rw e (record { fits = a.fits; column = a.column; row = a.row; step = a.step; far = a.far; held = omega arith; rises = tt })
-  asked-asks false e a = rw e a
-
-  pub asked-near : (lone : Bool) {k : ℕ} → k ≡ cond lone 0 n → (lone ≡ true → Lone (marked marks n) w period x y)
-      → near_of w period (marked marks k) x y ≡ near_of w period (marked marks n) x y
+  -- those of a list with no mark
+  pub lone-empty : Lone bad w period x y → near_of w period (has []) x y ≡ near_of w period bad x y
   unfolding has occ
-  asked-near true e l = rw e (lone-near (marked marks n) w period x y (l refl))
-  asked-near false e l = ap (λ (j : ℕ). near_of w period (marked marks j) x y) e
+  lone-empty l = lone-near l
+
+-- which may be asked for
+pub asks-none : {marks : List ℕ} {w : Window} {period x y : ℕ} → Asks marks w period x y → Asks [] w period x y
+unfolding Rises
+asks-none a = record { fits = a.fits; column = a.column; row = a.row; step = a.step; far = a.far; rises = tt }

@@ -10,13 +10,13 @@ use native.Mathlib.Omega.{arith}
 use borrow.Author.Tests.{lt-ltb, le-ltb, ltb-true}
 use lib.Dec.{ltb}
 use lib.IntN.{ℤ, pos}
-use lib.ListN.{length, get_or, take, drop, set, length-set, get_or-map}
-use lib.Seq.{drop-cons, take-suc-set, length-take-le}
+use lib.ListN.{length, get_or, drop, get_or-map, length-append}
+use lib.Seq.{drop-cons}
 use Rattle.dng.specs.declared.Window.{Window}
 use Rattle.dng.specs.Repair.{steps, moved, sound}
 use Rattle.fix_near.specs.declared.Step.{Step}
-use Rattle.fix_near.specs.declared.Neighbour.{Neighbour}
-use Rattle.fix_near.specs.declared.Neighbour.TheVariants as N
+use Rattle.std.specs.Prelude.{Option, Some, None}
+use Rattle.fix_constant.specs.declared.Spot.{Spot}
 use Rattle.fix_near.specs.Looks.{Inside, none, pair_of, one_step, open_at, sound_of, first_of, near_on, near_of}
 use Rattle.fix_near.proofs.Sound.{sound-ap}
 use Rattle.fix_near.proofs.Moving.{moved_in}
@@ -25,41 +25,40 @@ use Rattle.fix_constant.proofs.Places.{and_first, and_second}
 -- ---- one position
 
 module _ (width height : ℕ) (bad : ℕ → Bool) (x y : ℕ) where
-  pub open-right : width ≤ x → N.Missing ≡ open_at width height bad x y
+  pub open-right : width ≤ x → None ≡ open_at width height bad x y
   unfolding open_at
   open-right h = rw (le-ltb x width h) refl
 
-  pub open-below : x < width → height ≤ y → N.Missing ≡ open_at width height bad x y
+  pub open-below : x < width → height ≤ y → None ≡ open_at width height bad x y
   unfolding open_at
   open-below p h = rw (lt-ltb x width p, le-ltb y height h) refl
 
-  pub open-marked : x < width → y < height → bad (y * width + x) ≡ true → N.Missing ≡ open_at width height bad x y
+  pub open-marked : x < width → y < height → bad (y * width + x) ≡ true → None ≡ open_at width height bad x y
   unfolding open_at
   open-marked p q e = rw (lt-ltb x width p, lt-ltb y height q, e) refl
 
-  pub open-sound : x < width → y < height → bad (y * width + x) ≡ false → N.At x y ≡ open_at width height bad x y
+  pub open-sound : x < width → y < height → bad (y * width + x) ≡ false → Some (record { x = x; y = y }) ≡ open_at width height bad x y
   unfolding open_at
   open-sound p q e = rw (lt-ltb x width p, lt-ltb y height q, e) refl
 
   -- what is found open lies in the window
-  pub open_in : (xx yy : ℕ) → open_at width height bad x y ≡ N.At xx yy → (xx < width) × (yy < height)
+  pub open_in : (to : Spot) → open_at width height bad x y ≡ Some to → (to.x < width) × (to.y < height)
   unfolding open_at
-  open_in xx yy e = go (ltb x width) (ltb y height) (bad (y * width + x)) (ltb-true x width) (ltb-true y height) e
+  open_in to e = go (ltb x width) (ltb y height) (bad (y * width + x)) (ltb-true x width) (ltb-true y height) e
     where
-      go : (a b c : Bool) → (a ≡ true → x < width) → (b ≡ true → y < height) → cond (a && (b && not c)) (N.At x y) N.Missing ≡ N.At xx yy
-          → (xx < width) × (yy < height)
+      go : (a b c : Bool) → (a ≡ true → x < width) → (b ≡ true → y < height) → cond (a && (b && not c)) (Some (record { x = x; y = y })) None ≡ Some to
+          → (to.x < width) × (to.y < height)
       go true true false p q e =
-          let ex : x ≡ xx = cc in
-          let ey : y ≡ yy = cc in
-          (subst (λ (z : ℕ). z < width) ex (p refl), subst (λ (z : ℕ). z < height) ey (q refl))
-      go true true true p q e = absurd (let z : ◌≡◌ {A = ℕ} 0 1 = cc in omega arith)
-      go true false c p q e = absurd (let z : ◌≡◌ {A = ℕ} 0 1 = cc in omega arith)
-      go false b c p q e = absurd (let z : ◌≡◌ {A = ℕ} 0 1 = cc in omega arith)
+          let s : ◌≡◌ {A = Spot} (record { x = x; y = y }) to = cc in
+          (subst (λ (z : Spot). z.x < width) s (p refl), subst (λ (z : Spot). z.y < height) s (q refl))
+      go true true true p q e = cc
+      go true false c p q e = cc
+      go false b c p q e = cc
 
 -- ---- one step
 
 -- the sound neighbour one step away, in a window
-abbrev pub near_by : Window → (period : ℕ) → (ℕ → Bool) → (x y : ℕ) → ℤ × ℤ → Neighbour
+abbrev pub near_by : Window → (period : ℕ) → (ℕ → Bool) → (x y : ℕ) → ℤ × ℤ → Option Spot
 near_by w period bad x y d = sound_of w.width w.height period bad x y d
 
 -- what is open one step away is the sound neighbour
@@ -70,11 +69,11 @@ unfolding open_at sound_of sound
 step_is w period bad x y xx yy d e f = rw (e, f) refl
 
 -- and lies in the window
-pub step_in : (w : Window) (period : ℕ) (bad : ℕ → Bool) (x y : ℕ) (d : ℤ × ℤ) {r : Neighbour} {xx yy : ℕ} → r ≡ near_by w period bad x y d
-    → r ≡ N.At xx yy → (xx < w.width) × (yy < w.height)
-step_in w period bad x y d {r} {xx} {yy} e f =
-    open_in w.width w.height bad (moved x d.0 period w.width) (moved y d.1 period w.height) xx yy
-    (step_is w period bad x y _ _ d refl refl ∙ sym e ∙ f)
+pub step_in : (w : Window) (period : ℕ) (bad : ℕ → Bool) (x y : ℕ) (d : ℤ × ℤ) {to : Spot} → Some to ≡ near_by w period bad x y d
+    → (to.x < w.width) × (to.y < w.height)
+step_in w period bad x y d {to} e =
+    open_in w.width w.height bad (moved x d.0 period w.width) (moved y d.1 period w.height) to
+    (step_is w period bad x y _ _ d refl refl ∙ sym e)
 
 -- what stands past the last step, and is not looked at
 abbrev pub stay : Step
@@ -122,15 +121,15 @@ step-inside w period x y s all i e h f g =
     )
 
 -- the sound neighbour, as any answer that is made of it
-abbrev pick : {B : Type 0} → Neighbour → (ℕ → ℕ → B) → B → B
-pick (N.At x y) f t = f x y
-pick N.Missing f t = t
+abbrev pick : {B : Type 0} → Option Spot → (ℕ → ℕ → B) → B → B
+pick (Some to) f t = f to.x to.y
+pick None f t = t
 
 sound-pick : {B : Type 0} (width height period : ℕ) (bad : ℕ → Bool) (x y : ℕ) (d : ℤ × ℤ) (f : ℕ → ℕ → B) (t : B)
     → sound width height period bad x y d f t ≡ pick (sound_of width height period bad x y d) f t
 unfolding sound_of
 sound-pick width height period bad x y d f t =
-    sym (sound-ap width height period bad x y d (λ (r : Neighbour). pick r f t) (λ xx yy. N.At xx yy) N.Missing)
+    sym (sound-ap width height period bad x y d (λ (r : Option Spot). pick r f t) (λ xx yy. Some (record { x = xx; y = yy })) None)
 
 -- ---- the sound neighbours, step by step
 
@@ -139,16 +138,14 @@ abbrev pub onward : Window → (period : ℕ) → (ℕ → Bool) → (x y i : �
 onward w period bad x y i = near_on w period bad x y (drop i steps)
 
 -- i steps are made: with those that are left the list is whole
-pub record Walked (w : Window) (period : ℕ) (bad : ℕ → Bool) (x y i : ℕ) (at : List ℕ) (count : ℕ) : Type 0 where
-  pub within : i ≤ 8
-  pub few : count ≤ i
-  pub long : length at ≡ 8
-  pub left : take count at ++ onward w period bad x y i ≡ near_of w period bad x y
+pub record Walked (w : Window) (period : ℕ) (bad : ℕ → Bool) (x y i : ℕ) (near : List ℕ) : Type 0 where
+  pub few : length near ≤ i
+  pub left : near ++ onward w period bad x y i ≡ near_of w period bad x y
 
-pub walk_start : (w : Window) (period : ℕ) (bad : ℕ → Bool) (x y : ℕ) (at : List ℕ) → length at ≡ 8 → Walked w period bad x y 0 at 0
-walk_start w period bad x y at e = record { within = omega arith; few = omega arith; long = e; left = refl }
+pub walk_start : (w : Window) (period : ℕ) (bad : ℕ → Bool) (x y : ℕ) → Walked w period bad x y 0 []
+walk_start w period bad x y = record { few = omega arith; left = refl }
 
-module _ {w : Window} {period : ℕ} {bad : ℕ → Bool} {x y i : ℕ} {at : List ℕ} {count : ℕ} (k : Walked w period bad x y i at count) where
+module _ {w : Window} {period : ℕ} {bad : ℕ → Bool} {x y i : ℕ} {near : List ℕ} (k : Walked w period bad x y i near) where
   -- one step of the list
   next : (all : List Step) → map pair_of all ≡ steps → i < 8
       → onward w period bad x y i
@@ -156,51 +153,37 @@ module _ {w : Window} {period : ℕ} {bad : ℕ → Bool} {x y i : ℕ} {at : Li
   unfolding near_on
   next all e h = rw (add-one, drop-cons steps i (pair_of stay) h, sound-pick, step-at all i e) refl
 
-  pub walk_at : (all : List Step) {r : Neighbour} {xx yy p : ℕ} → map pair_of all ≡ steps → i < 8
-      → r ≡ near_by w period bad x y (step_on all i) → r ≡ N.At xx yy → p ≡ first_of w xx yy + 0
-      → Walked w period bad x y (i + 1) (set at count p) (count + 1)
-  walk_at all {r} {xx} {yy} {p} e h f g u =
-      let n = rw (sym f ∙ g) at (next all e h) in
-      let v : p ≡ first_of w xx yy = u ∙ add-zero (first_of w xx yy) in
-      let put : take (count + 1) (set at count p) ≡ take count at ++ (p ∷ []) =
-      rw add-one (take-suc-set at count p (omega (arith, k.few, k.long))) in
+  pub walk_at : (all : List Step) {to : Spot} {p : ℕ} → map pair_of all ≡ steps → i < 8
+      → Some to ≡ near_by w period bad x y (step_on all i) → p ≡ first_of w to.x to.y + 0
+      → Walked w period bad x y (i + 1) (near ++ p ∷ [])
+  walk_at all {to} {p} e h f u =
+      let n = rw (sym f) at (next all e h) in
+      let v : p ≡ first_of w to.x to.y = u ∙ add-zero (first_of w to.x to.y) in
       record {
-        within = omega arith;
-        few = omega (arith, k.few);
-        long = length-set at count p ∙ k.long;
+        few = omega (arith, k.few, length-append near (p ∷ []));
         left =
-            ap (λ (l : List ℕ). l ++ onward w period bad x y (i + 1)) put
-            ∙ append_assoc (take count at) (p ∷ []) (onward w period bad x y (i + 1))
-            ∙ ap (λ (q : ℕ). take count at ++ (q ∷ onward w period bad x y (i + 1))) v
-            ∙ ap (λ (l : List ℕ). take count at ++ l) (sym n) ∙ k.left;
+            append_assoc near (p ∷ []) (onward w period bad x y (i + 1))
+            ∙ ap (λ (q : ℕ). near ++ (q ∷ onward w period bad x y (i + 1))) v
+            ∙ ap (λ (l : List ℕ). near ++ l) (sym n) ∙ k.left;
       }
 
-  pub walk-missing : (all : List Step) {r : Neighbour} → map pair_of all ≡ steps → i < 8 → r ≡ near_by w period bad x y (step_on all i)
-      → r ≡ N.Missing → Walked w period bad x y (i + 1) at count
-  walk-missing all e h f g =
-      let n = rw (sym f ∙ g) at (next all e h) in
-      record {
-        within = omega arith;
-        few = omega (arith, k.few);
-        long = k.long;
-        left = ap (λ (l : List ℕ). take count at ++ l) (sym n) ∙ k.left;
-      }
+  pub walk-missing : (all : List Step) → map pair_of all ≡ steps → i < 8 → None ≡ near_by w period bad x y (step_on all i)
+      → Walked w period bad x y (i + 1) near
+  walk-missing all e h f =
+      let n = rw (sym f) at (next all e h) in
+      record { few = omega (arith, k.few); left = ap (λ (l : List ℕ). near ++ l) (sym n) ∙ k.left }
 
   -- nothing is marked: every position of the window is sound
   pub walk-free : (all : List Step) {xx yy p : ℕ} → map pair_of all ≡ steps → i < 8 → bad ≡ none → xx ≡ moved x (step_on all i).0 period w.width
       → yy ≡ moved y (step_on all i).1 period w.height → (xx < w.width) × (yy < w.height) → p ≡ first_of w xx yy + 0
-      → Walked w period bad x y (i + 1) (set at count p) (count + 1)
+      → Walked w period bad x y (i + 1) (near ++ p ∷ [])
   walk-free all {xx} {yy} e h b f g s u =
-      walk_at all {r = N.At xx yy} e h
+      walk_at all {to = record { x = xx; y = yy }} e h
       (open-sound w.width w.height bad xx yy s.0 s.1 (ap (λ (m : ℕ → Bool). m (yy * w.width + xx)) b)
       ∙ step_is w period bad x y xx yy (step_on all i) f g)
-      refl u
+      u
 
-  pub walk_end : 8 ≤ i → (count ≡ length (near_of w period bad x y)) × (take count at ≡ near_of w period bad x y)
+  pub walk_end : i ≡ 8 → near ≡ near_of w period bad x y
   unfolding near_on
-  walk_end h =
-      let done : i ≡ 8 = omega (arith, k.within) in
-      let all : take count at ≡ near_of w period bad x y =
-      sym (append-nil (take count at))
-      ∙ subst (λ (j : ℕ). take count at ++ onward w period bad x y j ≡ near_of w period bad x y) done k.left in
-      (sym (length-take-le count at (omega (arith, k.few, k.within, k.long))) ∙ ap length all, all)
+  walk_end done =
+      sym (append-nil near) ∙ subst (λ (j : ℕ). near ++ onward w period bad x y j ≡ near_of w period bad x y) done k.left

@@ -1,25 +1,22 @@
 -- What is asked of a position whose neighbours are looked for, which of them are sound, and the steps and neighbours as
 -- the code has them.
 -- Document 01, 'What each does to a value', Repair.
-use Rattle.std.specs.Prelude.{ℕ, ◌+◌, ◌*◌, ◌/◌, ◌%◌, ◌≤◌, ◌<◌, Bool, true, false, not, ◌&&◌, cond, List, [], ◌∷◌, ◌≡◌, leb, ltb, eqb, ℤ, pos, negsuc, length, get_or, take}
+use Rattle.std.specs.Prelude.{ℕ, ◌+◌, ◌*◌, ◌/◌, ◌%◌, ◌≤◌, ◌<◌, Bool, true, false, not, ◌&&◌, cond, List, [], ◌∷◌, Option, Some, None, ◌≡◌, leb, ltb, eqb, ℤ, pos, negsuc, length, get_or, take}
 use Rattle.dng.specs.declared.Window.{Window}
 use Rattle.dng.specs.Repair.{steps, moved, sound}
 use Rattle.fix_scratch.specs.Marks.{Fits}
 use Rattle.num_sorted.specs.Sorts.{has, Rises}
+use Rattle.fix_constant.specs.declared.Spot.{Spot}
 use Rattle.fix_near.specs.declared.Step.{Step}
-use Rattle.fix_near.specs.declared.Near.{Near}
-use Rattle.fix_near.specs.declared.Neighbour.{Neighbour}
-use Rattle.fix_near.specs.declared.Neighbour.TheVariants as N
 
--- the position lies in the window, the period is in range, and the first n entries of the scratch ascend
-pub record Asks (marks : List ℕ) (n : ℕ) (w : Window) (period x y : ℕ) : Type 0 where
+-- the position lies in the window, the period is in range, and the marks ascend
+pub record Asks (marks : List ℕ) (w : Window) (period x y : ℕ) : Type 0 where
   pub fits : Fits w
   pub column : x < w.width
   pub row : y < w.height
   pub step : 1 ≤ period
   pub far : period ≤ 65536
-  pub held : n ≤ length marks
-  pub rises : Rises 0 (take n marks)
+  pub rises : Rises 0 marks
 
 -- all eight neighbours lie in the window
 pub record Inside (w : Window) (period x y : ℕ) : Type 0 where
@@ -50,11 +47,11 @@ Lone bad w period x y = LoneOn bad w period x y steps
 
 -- ---- the same of mark i
 
-abbrev pub AsksMark : List ℕ → (n : ℕ) → Window → (period i : ℕ) → Type 0
-AsksMark marks n w period i = (i < n) × Asks marks n w period (get_or marks i 0 % w.width) (get_or marks i 0 / w.width)
+abbrev pub AsksMark : List ℕ → Window → (period i : ℕ) → Type 0
+AsksMark marks w period i = (i < length marks) × Asks marks w period (get_or marks i 0 % w.width) (get_or marks i 0 / w.width)
 
-abbrev pub LoneMark : List ℕ → (n : ℕ) → Window → (period i : ℕ) → Type 0
-LoneMark marks n w period i = Lone (marked marks n) w period (get_or marks i 0 % w.width) (get_or marks i 0 / w.width)
+abbrev pub LoneMark : List ℕ → Window → (period i : ℕ) → Type 0
+LoneMark marks w period i = Lone (has marks) w period (get_or marks i 0 % w.width) (get_or marks i 0 / w.width)
 
 -- ---- where their samples begin
 
@@ -70,10 +67,6 @@ near_on w period bad x y (d ∷ ds) =
 
 abbrev pub near_of : Window → (period : ℕ) → (ℕ → Bool) → (x y : ℕ) → List ℕ
 near_of w period bad x y = near_on w period bad x y steps
-
--- a record that holds them
-abbrev pub Lists : Near → List ℕ → Type 0
-Lists r l = (r.n ≡ length l) × (take r.n r.at ≡ l)
 
 -- ---- the parts
 
@@ -92,9 +85,9 @@ Steps period x y d =
     ((one_step d.0 ≡ true) × (one_step d.1 ≡ true)) × ((period ≤ 65536) × ((x ≤ 65536) × (y ≤ 65536)))
 
 -- the position (x, y), where it lies in the window and is not marked
-unfoldable pub open_at : (width height : ℕ) → (ℕ → Bool) → (x y : ℕ) → Neighbour
-open_at width height bad x y = cond (ltb x width && (ltb y height && not (bad (y * width + x)))) (N.At x y) N.Missing
+unfoldable pub open_at : (width height : ℕ) → (ℕ → Bool) → (x y : ℕ) → Option Spot
+open_at width height bad x y = cond (ltb x width && (ltb y height && not (bad (y * width + x)))) (Some (record { x = x; y = y })) None
 
 -- the neighbour one step away, where it is sound
-unfoldable pub sound_of : (width height period : ℕ) → (ℕ → Bool) → (x y : ℕ) → ℤ × ℤ → Neighbour
-sound_of width height period bad x y d = sound width height period bad x y d (λ xx yy. N.At xx yy) N.Missing
+unfoldable pub sound_of : (width height period : ℕ) → (ℕ → Bool) → (x y : ℕ) → ℤ × ℤ → Option Spot
+sound_of width height period bad x y d = sound width height period bad x y d (λ xx yy. Some (record { x = xx; y = yy })) None

@@ -1,14 +1,15 @@
 // The sound neighbours of a position: which they are, and where their samples begin.
 #![tactic(auto)]
 
-ghost use Rattle.std.specs.Prelude.{◌≡◌, true, cond, map, ◌≤◌, ◌<◌};
+ghost use Rattle.std.specs.Prelude.{◌≡◌, true, ℕ, List, [], ◌∷◌, ◌++◌, length, map, take, ◌≤◌, ◌<◌};
 ghost use Rattle.dng.specs.Repair.{steps, moved};
+ghost use Rattle.num_sorted.specs.Sorts.{has, Rises};
 ghost use Rattle.fix_scratch.specs.Marks.{Fits};
-ghost use Rattle.fix_places.specs.Beside.{Ascends};
-ghost use Rattle.fix_near.specs.Looks.{Asks, Inside, none, Lone, marked, pair_of, one_step, Steps, open_at, sound_of, near_of, Lists};
+ghost use Rattle.fix_near.specs.Looks.{Asks, Inside, none, Lone, pair_of, one_step, Steps, open_at, sound_of, near_of};
 
 use dng::Window;
 use fix_constant::Spot;
+use std::marker::Model;
 
 // One step to a neighbour, in columns and rows of the period.
 #[derive(Clone, Copy)]
@@ -17,18 +18,41 @@ pub struct Step {
     pub dy: i64,
 }
 
-// A sound neighbour's column and row, or none.
-#[derive(Clone, Copy)]
-pub enum Neighbour {
-    At { x: usize, y: usize },
-    Missing,
+// Where the samples of the sound neighbours begin: the first n.
+#[derive(Drop)]
+pub struct Near {
+    at: [usize; 8],
+    n: usize,
 }
 
-// Where the samples of the sound neighbours begin: the first n.
-#[derive(Clone, Copy)]
-pub struct Near {
-    pub at: [usize; 8],
-    pub n: usize,
+impl Model for Near {
+    ghost Value = { List ℕ };
+
+    ghost view = { λ r. take r.n r.at };
+
+    ghost invariant = { λ r. r.n ≤ 8 };
+}
+
+impl Near {
+    fn none() -> Near
+        ensures { result ≡ [] }
+    {
+        Near { at: [0; 8], n: 0 }
+    }
+
+    fn push(&mut self, first: usize)
+        requires { length self.old < 8 }
+        ensures { self.new ≡ self.old ++ first ∷ [] }
+    {
+        self.at[self.n] = first;
+        self.n += 1;
+    }
+
+    pub fn as_slice(&self) -> &[usize]
+        ensures { result.now ≡ self.now }
+    {
+        &self.at[..self.n]
+    }
 }
 
 // Left, right, up, down, up-left, down-right, down-left, up-right.
@@ -62,163 +86,103 @@ fn shifted(at: usize, d: i64, period: usize, outside: usize) -> usize
 }
 
 // The position one step away; the width or the height where that would be below 0.
-fn stepped(w: Window, period: usize, x: usize, y: usize, s: Step) -> Spot
-    requires { Steps period x y (pair_of s) }
-    ensures { (result.x ≡ moved x s.dx period w.width) × (result.y ≡ moved y s.dy period w.height) }
+fn stepped(w: Window, period: usize, from: Spot, s: Step) -> Spot
+    requires { Steps period from.x from.y (pair_of s) }
+    ensures { (result.x ≡ moved from.x s.dx period w.width) × (result.y ≡ moved from.y s.dy period w.height) }
 {
-    let dx = s.dx;
-    let dy = s.dy;
-    let xx = shifted(x, dx, period, w.width);
-    let yy = shifted(y, dy, period, w.height);
-    Spot { x: xx, y: yy }
+    Spot {
+        x: shifted(from.x, s.dx, period, w.width),
+        y: shifted(from.y, s.dy, period, w.height),
+    }
 }
 
-// Whether the position lies in the window and is not marked; it is sought among the marks from place k.
-fn sound_at(
-    marks: &[u32],
-    n: usize,
-    w: Window,
-    x: usize,
-    y: usize,
-    places: &mut [usize; 8],
-    k: usize,
-) -> Neighbour
-    requires { Fits w × (Ascends marks.now n × (k < 8)) }
-    ensures { result ≡ open_at w.width w.height (marked marks.now n) x y }
+// The position, where it lies in the window and is not marked; it is sought among the marks from the place on.
+fn sound_at(marks: &[u32], w: Window, to: Spot, place: &mut usize) -> Option<Spot>
+    requires { Fits w × Rises 0 marks.now }
+    ensures { result ≡ open_at w.width w.height (has marks.now) to.x to.y }
 {
-    if x < w.width {
-        if y < w.height {
-            if fix_places::seek(marks, n, fix_constant::position(w, x, y), places, k) {
-                return Neighbour::Missing;
-            }
-            return Neighbour::At { x, y };
-        }
+    if w.width <= to.x || w.height <= to.y {
+        return None;
     }
-    Neighbour::Missing
+    let q = fix_constant::position(w, to.x, to.y);
+    if fix_places::seek(marks, q, place) {
+        None
+    } else {
+        Some(to)
+    }
 }
 
 // The neighbour one step away, where it is sound.
 fn beside(
     marks: &[u32],
-    n: usize,
     w: Window,
     period: usize,
-    x: usize,
-    y: usize,
+    from: Spot,
     s: Step,
-    places: &mut [usize; 8],
-    k: usize,
-) -> Neighbour
-    requires { Asks marks.now n w period x y × (Steps period x y (pair_of s) × (k < 8)) }
-    ensures { result ≡ sound_of w.width w.height period (marked marks.now n) x y (pair_of s) }
+    place: &mut usize,
+) -> Option<Spot>
+    requires { Asks marks.now w period from.x from.y × Steps period from.x from.y (pair_of s) }
+    ensures { result ≡ sound_of w.width w.height period (has marks.now) from.x from.y (pair_of s) }
 {
-    let to = stepped(w, period, x, y, s);
-    sound_at(marks, n, w, to.x, to.y, places, k)
+    sound_at(marks, w, stepped(w, period, from, s), place)
 }
 
 // The sound neighbours, step by step. Each step has a place among the marks, which moves on with the positions that are
 // asked for.
-fn around(
-    marks: &[u32],
-    n: usize,
-    w: Window,
-    period: usize,
-    x: usize,
-    y: usize,
-    places: &mut [usize; 8],
-) -> Near
-    requires { Asks marks.now n w period x y }
-    ensures { Lists result (near_of w period (marked marks.now n) x y) }
+fn around(marks: &[u32], w: Window, period: usize, from: Spot, places: &mut [usize; 8]) -> Near
+    requires { Asks marks.now w period from.x from.y }
+    ensures { result ≡ near_of w period (has marks.now) from.x from.y }
 {
     let all = steps();
-    let mut at = [0; 8];
-    let mut count = 0;
-    let mut i = 0;
-    while i < 8 {
-        let s = all[i];
-        let next = beside(marks, n, w, period, x, y, s, places, i);
-        match next {
-            Neighbour::At { x: xx, y: yy } => {
-                at[count] = fix_constant::place(w, xx, yy, 0);
-                count += 1;
-                i += 1;
-            }
-            Neighbour::Missing => {
-                i += 1;
-            }
+    let mut near = Near::none();
+    for (i, s) in all.iter().enumerate() {
+        if let Some(to) = beside(marks, w, period, from, *s, &mut places[i]) {
+            near.push(fix_constant::place(w, to.x, to.y, 0));
         }
     }
-    Near { at, n: count }
+    near
 }
 
 // Whether all eight neighbours lie in the window.
-fn inside(w: Window, period: usize, x: usize, y: usize) -> bool
-    requires { (x ≤ 65536) × ((y ≤ 65536) × (period ≤ 65536)) }
-    ensures { result ≡ true → Inside w period x y }
+fn inside(w: Window, period: usize, from: Spot) -> bool
+    requires { (from.x ≤ 65536) × ((from.y ≤ 65536) × (period ≤ 65536)) }
+    ensures { result ≡ true → Inside w period from.x from.y }
 {
-    if x < period {
-        return false;
-    }
-    if y < period {
-        return false;
-    }
-    if w.width <= x + period {
-        return false;
-    }
-    y + period < w.height
-}
-
-// Whether a position is known to be lone and all its eight neighbours lie in the window.
-fn lone_inside(w: Window, period: usize, x: usize, y: usize, lone: bool) -> bool
-    requires { (x ≤ 65536) × ((y ≤ 65536) × (period ≤ 65536)) }
-    ensures { result ≡ true → (lone ≡ true) × Inside w period x y }
-{
-    if lone {
-        return inside(w, period, x, y);
-    }
-    false
+    period <= from.x && period <= from.y && from.x + period < w.width && from.y + period < w.height
 }
 
 // All eight neighbours, none marked and each in the window, step by step. Nothing is tested, so that no loop is left
 // of the walk when it is compiled.
-fn eight(w: Window, period: usize, x: usize, y: usize) -> Near
-    requires { Fits w × ((period ≤ 65536) × Inside w period x y) }
-    ensures { Lists result (near_of w period none x y) }
+fn eight(w: Window, period: usize, from: Spot) -> Near
+    requires { Fits w × ((period ≤ 65536) × Inside w period from.x from.y) }
+    ensures { result ≡ near_of w period none from.x from.y }
 {
-    let all = steps();
-    let mut at = [0; 8];
-    let mut i = 0;
-    while i < 8 {
-        let to = stepped(w, period, x, y, all[i]);
-        at[i] = fix_constant::place(w, to.x, to.y, 0);
-        i += 1;
+    let mut near = Near::none();
+    for s in steps() {
+        let to = stepped(w, period, from, s);
+        near.push(fix_constant::place(w, to.x, to.y, 0));
     }
-    Near { at, n: i }
-}
-
-// How many marks are to be looked at: around a lone position, none.
-fn asked(n: usize, lone: bool) -> usize
-    ensures { result ≡ cond lone 0 n }
-{
-    if lone { 0 } else { n }
+    near
 }
 
 // The sound neighbours of a position that may be known to be lone: then no mark is looked at.
 pub fn all_near(
     marks: &[u32],
-    n: usize,
     w: Window,
     period: usize,
-    x: usize,
-    y: usize,
+    from: Spot,
     lone: bool,
     places: &mut [usize; 8],
 ) -> Near
-    requires { Asks marks.now n w period x y × (lone ≡ true → Lone (marked marks.now n) w period x y) }
-    ensures { Lists result (near_of w period (marked marks.now n) x y) }
+    requires { Asks marks.now w period from.x from.y × (lone ≡ true → Lone (has marks.now) w period from.x from.y) }
+    ensures { result ≡ near_of w period (has marks.now) from.x from.y }
 {
-    if lone_inside(w, period, x, y, lone) {
-        return eight(w, period, x, y);
+    if !lone {
+        return around(marks, w, period, from, places);
     }
-    around(marks, asked(n, lone), w, period, x, y, places)
+    if inside(w, period, from) {
+        eight(w, period, from)
+    } else {
+        around(&[], w, period, from, places)
+    }
 }

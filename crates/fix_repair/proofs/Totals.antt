@@ -8,7 +8,7 @@ use native.Mathlib.Omega.{arith}
 use borrow.Author.Tests.{eq-eqb, ne_eqb, le-leb, lt-leb}
 use lib.Dec.{leb, eqb}
 use lib.Ieee.{Float}
-use lib.ListN.{take}
+use lib.ListN.{length}
 use Rattle.pointwise.specs.Points.{each}
 use Rattle.pointwise.proofs.Each.{each-agree, each_none}
 use Rattle.dng.specs.declared.Window.{Window}
@@ -17,15 +17,14 @@ use Rattle.dng.specs.Repair.{positions, sample_at, steps, step_of, sound_at, mar
 use Rattle.dng.specs.Run.{Kind, Room, going, marks_full, repair_on}
 use Rattle.fix_scratch.specs.Marks.{chosen}
 use Rattle.fix_scratch.proofs.Chosen.{count_same, chosen-has}
-use Rattle.fix_near.specs.Looks.{marked}
 use Rattle.fix_means.proofs.Tallies.{sound-on-ext, tally-ext}
 use Rattle.num_sorted.specs.Sorts.{has}
 use Rattle.num_sorted.proofs.Occ.{by_cases, equal-or}
-use Rattle.fix_repair.specs.declared.Fixed.{Fixed}
-use Rattle.fix_repair.specs.declared.Fixed.TheVariants as F
+use Rattle.std.specs.Prelude.{Some, None}
+use Rattle.fix_repair.specs.declared.Repaired.{Repaired}
 use Rattle.fix_repair.specs.Fixes.{Fixes}
 use Rattle.fix_fills.specs.Fills.{mendable, count_in, mended}
-use Rattle.fix_repair.specs.Works.{Settled}
+use Rattle.fix_repair.specs.Works.{settled}
 use Rattle.fix_fills.proofs.Placing.{position-of}
 use Rattle.fix_repair.proofs.Counting.{count-chosen, count-parts, count_none, count-below}
 
@@ -93,7 +92,7 @@ repair-none none to_float of_mean w bad h period s =
 
 module _ {A : Type 0} (kind : Kind A) (w : Window) (period : ℕ) (room : Room) (bad : ℕ → Bool) (s : List A) where
   -- no marks: nothing, whatever the scratch
-  pub fixes-none : ((q : ℕ) → bad q ≡ false) → Fixes kind w period room bad s s (F.Done 0 0)
+  pub fixes-none : ((q : ℕ) → bad q ≡ false) → Fixes kind w period room bad s s (Some (record { repaired = 0; left = 0 }))
   unfolding repair_on marked_in repaired_in left_in
   fixes-none h k a b =
       rw (
@@ -105,7 +104,7 @@ module _ {A : Type 0} (kind : Kind A) (w : Window) (period : ℕ) (room : Room) 
       ) refl
 
   -- what is answered are the totals: so their sum is the number of marks, and at most that of the positions
-  pub fixes-totals : (s' : List A) (a b : ℕ) → Fixes kind w period room bad s s' (F.Done a b) → (a ≡ repaired_in w period bad) × (b ≡ left_in w period bad)
+  pub fixes-totals : (s' : List A) (a b : ℕ) → Fixes kind w period room bad s s' (Some (record { repaired = a; left = b })) → (a ≡ repaired_in w period bad) × (b ≡ left_in w period bad)
   unfolding repair_on
   fixes-totals s' a b f = go (leb (marked_in w bad) room.marks) (f 0 0 0)
     where
@@ -121,26 +120,26 @@ module _ {A : Type 0} (kind : Kind A) (w : Window) (period : ℕ) (room : Room) 
           (omega arith, omega arith)
       go false e = absurd (let z : ◌≡◌ {A = ℕ} 0 1 = cc in omega arith)
 
-  pub fixes-few : (s' : List A) (a b : ℕ) → Fixes kind w period room bad s s' (F.Done a b) → (a + b ≡ marked_in w bad) × (a + b ≤ positions w)
+  pub fixes-few : (s' : List A) (a b : ℕ) → Fixes kind w period room bad s s' (Some (record { repaired = a; left = b })) → (a + b ≡ marked_in w bad) × (a + b ≤ positions w)
   unfolding marked_in
   fixes-few s' a b f =
       let t = fixes-totals s' a b f in
       let few : marked_in w bad ≤ positions w = count-below (positions w) bad in
       (omega (arith, t.0, t.1, totals w period bad), omega (arith, few, t.0, t.1, totals w period bad))
 
-  pub fixes-marks : room.marks < marked_in w bad → Fixes kind w period room bad s s F.Marks
+  pub fixes-marks : room.marks < marked_in w bad → Fixes kind w period room bad s s None
   unfolding repair_on
   fixes-marks h k a b = rw (lt-leb (marked_in w bad) room.marks h) refl
 
-  -- n marks at the front of the scratch, all of them settled
-  module _ (marks : List ℕ) (n step : ℕ) (d : step ≡ step_of period) (e : take n marks ≡ chosen bad 0 (positions w)) (c : n ≡ marked_in w bad)
-      (fit : n ≤ room.marks) where
-    pub fixes-settled : (s' : List A) (r : Fixed) → Settled marks n w step r
-        → s' ≡ each (repair_at kind.none kind.to_float kind.of_mean w step (marked marks n) s) s → Fixes kind w period room bad s s' r
+  -- the marks in a list, all of them settled
+  module _ (marks : List ℕ) (step : ℕ) (d : step ≡ step_of period) (e : marks ≡ chosen bad 0 (positions w)) (c : length marks ≡ marked_in w bad)
+      (fit : length marks ≤ room.marks) where
+    pub fixes-settled : (s' : List A) (r : Repaired) → r ≡ settled marks w step
+        → s' ≡ each (repair_at kind.none kind.to_float kind.of_mean w step (has marks) s) s → Fixes kind w period room bad s s' (Some r)
     unfolding repair_on
     fixes-settled s' r done new k u v =
-        let many : mended marks n w step ≡ repaired_in w period bad = repaired-is w period step bad (take n marks) e d in
-        let rest : n - mended marks n w step ≡ left_in w period bad = omega (arith, many, totals w period bad) in
+        let many : mended marks w step ≡ repaired_in w period bad = repaired-is w period step bad marks e d in
+        let rest : length marks - mended marks w step ≡ left_in w period bad = omega (arith, many, totals w period bad) in
         let all : s' ≡ each (repair_at kind.none kind.to_float kind.of_mean w period bad s) s =
-        new ∙ repair-ext kind.none kind.to_float kind.of_mean w (marked marks n) bad (held_same w period step bad (take n marks) e d) period step s d in
+        new ∙ repair-ext kind.none kind.to_float kind.of_mean w (has marks) bad (held_same w period step bad marks e d) period step s d in
         rw (done, le-leb (marked_in w bad) room.marks (omega arith), rest, many, all) refl

@@ -1,9 +1,8 @@
 -- What the stages of a repair ask and promise. Document 01, 'What each does to a value', Repair.
-use Rattle.std.specs.Prelude.{ℕ, ◌-◌, ◌≤◌, List, ◌≡◌}
+use Rattle.std.specs.Prelude.{ℕ, ◌-◌, ◌≤◌, List, length}
 use Rattle.dng.specs.declared.Window.{Window}
 use Rattle.fix_fills.specs.Fills.{mended}
-use Rattle.fix_repair.specs.declared.Fixed.{Fixed}
-use Rattle.fix_repair.specs.declared.Fixed.TheVariants as F
+use Rattle.fix_repair.specs.declared.Repaired.{Repaired}
 
 -- what a run has checked of its window
 pub record Ranges (w : Window) : Type 0 where
@@ -15,6 +14,7 @@ pub record Ranges (w : Window) : Type 0 where
   pub x0 : w.x0 ≤ 16777216
   pub y0 : w.y0 ≤ 16777216
 
--- of the first n marks those with a sound neighbour are repaired, the others left
-abbrev pub Settled : List ℕ → (n : ℕ) → Window → (step : ℕ) → Fixed → Type 0
-Settled marks n w step r = r ≡ F.Done (mended marks n w step) (n - mended marks n w step)
+-- of the marks those with a sound neighbour are repaired, the others left
+abbrev pub settled : List ℕ → Window → (step : ℕ) → Repaired
+settled marks w step =
+    record { repaired = mended marks w step; left = length marks - mended marks w step }

@@ -10,8 +10,8 @@ use lib.Dec.{leb, ltb, eqb}
 use lib.ListN.{length, get_or, take, drop, length-drop}
 use lib.Seq.{get_or-take, get_or-drop, length-take-le}
 use Rattle.dng.specs.Repair.{count_below}
-use Rattle.fix_scratch.specs.declared.Kept.{Kept}
-use Rattle.fix_scratch.specs.declared.Kept.TheVariants as K
+use Rattle.std.specs.Prelude.{Option, Some, None}
+use Rattle.fix_scratch.specs.declared.Held.{Held}
 use Rattle.fix_scratch.specs.Marks.{chosen}
 use Rattle.num_sorted.specs.Sorts.{occ, has, Rises, Cut}
 use Rattle.fix_scratch.specs.Scratch.{Front, Packed, Tidied, Gains, Joined, span}
@@ -70,22 +70,17 @@ pub gains-kept : (top : ℕ) (m : ℕ → Bool) (s : List ℕ) (t : ℕ) (s₁ :
 gains-kept top m s t s₁ n₁ t₁ s₂ g e l =
     record { front = front_kept top s₁ n₁ t₁ s₂ g.front e l; same = λ q h. ap (λ (x : List ℕ). has x q) e ∙ g.same q h }
 
--- what a step leaves that found room
-pub held-front : (top : ℕ) (m : ℕ → Bool) (s : List ℕ) (t₀ : ℕ) (s₁ : List ℕ) (r : Kept) (n t : ℕ) → r ≡ K.Held n t
-    → Joined top m s t₀ s₁ r → Gains top m s t₀ s₁ n t
-held-front top m s t₀ s₁ r n t e j = subst (λ (x : Kept). Joined top m s t₀ s₁ x) e j
-
 -- one step after another
-pub joined-next : (top : ℕ) (m₁ m₂ m : ℕ → Bool) (s : List ℕ) (t : ℕ) (s₁ : List ℕ) (n₁ t₁ : ℕ) (s₂ : List ℕ) (r : Kept)
+pub joined-next : (top : ℕ) (m₁ m₂ m : ℕ → Bool) (s : List ℕ) (t : ℕ) (s₁ : List ℕ) (n₁ t₁ : ℕ) (s₂ : List ℕ) (r : Option Held)
     → Gains top m₁ s t s₁ n₁ t₁ → length s₁ ≡ length s → ((q : ℕ) → q < top → m q ≡ (m₁ q || m₂ q)) → Joined top m₂ s₁ t₁ s₂ r
     → Joined top m s t s₂ r
-joined-next top m₁ m₂ m s t s₁ n₁ t₁ s₂ (K.Held n₂ t₂) g e h j =
+joined-next top m₁ m₂ m s t s₁ n₁ t₁ s₂ (Some k) g e h j =
     record {
       front = j.front;
       same = λ q l. j.same q l ∙ ap (λ (b : Bool). b || m₂ q) (g.same q l) ∙ or_assoc (has (take t s) q) (m₁ q) (m₂ q)
           ∙ ap (λ (b : Bool). has (take t s) q || b) (sym (h q l));
     }
-joined-next top m₁ m₂ m s t s₁ n₁ t₁ s₂ K.Full g e h j =
+joined-next top m₁ m₂ m s t s₁ n₁ t₁ s₂ None g e h j =
     let same : count_below top (λ q. has (take t₁ s₁) q || m₂ q) ≡ count_below top (λ q. has (take t s) q || m q) =
     count_same top (λ q. has (take t₁ s₁) q || m₂ q) (λ q. has (take t s) q || m q)
     (λ q l. ap (λ (b : Bool). b || m₂ q) (g.same q l) ∙ or_assoc (has (take t s) q) (m₁ q) (m₂ q) ∙ ap
@@ -93,11 +88,11 @@ joined-next top m₁ m₂ m s t s₁ n₁ t₁ s₂ K.Full g e h j =
     omega arith
 
 -- the same marks by another name
-pub joined_as : (top : ℕ) (m m' : ℕ → Bool) (s : List ℕ) (t : ℕ) (s' : List ℕ) (r : Kept) → ((q : ℕ) → q < top → m q ≡ m' q)
+pub joined_as : (top : ℕ) (m m' : ℕ → Bool) (s : List ℕ) (t : ℕ) (s' : List ℕ) (r : Option Held) → ((q : ℕ) → q < top → m q ≡ m' q)
     → Joined top m s t s' r → Joined top m' s t s' r
-joined_as top m m' s t s' (K.Held n' t') h j =
+joined_as top m m' s t s' (Some k) h j =
     record { front = j.front; same = λ q l. j.same q l ∙ ap (λ (b : Bool). has (take t s) q || b) (h q l) }
-joined_as top m m' s t s' K.Full h j =
+joined_as top m m' s t s' None h j =
     let same : count_below top (λ q. has (take t s) q || m q) ≡ count_below top (λ q. has (take t s) q || m' q) =
     count_same top (λ q. has (take t s) q || m q) (λ q. has (take t s) q || m' q)
     (λ q l. ap (λ (b : Bool). has (take t s) q || b) (h q l)) in
@@ -201,38 +196,36 @@ covered-by s n h a b m l k e r u = covered (take n s) a b h (h + (b - a)) u cut 
 
 -- ---- a loop of steps: after i of them what f i marks is held besides what was held at the start
 
-pub record Steps (top : ℕ) (f : ℕ → ℕ → Bool) (s₀ : List ℕ) (t₀ : ℕ) (s : List ℕ) (k u i : ℕ) : Type 0 where
-  pub gains : Gains top (f i) s₀ t₀ s k u
+pub record Steps (top : ℕ) (f : ℕ → ℕ → Bool) (s₀ : List ℕ) (t₀ : ℕ) (s : List ℕ) (k : Held) (i : ℕ) : Type 0 where
+  pub gains : Gains top (f i) s₀ t₀ s k.n k.t
   pub long : length s ≡ length s₀
 
-pub steps-start : (top : ℕ) (f : ℕ → ℕ → Bool) (s : List ℕ) (n t i : ℕ) → Front top s n t → ((q : ℕ) → f i q ≡ true → ⊥)
-    → Steps top f s t s n t i
-steps-start top f s n t i h none = record { gains = gains-held top (f i) s n t h (λ q l e. absurd (none q e)); long = refl }
+pub steps-start : (top : ℕ) (f : ℕ → ℕ → Bool) (s : List ℕ) (k : Held) (i : ℕ) → Front top s k.n k.t → ((q : ℕ) → f i q ≡ true → ⊥)
+    → Steps top f s k.t s k i
+steps-start top f s k i h none = record { gains = gains-held top (f i) s k.n k.t h (λ q l e. absurd (none q e)); long = refl }
 
-module _ (top : ℕ) (f : ℕ → ℕ → Bool) (s₀ : List ℕ) (t₀ : ℕ) (s : List ℕ) (k u i : ℕ) (v : Steps top f s₀ t₀ s k u i) (g : ℕ → Bool)
-    (s' : List ℕ) where
-  pub steps-to : (i' : ℕ) (r : Kept) (k' u' : ℕ) → r ≡ K.Held k' u' → Joined top g s u s' r → length s' ≡ length s
-      → ((q : ℕ) → q < top → f i' q ≡ (f i q || g q)) → Steps top f s₀ t₀ s' k' u' i'
-  steps-to i' r k' u' e j l h =
+module _ (top : ℕ) (f : ℕ → ℕ → Bool) (s₀ : List ℕ) (t₀ : ℕ) (s : List ℕ) (k : Held) (i : ℕ) (v : Steps top f s₀ t₀ s k i) (g : ℕ → Bool) where
+  pub steps-to : (s' : List ℕ) (i' : ℕ) (h' : Held) → Gains top g s k.t s' h'.n h'.t → length s' ≡ length s
+      → ((q : ℕ) → q < top → f i' q ≡ (f i q || g q)) → Steps top f s₀ t₀ s' h' i'
+  steps-to s' i' h' j l h =
       record {
-        gains = joined-next top (f i) g (f i') s₀ t₀ s k u s' (K.Held k' u') v.gains v.long h
-            (subst (λ (x : Kept). Joined top g s u s' x) e j);
+        gains = joined-next top (f i) g (f i') s₀ t₀ s k.n k.t s' (Some h') v.gains v.long h j;
         long = l ∙ v.long;
       }
 
-  pub steps_next : (r : Kept) (k' u' : ℕ) → r ≡ K.Held k' u' → Joined top g s u s' r → length s' ≡ length s
-      → ((q : ℕ) → q < top → f (i + 1) q ≡ (f i q || g q)) → Steps top f s₀ t₀ s' k' u' (i + 1)
-  steps_next = steps-to (i + 1)
+  pub steps_next : (s' : List ℕ) (h' : Held) → Gains top g s k.t s' h'.n h'.t → length s' ≡ length s
+      → ((q : ℕ) → q < top → f (i + 1) q ≡ (f i q || g q)) → Steps top f s₀ t₀ s' h' (i + 1)
+  steps_next s' = steps-to s' (i + 1)
 
-  pub steps-full : (m : ℕ → Bool) (r : Kept) → r ≡ K.Full → Joined top g s u s' r → ((q : ℕ) → q < top → f i q ≡ true → m q ≡ true)
+  pub steps-full : (m : ℕ → Bool) → length s < count_below top (λ q. has (take k.t s) q || g q)
+      → ((q : ℕ) → q < top → f i q ≡ true → m q ≡ true)
       → ((q : ℕ) → q < top → g q ≡ true → m q ≡ true) → length s₀ < count_below top (λ q. has (take t₀ s₀) q || m q)
-  steps-full m r e j a b =
-      joined-over top (f i) g m s₀ t₀ s k u v.gains v.long (λ q l d. or_cases (f i q) (g q) d (a q l) (b q l))
-      (subst (λ (x : Kept). Joined top g s u s' x) e j)
+  steps-full m j a b =
+      joined-over top (f i) g m s₀ t₀ s k.n k.t v.gains v.long (λ q l d. or_cases (f i q) (g q) d (a q l) (b q l)) j
 
-pub steps-end : (top : ℕ) (f : ℕ → ℕ → Bool) (s₀ : List ℕ) (t₀ : ℕ) (s : List ℕ) (k u i : ℕ) (m : ℕ → Bool) → Steps top f s₀ t₀ s k u i
-    → ((q : ℕ) → q < top → f i q ≡ m q) → Gains top m s₀ t₀ s k u
-steps-end top f s₀ t₀ s k u i m v h = joined_as top (f i) m s₀ t₀ s (K.Held k u) h v.gains
+pub steps-end : (top : ℕ) (f : ℕ → ℕ → Bool) (s₀ : List ℕ) (t₀ : ℕ) (s : List ℕ) (k : Held) (i : ℕ) (m : ℕ → Bool) → Steps top f s₀ t₀ s k i
+    → ((q : ℕ) → q < top → f i q ≡ m q) → Gains top m s₀ t₀ s k.n k.t
+steps-end top f s₀ t₀ s k i m v h = joined_as top (f i) m s₀ t₀ s (Some k) h v.gains
 
 -- ---- a span that is walked from a on: it ends at b, or at a where b is no further
 

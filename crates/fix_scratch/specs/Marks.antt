@@ -1,10 +1,8 @@
 -- Marks in the u32 scratch: the distinct marked positions, ascending, or too many for it. Document 01, 'What comes
 -- back' (5) and Repair.
-use Rattle.std.specs.Prelude.{ℕ, zero, suc, ◌≤◌, ◌<◌, Bool, cond, List, [], ◌∷◌, ◌≡◌, length, take}
+use Rattle.std.specs.Prelude.{ℕ, zero, suc, ◌≤◌, ◌<◌, Bool, cond, List, [], ◌∷◌, ◌≡◌, length, take, Option, Some, None}
 use Rattle.dng.specs.declared.Window.{Window}
 use Rattle.dng.specs.Repair.{count_below}
-use Rattle.fix_scratch.specs.declared.Marked.{Marked}
-use Rattle.fix_scratch.specs.declared.Marked.TheVariants as M
 
 -- the numbers from a on, n of them looked at, for which m holds: ascending, each once
 unfoldable pub chosen : (ℕ → Bool) → (a n : ℕ) → List ℕ
@@ -18,9 +16,9 @@ pub record Holds (top : ℕ) (m : ℕ → Bool) (s s' : List ℕ) (n : ℕ) : Ty
   pub front : take n s' ≡ chosen m 0 top
 
 -- what gathering the marks below top answers: all of them, or that there are more than the scratch has entries
-abbrev pub Gathered : (top : ℕ) → (ℕ → Bool) → (s s' : List ℕ) → Marked → Type 0
-Gathered top m s s' (M.All n) = Holds top m s s' n
-Gathered top m s s' M.TooMany = length s < count_below top m
+abbrev pub Gathered : (top : ℕ) → (ℕ → Bool) → (s s' : List ℕ) → Option ℕ → Type 0
+Gathered top m s s' (Some n) = Holds top m s s' n
+Gathered top m s s' None = length s < count_below top m
 
 -- what a repair has checked of its window
 pub record Fits (w : Window) : Type 0 where

@@ -18,9 +18,8 @@ use Rattle.dng.specs.declared.Answer.{Answer}
 use Rattle.dng.specs.declared.Answer.TheVariants as Ans
 use Rattle.dng.specs.declared.RowAnswer.{RowAnswer}
 use Rattle.dng.specs.declared.RowAnswer.TheVariants as Row
-use Rattle.dng.specs.declared.Reading.{Reading}
-use Rattle.dng.specs.declared.Reading.TheVariants as R
-use Rattle.dng.specs.List.{reason_number, reading_of, items_of}
+use Rattle.std.specs.Prelude.{Ok, Err}
+use Rattle.dng.specs.List.{reason_number, malformed, Reading, reading_of, items_of}
 use Rattle.dng.specs.Run.{kept_in, Progress, going, marks_full, skipped, takes_rows, names_of, row_on}
 use Rattle.dng.specs.Answer.{in_range, row_in_range, numbers_of, row_numbers_of, reading_numbers_of, Out, unchanged, finished, ran_on, read_out, run_out, RowOut, row_frame_of, row_read, row_out}
 use Rattle.law_promises.specs.Promises.{Call, End, out_of, Meets, Whole, skips, performed, Goes, When, RowWhen, Kept, Numbered}
@@ -46,7 +45,7 @@ module _ {A : Type 0} (c : Call A) where
   -- what is said of every outcome of the tests holds of the run
   module _ (P : Out A → Type 0)
       (range : in_range c.window c.period ≡ false → P (refused Ans.Range))
-      (malformed : (k : ℕ) (why : Refusal) → in_range c.window c.period ≡ true → reading_of c.list ≡ R.Malformed k why
+      (malformed : (k : ℕ) (why : Refusal) → in_range c.window c.period ≡ true → reading_of c.list ≡ Err (malformed k why)
       → P (refused (Ans.Malformed k why)))
       (goes : in_range c.window c.period ≡ true → Whole c.list → (t f : Bool) → c.takes (kept_in c.preview c.list) ≡ t
       → leb (skips c) (length c.names) ≡ f → (p : Progress A) → all ≡ p → P (tested t f p)) where
@@ -55,8 +54,8 @@ module _ {A : Type 0} (c : Call A) where
     tests = go (in_range c.window c.period) (reading_of c.list) refl refl
       where
         go : (i : Bool) (r : Reading) → in_range c.window c.period ≡ i → reading_of c.list ≡ r → P (cond i (reads r) (refused Ans.Range))
-        go true (R.Whole n) i r = goes i (n, r) (c.takes (kept_in c.preview c.list)) (leb (skips c) (length c.names)) refl refl all refl
-        go true (R.Malformed k why) i r = malformed k why i r
+        go true (Ok n) i r = goes i (n, r) (c.takes (kept_in c.preview c.list)) (leb (skips c) (length c.names)) refl refl all refl
+        go true (Err m) i r = malformed m.after m.why i r
         go false q i r = range i
 
   -- none of 1, 20 to 25, 3, 4: all opcodes, then the names
@@ -229,17 +228,17 @@ row-rest Row.NotTaken = (refl, refl, refl, refl)
 
 reading-number : (a : Reading) → (reading_numbers_of a).number < 20
     → ((reading_numbers_of a).number ≡ 0) × ((reading_numbers_of a).entry ≡ 0) × ((reading_numbers_of a).offset ≡ 0)
-reading-number (R.Whole n) h = (refl, refl, refl)
-reading-number (R.Malformed k why) h = absurd (omega (arith, reason-least why.reason))
+reading-number (Ok n) h = (refl, refl, refl)
+reading-number (Err m) h = absurd (omega (arith, reason-least m.why.reason))
 
 reading-most : (a : Reading) → (reading_numbers_of a).number ≤ 25
-reading-most (R.Whole n) = zero-le
-reading-most (R.Malformed k why) = reason-most why.reason
+reading-most (Ok n) = zero-le
+reading-most (Err m) = reason-most m.why.reason
 
 reading-rest : (a : Reading) → ((reading_numbers_of a).opcode ≡ 0) × ((reading_numbers_of a).names ≡ 0) × ((reading_numbers_of a).repaired ≡ 0)
     × ((reading_numbers_of a).left ≡ 0)
-reading-rest (R.Whole n) = (refl, refl, refl, refl)
-reading-rest (R.Malformed k why) = (refl, refl, refl, refl)
+reading-rest (Ok n) = (refl, refl, refl, refl)
+reading-rest (Err m) = (refl, refl, refl, refl)
 
 pub numbered : Numbered
 numbered =
@@ -282,8 +281,8 @@ module _ (w : RowWindow) (scale : Float) (preview : Bool) (y : ℕ) (list : List
 
       go : (i : Bool) (r : Reading) → row_in_range w y (length row) ≡ i → reading_of list ≡ r
           → RowWhen w preview y (length row) list (cond i (row_read w scale preview y list row r) (record { answer = Row.Range; row = row })).answer
-      go true (R.Whole n) i r = taken (takes_rows (kept_in preview list)) i (n, r) refl
-      go true (R.Malformed k why) i r = (i, r)
+      go true (Ok n) i r = taken (takes_rows (kept_in preview list)) i (n, r) refl
+      go true (Err m) i r = (i, r)
       go false r i q = i
 
   pub row-only : (a : RowAnswer) → RowWhen w preview y (length row) list a → (row_out w scale preview y list row).answer ≡ a

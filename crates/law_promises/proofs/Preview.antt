@@ -13,12 +13,14 @@ use Rattle.dng.specs.declared.RowWindow.{RowWindow}
 use Rattle.dng.specs.declared.Opcode.{Opcode}
 use Rattle.dng.specs.declared.Answer.TheVariants as Ans
 use Rattle.dng.specs.declared.RowAnswer.TheVariants as Row
-use Rattle.dng.specs.declared.Reading.{Reading}
-use Rattle.dng.specs.List.{Item, reading_of, items_of, body_of}
+use Rattle.std.specs.Prelude.{Ok}
+use Rattle.dng.specs.List.{Item, Reading, reading_of, items_of, body_of}
 use Rattle.dng.specs.Select.{on_row}
 use Rattle.dng.specs.Value.{Frame, rule_of}
 use Rattle.dng.specs.Repair.{marks_of, marked_in, repaired_in, left_in, repair_at}
-use Rattle.dng.specs.Run.{drops, kept_of, kept_in, Class, table, empty, local, repair, unapplied, class_of, name_of, skipped, skipped16, names_of, takes16_on, takes16_from, takes16, row_takes, takes_rows, Kind, f32_kind, u16_kind, Room, Progress, going, marks_full, repair_on, perform_on, perform, perform_all, row_on}
+use Rattle.dng.specs.declared.Class.{Class}
+use Rattle.dng.specs.declared.Class.TheVariants.{Table, Empty, Local, Repair, Unapplied}
+use Rattle.dng.specs.Run.{drops, kept_of, kept_in, class_of, name_of, skipped, skipped16, names_of, takes16_on, takes16_from, takes16, row_takes, takes_rows, Kind, f32_kind, u16_kind, Room, Progress, going, marks_full, repair_on, perform_on, perform, perform_all, row_on}
 use Rattle.dng.specs.Answer.{Out, in_range, row_in_range, unchanged, finished, takes_all, frame_of, row_frame_of, ran_on, read_out, run_out, RowOut, row_read, row_out}
 use Rattle.law_promises.specs.Preview.{kept_numbers, perform_by, unnumbered, Without, AsBefore, Alike, CutOut, unplaced_out, Previews}
 
@@ -43,11 +45,11 @@ module _ {A : Type 0} (kind : Kind A) (w : Window) (period : ℕ) (room : Room) 
     where
       on : (c : Class) → unnumbered (perform_on kind w period room c i.op (body_of list i.entry) k s r l)
           ≡ unnumbered (perform_on kind w period room c i.op (body_of list i.entry) m s r l)
-      on table = refl
-      on empty = refl
-      on local = refl
-      on repair = repair-un (marks_of kind.none w kind.is_bad i.op (body_of list i.entry) s) k m s r l
-      on unapplied = refl
+      on Table = refl
+      on Empty = refl
+      on Local = refl
+      on Repair = repair-un (marks_of kind.none w kind.is_bad i.op (body_of list i.entry) s) k m s r l
+      on Unapplied = refl
   perform-un i k m (marks_full s o) = refl
 
   -- ---- the entries that are left, from any numbers
@@ -127,11 +129,11 @@ names-alike skip list list' (i ∷ is) (j ∷ js) (o, b, h) =
 
 takes-on : (c : Class) (free : Bool) (f g : Bool → Bool) → ((b : Bool) → f b ≡ g b) → takes16_on c free f ≡ takes16_on c free g
 unfolding takes16_on
-takes-on table free f g h = h free
-takes-on empty free f g h = h free
-takes-on local free f g h = refl
-takes-on repair free f g h = ap (λ (b : Bool). free && b) (h false)
-takes-on unapplied free f g h = h free
+takes-on Table free f g h = h free
+takes-on Empty free f g h = h free
+takes-on Local free f g h = refl
+takes-on Repair free f g h = ap (λ (b : Bool). free && b) (h false)
+takes-on Unapplied free f g h = h free
 
 takes-alike : (list list' : List ℕ) (is js : List Item) → Alike list is list' js → (free : Bool) → takes16_from free is ≡ takes16_from free js
 unfolding takes16_from
@@ -216,7 +218,7 @@ module _ {A : Type 0} (kind : Kind A) (w : Window) (period : ℕ) (room : Room) 
         (perform_all kind w period room false list' 0 (items_of list') (going s 0 0))))
         (sym (all-kept (items_of list')))))))
 
-    run-alike : (n n' : ℕ) → reading_of list ≡ Reading.Whole n → reading_of list' ≡ Reading.Whole n'
+    run-alike : (n n' : ℕ) → reading_of list ≡ Ok n → reading_of list' ≡ Ok n'
         → unplaced_out (run_out kind takes skip w period preview room list s names)
         ≡ unplaced_out (run_out kind takes skip w period false room list' s names)
     unfolding run_out
@@ -238,7 +240,7 @@ row_made row taken ns t = cond taken (record { answer = Row.Done (length ns); ro
 
 row_read_lem : (w : RowWindow) (scale : Float) (preview : Bool) (y : ℕ) (list list' : List ℕ) (row : List Float)
     → Alike list (kept_in preview list) list' (items_of list') → (n n' : ℕ)
-    → row_read w scale preview y list row (Reading.Whole n) ≡ row_read w scale false y list' row (Reading.Whole n')
+    → row_read w scale preview y list row (Ok n) ≡ row_read w scale false y list' row (Ok n')
 row_read_lem w scale preview y list list' row h n n' =
     ap (λ (b : Bool). row_made row b (names_of skipped (kept_in preview list)) (row_on (row_frame_of w scale) w.x0 w.planes y list (kept_in preview list) row))
     (rows_alike list list' (kept_in preview list) (items_of list') h)

@@ -10,7 +10,9 @@ use Rattle.pointwise.specs.Points.{each}
 use Rattle.dng.specs.declared.Answer.TheVariants as Ans
 use Rattle.dng.specs.List.{Item, items_of, body_of}
 use Rattle.dng.specs.Repair.{marked_in, repaired_in, left_in, repair_at}
-use Rattle.dng.specs.Run.{drops, Class, table, empty, local, repair, unapplied, class_of, Progress, going, marks_full, Room, repair_on, perform_on, perform, perform_all}
+use Rattle.dng.specs.declared.Class.{Class}
+use Rattle.dng.specs.declared.Class.TheVariants.{Table, Empty, Local, Repair, Unapplied}
+use Rattle.dng.specs.Run.{drops, class_of, Progress, going, marks_full, Room, repair_on, perform_on, perform, perform_all}
 use Rattle.dng.specs.Answer.{finished}
 use Rattle.law_promises.specs.Promises.{Call, out_of, performed, When, with_room, marks_on, count_on, count_at, sum_from}
 use Rattle.law_promises.proofs.Stops.{still-marks}
@@ -72,11 +74,11 @@ module _ {A : Type 0} (c : Call A) where
         go : (z : Class) → perform_on c.kind c.window c.period c.room z i.op (body_of c.list i.entry) k s a b ≡ going t r l
             → count_on c marked z i s ≤ room.marks
             → perform_on c.kind c.window c.period room z i.op (body_of c.list i.entry) k s a b ≡ going t r l
-        go table e p = e
-        go empty e p = e
-        go local e p = e
-        go repair e p = ap (mends bad k s a b) (le-leb (marked bad) room.marks p) ∙ repaired-on bad k s a b t r l e
-        go unapplied e p = e
+        go Table e p = e
+        go Empty e p = e
+        go Local e p = e
+        go Repair e p = ap (mends bad k s a b) (le-leb (marked bad) room.marks p) ∙ repaired-on bad k s a b t r l e
+        go Unapplied e p = e
 
         either : (d : Bool)
             → cond d (going s a b) (perform c.kind c.window c.period c.room c.list i k (going s a b)) ≡ going t r l

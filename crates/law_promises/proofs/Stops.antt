@@ -11,7 +11,9 @@ use Rattle.pointwise.specs.Points.{each}
 use Rattle.dng.specs.declared.Window.{Window}
 use Rattle.dng.specs.List.{Item, body_of, items_of}
 use Rattle.dng.specs.Repair.{marks_of, marked_in, repaired_in, left_in, repair_at}
-use Rattle.dng.specs.Run.{drops, Class, table, empty, local, repair, unapplied, class_of, Kind, Progress, going, marks_full, Room, repair_on, perform_on, perform, perform_all}
+use Rattle.dng.specs.declared.Class.{Class}
+use Rattle.dng.specs.declared.Class.TheVariants.{Table, Empty, Local, Repair, Unapplied}
+use Rattle.dng.specs.Run.{drops, class_of, Kind, Progress, going, marks_full, Room, repair_on, perform_on, perform, perform_all}
 use Rattle.law_promises.specs.Promises.{Call, performed, Reached, MarksOver}
 
 module _ {A : Type 0} (kind : Kind A) (w : Window) (period : ℕ) (room : Room) (preview : Bool) (list : List ℕ) where
@@ -54,19 +56,19 @@ module _ {A : Type 0} (kind : Kind A) (w : Window) (period : ℕ) (room : Room) 
     item : Item
     rest : List Item
     stands : drop m is ≡ item ∷ rest
-    repairs : class_of item.op ≡ repair
+    repairs : class_of item.op ≡ Repair
     shown : drops preview item ≡ false
 
   -- what one opcode shows that stops
   abbrev Now : Item → ℕ → List A → Progress A → Type 0
   Now i k s (going t r l) = Unit
-  Now i k s (marks_full t o) = (t ≡ s) × (o ≡ k) × (class_of i.op ≡ repair) × (drops preview i ≡ false) × (room.marks < marked_in w (bad i t))
+  Now i k s (marks_full t o) = (t ≡ s) × (o ≡ k) × (class_of i.op ≡ Repair) × (drops preview i ≡ false) × (room.marks < marked_in w (bad i t))
 
   now : (i : Item) (k : ℕ) (s : List A) (r l : ℕ) → Now i k s (one i k (going s r l))
   unfolding repair_on
   now i k s r l = either (drops preview i) refl
     where
-      mends : drops preview i ≡ false → class_of i.op ≡ repair → (a : Bool) → leb (marked_in w (bad i s)) room.marks ≡ a
+      mends : drops preview i ≡ false → class_of i.op ≡ Repair → (a : Bool) → leb (marked_in w (bad i s)) room.marks ≡ a
           → Now i k s (cond a
           (going (each (repair_at kind.none kind.to_float kind.of_mean w period (bad i s) s) s) (r + repaired_in w period (bad i s))
           (l + left_in w period (bad i s)))
@@ -75,11 +77,11 @@ module _ {A : Type 0} (kind : Kind A) (w : Window) (period : ℕ) (room : Room) 
       mends d e false p = (refl, refl, e, d, leb-false _ _ p)
 
       go : drops preview i ≡ false → (z : Class) → class_of i.op ≡ z → Now i k s (perform_on kind w period room z i.op (body_of list i.entry) k s r l)
-      go d table e = tt
-      go d empty e = tt
-      go d local e = tt
-      go d repair e = mends d e (leb (marked_in w (bad i s)) room.marks) refl
-      go d unapplied e = tt
+      go d Table e = tt
+      go d Empty e = tt
+      go d Local e = tt
+      go d Repair e = mends d e (leb (marked_in w (bad i s)) room.marks) refl
+      go d Unapplied e = tt
 
       either : (d : Bool) → drops preview i ≡ d → Now i k s (cond d (going s r l) (perform kind w period room list i k (going s r l)))
       either true e = tt
@@ -91,7 +93,7 @@ module _ {A : Type 0} (kind : Kind A) (w : Window) (period : ℕ) (room : Room) 
   Seen k is g (marks_full t o) = (m : ℕ) × (o ≡ k + m) × (f : From k is g m t) × (room.marks < marked_in w (bad f.item t))
 
   module _ (i : Item) (is : List Item) (k : ℕ) (s : List A) (r l : ℕ) where
-    here : {t : List A} → t ≡ s → class_of i.op ≡ repair → drops preview i ≡ false → From k (i ∷ is) (going s r l) 0 t
+    here : {t : List A} → t ≡ s → class_of i.op ≡ Repair → drops preview i ≡ false → From k (i ∷ is) (going s r l) 0 t
     unfolding perform_all
     here e z d =
         record {
@@ -138,7 +140,7 @@ module _ {A : Type 0} (kind : Kind A) (w : Window) (period : ℕ) (room : Room) 
 
   -- ---- from the repair to the stop
 
-  module _ (i : Item) (k : ℕ) (t : List A) (r l : ℕ) (e : class_of i.op ≡ repair) (d : drops preview i ≡ false) where
+  module _ (i : Item) (k : ℕ) (t : List A) (r l : ℕ) (e : class_of i.op ≡ Repair) (d : drops preview i ≡ false) where
     one-repair : one i k (going t r l) ≡ repair_on kind w period room (bad i t) k t r l
     one-repair =
         ap (λ (b : Bool). cond b (going t r l) (perform kind w period room list i k (going t r l))) d

@@ -9,7 +9,9 @@ use lib.Dec.{leb}
 use Rattle.pointwise.specs.Points.{each}
 use Rattle.dng.specs.List.{Item, body_of, items_of}
 use Rattle.dng.specs.Repair.{marked_in, repaired_in, left_in, repair_at}
-use Rattle.dng.specs.Run.{drops, Class, table, empty, local, repair, unapplied, class_of, Progress, going, marks_full, repair_on, perform_on, perform, perform_all}
+use Rattle.dng.specs.declared.Class.{Class}
+use Rattle.dng.specs.declared.Class.TheVariants.{Table, Empty, Local, Repair, Unapplied}
+use Rattle.dng.specs.Run.{drops, class_of, Progress, going, marks_full, repair_on, perform_on, perform, perform_all}
 use Rattle.fix_repair.proofs.Totals.{totals}
 use Rattle.law_promises.proofs.Stops.{still-marks}
 use Rattle.law_promises.specs.Promises.{Call, performed, marks_on, count_on, count_at, sum_from, sum_over, Totals}
@@ -33,11 +35,11 @@ module _ {A : Type 0} (c : Call A) where
   -- ---- the parts of a sum
 
   parts-on : (z : Class) (i : Item) (t : List A) → count_on c mended z i t + count_on c stayed z i t ≡ count_on c marked z i t
-  parts-on table i t = refl
-  parts-on empty i t = refl
-  parts-on local i t = refl
-  parts-on repair i t = totals c.window c.period (marks_on c i t)
-  parts-on unapplied i t = refl
+  parts-on Table i t = refl
+  parts-on Empty i t = refl
+  parts-on Local i t = refl
+  parts-on Repair i t = totals c.window c.period (marks_on c i t)
+  parts-on Unapplied i t = refl
 
   parts_at : (i : Item) (g : Progress A) → count_at c mended i g + count_at c stayed i g ≡ count_at c marked i g
   parts_at i (going t r l) = either (drops c.preview i)
@@ -77,11 +79,11 @@ module _ {A : Type 0} (c : Call A) where
 
       go : (z : Class) → Comes a b (count_on c mended z i s) (count_on c stayed z i s)
           (perform_on c.kind c.window c.period c.room z i.op (body_of c.list i.entry) k s a b)
-      go table = (omega arith, omega arith)
-      go empty = (omega arith, omega arith)
-      go local = (omega arith, omega arith)
-      go repair = mends (leb (marked bad) c.room.marks)
-      go unapplied = (omega arith, omega arith)
+      go Table = (omega arith, omega arith)
+      go Empty = (omega arith, omega arith)
+      go Local = (omega arith, omega arith)
+      go Repair = mends (leb (marked bad) c.room.marks)
+      go Unapplied = (omega arith, omega arith)
 
       either : (d : Bool) → Comes a b (cond d 0 (count_on c mended (class_of i.op) i s)) (cond d 0 (count_on c stayed (class_of i.op) i s))
           (cond d (going s a b) (perform c.kind c.window c.period c.room c.list i k (going s a b)))

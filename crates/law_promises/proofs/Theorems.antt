@@ -14,9 +14,8 @@ use Rattle.dng.specs.declared.RowWindow.{RowWindow}
 use Rattle.dng.specs.declared.Reason.{Reason}
 use Rattle.dng.specs.declared.Reason.TheVariants as Why
 use Rattle.dng.specs.declared.Refusal.{Refusal}
-use Rattle.dng.specs.declared.Reading.{Reading}
-use Rattle.dng.specs.declared.Reading.TheVariants as R
-use Rattle.dng.specs.List.{reason_number, refusal, items_of, reading_of}
+use Rattle.std.specs.Prelude.{Ok, Err}
+use Rattle.dng.specs.List.{reason_number, refusal, items_of, malformed, Reading, reading_of}
 use Rattle.list_read.proofs.Fold.{refused}
 use Rattle.list_read.proofs.Offsets.{offset-held}
 use Rattle.dng.specs.Run.{Progress, going, marks_full}
@@ -125,10 +124,10 @@ reason-same p q h = sym (reason-of p) ∙ ap reason_of h ∙ reason-of q
 
 -- a refusal by its reason
 refused-for :
-    (list : List ℕ) (k : ℕ) (why : Refusal) (q : Reason) → reading_of list ≡ R.Malformed k why
+    (list : List ℕ) (k : ℕ) (why : Refusal) (q : Reason) → reading_of list ≡ Err (malformed k why)
     → reason_number why.reason ≡ reason_number q → RefusedFor list q
 refused-for list k why q e h =
-    (k, (why.at, e ∙ ap (λ (p : Reason). R.Malformed k (refusal p why.at)) (reason-same why.reason q h)))
+    (k, (why.at, e ∙ ap (λ (p : Reason). Err (malformed k (refusal p why.at))) (reason-same why.reason q h)))
 
 pub by-reason : ByReason
 by-reason =
@@ -170,8 +169,8 @@ by-reason =
     row-there w scale preview y list row r t ran q Row.NotTaken p h = absurd (omega (arith, h, reason-least q))
 
     read-there : (list : List ℕ) (q : Reason) (a : Reading) → reading_of list ≡ a → (reading_numbers_of a).number ≡ reason_number q → RefusedFor list q
-    read-there list q (R.Whole n) p h = absurd (omega (arith, h, reason-least q))
-    read-there list q (R.Malformed k why) p h = refused-for list k why q p h
+    read-there list q (Ok n) p h = absurd (omega (arith, h, reason-least q))
+    read-there list q (Err m) p h = refused-for list m.after m.why q p h
 
 -- ---- 4
 

@@ -1,14 +1,13 @@
 -- Document 02, M-111: what a preview is, over the definitions. Forms, names and totals speak of the entries that are
 -- left (`kept_in`, in every statement of Promises); here that the run itself is the run over those entries.
 -- proofs/Preview proves each under its name in lower case.
-use Rattle.std.specs.Prelude.{ℕ, suc, Bool, true, false, cond, List, [], ◌∷◌, ◌≡◌, refl, Float}
+use Rattle.std.specs.Prelude.{ℕ, suc, Bool, true, false, cond, List, [], ◌∷◌, ◌≡◌, refl, Float, Ok}
 use Rattle.dng.specs.declared.Window.{Window}
 use Rattle.dng.specs.declared.RowWindow.{RowWindow}
 use Rattle.dng.specs.declared.Settings.{Settings}
 use Rattle.dng.specs.declared.Opcode.TheVariants.{WarpFisheye}
 use Rattle.dng.specs.declared.Answer.{Answer}
 use Rattle.dng.specs.declared.Answer.TheVariants as Ans
-use Rattle.dng.specs.declared.Reading.TheVariants as R
 use Rattle.num_words.specs.Words.{big}
 use Rattle.dng.specs.List.{Item, reading_of, items_of, body_of, counted, read_from, step_at, next_at, parsed_at, constant_at}
 use Rattle.dng.specs.Run.{drops, kept_of, kept_in, Kind, Room, Progress, going, marks_full, perform, perform_all}
@@ -67,8 +66,8 @@ Alike list (i ∷ is) list' (j ∷ js) =
 pub record CutOut (preview : Bool) (list list' : List ℕ) : Type 0 where
   pub opcodes : ℕ
   pub left : ℕ
-  pub whole : reading_of list ≡ R.Whole opcodes
-  pub whole' : reading_of list' ≡ R.Whole left
+  pub whole : reading_of list ≡ Ok opcodes
+  pub whole' : reading_of list' ≡ Ok left
   pub alike : Alike list (kept_in preview list) list' (items_of list')
 
 -- an answer but for the number of the opcode that the run stopped at

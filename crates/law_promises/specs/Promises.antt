@@ -5,7 +5,7 @@
 --     1 Determined   2 ExactlyWhen, RowExactlyWhen   3 Keeps, RowKeeps, Numbered, Locates, ByReason
 --     4 AddsUp, Scratch   5 RowCallsHold, WholeCalls, WholeCallsAlike
 -- What a preview is: specs/Preview. The verdict: run_verdict/specs/Verdict.
-use Rattle.std.specs.Prelude.{ℕ, suc, ◌+◌, ◌≤◌, ◌<◌, Bool, true, false, cond, List, [], ◌∷◌, ◌↔◌, ◌⊎◌, ◌≡◌, Float, length, take, drop, replicate}
+use Rattle.std.specs.Prelude.{ℕ, suc, ◌+◌, ◌≤◌, ◌<◌, Bool, true, false, cond, List, [], ◌∷◌, ◌↔◌, ◌⊎◌, ◌≡◌, Float, length, take, drop, replicate, Ok, Err}
 use Rattle.dng.specs.declared.Window.{Window}
 use Rattle.dng.specs.declared.RowWindow.{RowWindow}
 use Rattle.dng.specs.declared.Settings.{Settings}
@@ -15,11 +15,11 @@ use Rattle.dng.specs.declared.Answer.{Answer}
 use Rattle.dng.specs.declared.Answer.TheVariants as Ans
 use Rattle.dng.specs.declared.RowAnswer.{RowAnswer}
 use Rattle.dng.specs.declared.RowAnswer.TheVariants as Row
-use Rattle.dng.specs.declared.Reading.{Reading}
-use Rattle.dng.specs.declared.Reading.TheVariants as R
-use Rattle.dng.specs.List.{Item, reason_number, refusal, reading_of, items_of, body_of}
+use Rattle.dng.specs.List.{Item, reason_number, refusal, malformed, Reading, reading_of, items_of, body_of}
 use Rattle.dng.specs.Repair.{marks_of, marked_in, repaired_in, left_in}
-use Rattle.dng.specs.Run.{drops, kept_in, Class, table, empty, local, repair, unapplied, class_of, Kind, f32_kind, u16_kind, skipped, skipped16, takes16, takes_rows, names_of, Progress, going, marks_full, Room, perform, perform_all}
+use Rattle.dng.specs.declared.Class.{Class}
+use Rattle.dng.specs.declared.Class.TheVariants.{Table, Empty, Local, Repair, Unapplied}
+use Rattle.dng.specs.Run.{drops, kept_in, class_of, Kind, f32_kind, u16_kind, skipped, skipped16, takes16, takes_rows, names_of, Progress, going, marks_full, Room, perform, perform_all}
 use Rattle.dng.specs.Answer.{in_range, row_in_range, numbers_of, row_numbers_of, reading_numbers_of, Out, run_out, takes_all, frame_of, f32_out, u16_out, Ran, RowOut, row_out}
 use Rattle.run_row.specs.Rows.{RowRan}
 use Rattle.law_rows.specs.RowForm.{row_part, row_put, row_window_of, RowFormIf}
@@ -111,7 +111,7 @@ pub record Determined : Type 1 where
 -- ---- 2. exactly when: the table of 'What comes back', in its order
 
 abbrev pub Whole : List ℕ → Type 0
-Whole list = (n : ℕ) × (reading_of list ≡ R.Whole n)
+Whole list = (n : ℕ) × (reading_of list ≡ Ok n)
 
 module _ {A : Type 0} (c : Call A) where
   -- what is left of the list: all of it, but for what a preview leaves out
@@ -137,7 +137,7 @@ module _ {A : Type 0} (c : Call A) where
   abbrev pub When : Answer → Type 0
   When (Ans.Done n r l) = Goes × (n ≡ skips) × ((t : List A) × (performed (items_of c.list) ≡ going t r l))
   When Ans.Range = in_range c.window c.period ≡ false
-  When (Ans.Malformed k why) = (in_range c.window c.period ≡ true) × (reading_of c.list ≡ R.Malformed k why)
+  When (Ans.Malformed k why) = (in_range c.window c.period ≡ true) × (reading_of c.list ≡ Err (malformed k why))
   When Ans.NotTaken = (in_range c.window c.period ≡ true) × Whole c.list
       × (c.takes kept ≡ false)
   When Ans.Names =
@@ -157,7 +157,7 @@ module _ {A : Type 0} (c : Call A) where
     pub item : Item
     pub rest : List Item
     pub stands : drop k (items_of c.list) ≡ item ∷ rest
-    pub repairs : class_of item.op ≡ repair
+    pub repairs : class_of item.op ≡ Repair
     pub shown : drops c.preview item ≡ false
 
   -- 5: it marks more distinct positions than the u32 scratch has entries
@@ -182,7 +182,7 @@ RowWhen w preview y n list (Row.Done m) =
     (row_in_range w y n ≡ true) × Whole list × (takes_rows (kept_in preview list) ≡ true)
     × (m ≡ length (names_of skipped (kept_in preview list)))
 RowWhen w preview y n list Row.Range = row_in_range w y n ≡ false
-RowWhen w preview y n list (Row.Malformed k why) = (row_in_range w y n ≡ true) × (reading_of list ≡ R.Malformed k why)
+RowWhen w preview y n list (Row.Malformed k why) = (row_in_range w y n ≡ true) × (reading_of list ≡ Err (malformed k why))
 RowWhen w preview y n list Row.NotTaken =
     (row_in_range w y n ≡ true) × Whole list × (takes_rows (kept_in preview list) ≡ false)
 
@@ -247,11 +247,11 @@ pub record Located (list : List ℕ) (k : ℕ) (why : Refusal) : Type 0 where
   pub offset : why.at ≤ length list
 
 abbrev pub Locates : Type 0
-Locates = (list : List ℕ) (k : ℕ) (why : Refusal) → reading_of list ≡ R.Malformed k why → Located list k why
+Locates = (list : List ℕ) (k : ℕ) (why : Refusal) → reading_of list ≡ Err (malformed k why) → Located list k why
 
 -- the list is refused for the reason q, after k entries, at a byte
 abbrev pub RefusedFor : List ℕ → Reason → Type 0
-RefusedFor list q = (k : ℕ) × ((at : ℕ) × (reading_of list ≡ R.Malformed k (refusal q at)))
+RefusedFor list q = (k : ℕ) × ((at : ℕ) × (reading_of list ≡ Err (malformed k (refusal q at))))
 
 -- each of 20 to 25 exactly when: of a run, of a row, of reading alone
 pub record ByReason : Type 1 where
@@ -270,11 +270,11 @@ pub record ByReason : Type 1 where
 
 module _ {A : Type 0} (c : Call A) (count : (ℕ → Bool) → ℕ) where
   abbrev pub count_on : Class → Item → List A → ℕ
-  count_on table i t = 0
-  count_on empty i t = 0
-  count_on local i t = 0
-  count_on repair i t = count (marks_on c i t)
-  count_on unapplied i t = 0
+  count_on Table i t = 0
+  count_on Empty i t = 0
+  count_on Local i t = 0
+  count_on Repair i t = count (marks_on c i t)
+  count_on Unapplied i t = 0
 
   -- one that is dropped counts for nothing
   abbrev pub count_at : Item → Progress A → ℕ

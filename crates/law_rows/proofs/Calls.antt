@@ -16,12 +16,12 @@ use Rattle.dng.specs.declared.RowWindow.{RowWindow}
 use Rattle.dng.specs.declared.Settings.{Settings}
 use Rattle.dng.specs.declared.Answer.TheVariants as Ans
 use Rattle.dng.specs.declared.RowAnswer.TheVariants as Row
-use Rattle.dng.specs.declared.Reading.{Reading}
-use Rattle.dng.specs.declared.Reading.TheVariants as R
-use Rattle.dng.specs.List.{Item, reading_of, items_of}
+use Rattle.std.specs.Prelude.{Ok}
+use Rattle.dng.specs.List.{Item, Reading, reading_of, items_of}
 use Rattle.dng.specs.Select.{Rule, plane_of, column_of, row_of, in_window, whole_pixel, on_window, on_row}
 use Rattle.dng.specs.Value.{rule_of}
-use Rattle.dng.specs.Run.{kept_in, Class, Kind, Room, names_of, skipped, takes_rows, f32_kind, going, perform_all, row_on}
+use Rattle.dng.specs.declared.Class.{Class}
+use Rattle.dng.specs.Run.{kept_in, Kind, Room, names_of, skipped, takes_rows, f32_kind, going, perform_all, row_on}
 use Rattle.dng.specs.Answer.{in_range, row_in_range, frame_of, row_frame_of, RowOut, row_read, row_out}
 use Rattle.dng.specs.Answer.{Out, unchanged, written, finished, ran_on, read_out, run_out, takes_all, f32_out}
 use Rattle.law_rows.specs.NoRepair.{no_repair}
@@ -129,7 +129,7 @@ run_done skip preview list names s =
 
 -- a row call in range, on a list that is read whole and taken
 pub row-call : (rw : RowWindow) (scale : Float) (preview : Bool) (y : ℕ) (list : List ℕ) (row : List Float) (m : ℕ)
-    → row_in_range rw y (length row) ≡ true → reading_of list ≡ R.Whole m → takes_rows (kept_in preview list) ≡ true
+    → row_in_range rw y (length row) ≡ true → reading_of list ≡ Ok m → takes_rows (kept_in preview list) ≡ true
     → row_out rw scale preview y list row
     ≡ row_done preview list (each (on_row rw.x0 rw.planes y (length row) (all_of (rule_of (row_frame_of rw scale)) list (kept_in preview list))) row)
 unfolding row_out
@@ -145,7 +145,7 @@ row-call rw scale preview y list row m ranges whole taken =
 -- a run of any form, in range, on a list that is read whole and taken, that has no repair and finds room for its names
 pub window-run : {A : Type 0} (kind : Kind A) (takes : List Item → Bool) (skip : Class → Bool) (w : Window) (period : ℕ) (preview : Bool)
     (room : Room) (list : List ℕ) (s : List A) (names : List ℕ) (m : ℕ)
-    → in_range w period ≡ true → reading_of list ≡ R.Whole m → takes (kept_in preview list) ≡ true → no_repair (kept_in preview list) ≡ true
+    → in_range w period ≡ true → reading_of list ≡ Ok m → takes (kept_in preview list) ≡ true → no_repair (kept_in preview list) ≡ true
     → length (names_of skip (kept_in preview list)) ≤ length names
     → run_out kind takes skip w period preview room list s names
     ≡ run_done skip preview list names (each (on_window w (length s) (applied_of kind list (kept_in preview list))) s)
@@ -168,7 +168,7 @@ window-run {A} kind takes skip w period preview room list s names m ranges whole
 
 -- the f32 run on a list that the row form takes
 pub window-call : (w : Window) (set : Settings) (room : Room) (list : List ℕ) (s : List Float) (names : List ℕ) (m : ℕ)
-    → in_range w set.period ≡ true → reading_of list ≡ R.Whole m → takes_rows (kept_in set.preview list) ≡ true
+    → in_range w set.period ≡ true → reading_of list ≡ Ok m → takes_rows (kept_in set.preview list) ≡ true
     → length (names_of skipped (kept_in set.preview list)) ≤ length names
     → f32_out w set room list s names ≡ run_done skipped set.preview list names (each (on_window w (length s) (rules_of w set.scale set.preview list)) s)
 unfolding on_window

@@ -15,7 +15,9 @@ use Rattle.dng.specs.declared.Opcode.TheVariants.{WarpRectilinear, WarpFisheye, 
 use Rattle.dng.specs.List.{Item, body_of}
 use Rattle.dng.specs.Select.{Rule, on_window, on_row}
 use Rattle.dng.specs.Value.{Frame, rule_of}
-use Rattle.dng.specs.Run.{drops, kept_of, Class, table, empty, local, repair, unapplied, class_of, row_takes, takes_rows}
+use Rattle.dng.specs.declared.Class.{Class}
+use Rattle.dng.specs.declared.Class.TheVariants.{Table, Empty, Local, Repair, Unapplied}
+use Rattle.dng.specs.Run.{drops, kept_of, class_of, row_takes, takes_rows}
 use Rattle.dng.specs.Run.{Kind, going, Room, perform_on, perform, perform_all, row_on}
 use Rattle.law_rows.specs.NoRepair.{no_repair_in, no_repair, RowsNoRepair}
 use Rattle.law_rows.proofs.Place.{on-window-both, on-window-none}
@@ -28,7 +30,7 @@ all_of rule list (i ∷ is) whole y x k v = all_of rule list is whole y x k (rul
 -- an opcode that is never applied changes nothing
 abbrev pub Quiet : {A : Type 0} → (Opcode → List ℕ → Rule A) → Type 0
 Quiet {A} rule =
-    (op : Opcode) (b : List ℕ) → class_of op ≡ unapplied → (whole : Bool) (y x k : ℕ) (v : A) → rule op b whole y x k v ≡ v
+    (op : Opcode) (b : List ℕ) → class_of op ≡ Unapplied → (whole : Bool) (y x k : ℕ) (v : A) → rule op b whole y x k v ≡ v
 
 pub both_true : (a b : Bool) → (a && b) ≡ true → (a ≡ true) × (b ≡ true)
 both_true true b h = (refl, h)
@@ -42,20 +44,20 @@ rows-no-repair (i ∷ is) h =
     ap₂ ◌&&◌ (one (class_of i.op) taken.0) (rows-no-repair is taken.1)
   where
     one : (c : Class) → row_takes c ≡ true → no_repair_in c ≡ true
-    one table h = refl
-    one empty h = refl
-    one local h = refl
-    one repair h = h
-    one unapplied h = refl
+    one Table h = refl
+    one Empty h = refl
+    one Local h = refl
+    one Repair h = h
+    one Unapplied h = refl
 
 module _ {A : Type 0} (kind : Kind A) where
   -- what an opcode makes of a sample: nothing where it is not applied. A repair looks at other samples, and is no such rule.
   abbrev pub applied_on : Class → Opcode → List ℕ → Rule A
-  applied_on table op b whole y x k v = kind.rule op b whole y x k v
-  applied_on empty op b whole y x k v = v
-  applied_on local op b whole y x k v = kind.rule op b whole y x k v
-  applied_on repair op b whole y x k v = v
-  applied_on unapplied op b whole y x k v = v
+  applied_on Table op b whole y x k v = kind.rule op b whole y x k v
+  applied_on Empty op b whole y x k v = v
+  applied_on Local op b whole y x k v = kind.rule op b whole y x k v
+  applied_on Repair op b whole y x k v = v
+  applied_on Unapplied op b whole y x k v = v
 
   -- the applied opcodes of a list at one place, in list order
   unfoldable pub applied_of : List ℕ → List Item → Rule A
@@ -78,11 +80,11 @@ module _ {A : Type 0} (kind : Kind A) where
 
       one : (c : Class) → class_of i.op ≡ c → row_takes c ≡ true
           → applied_on c i.op b whole y x k v ≡ kind.rule i.op b whole y x k v
-      one table e h = refl
-      one empty e h = absurd (false≢true h)
-      one local e h = refl
-      one repair e h = absurd (false≢true h)
-      one unapplied e h = sym (quiet i.op b e whole y x k v)
+      one Table e h = refl
+      one Empty e h = absurd (false≢true h)
+      one Local e h = refl
+      one Repair e h = absurd (false≢true h)
+      one Unapplied e h = sym (quiet i.op b e whole y x k v)
 
   module _ (w : Window) (period : ℕ) (room : Room) (preview : Bool) (list : List ℕ) where
     -- one opcode that is no repair
@@ -101,11 +103,11 @@ module _ {A : Type 0} (kind : Kind A) where
 
         on : (c : Class) → no_repair_in c ≡ true
             → perform_on kind w period room c i.op b k s r t ≡ going (each (on_window w (length s) (applied_on c i.op b)) s) r t
-        on table h = refl
-        on empty h = none
-        on local h = refl
-        on repair h = absurd (false≢true h)
-        on unapplied h = none
+        on Table h = refl
+        on Empty h = none
+        on Local h = refl
+        on Repair h = absurd (false≢true h)
+        on Unapplied h = none
 
     -- all opcodes that are left of a list, without a repair: one rule over the window, nothing repaired and nothing left
     pub perform-all : (is : List Item) (k : ℕ) (s : List A) (r t : ℕ) → no_repair (kept_of preview is) ≡ true
@@ -161,13 +163,13 @@ row-all fr x0 p y list (i ∷ is) row =
 -- ---- the f32 rules
 
 abbrev Applied : Class → Type 0
-Applied table = Unit {0}
-Applied empty = Unit {0}
-Applied local = Unit {0}
-Applied repair = Unit {0}
-Applied unapplied = ⊥
+Applied Table = Unit {0}
+Applied Empty = Unit {0}
+Applied Local = Unit {0}
+Applied Repair = Unit {0}
+Applied Unapplied = ⊥
 
-map-applied : (b : Bool) → Applied (cond b empty table)
+map-applied : (b : Bool) → Applied (cond b Empty Table)
 map-applied true = tt
 map-applied false = tt
 

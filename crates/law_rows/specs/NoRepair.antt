@@ -6,14 +6,16 @@ use Rattle.dng.specs.declared.Region.{Region}
 use Rattle.dng.specs.declared.Opcode.{Opcode}
 use Rattle.dng.specs.declared.Opcode.TheVariants.{WarpFisheye, FixBadPixelsConstant, MapTable}
 use Rattle.dng.specs.List.{Item}
-use Rattle.dng.specs.Run.{Class, table, empty, local, repair, unapplied, class_of, takes_rows}
+use Rattle.dng.specs.declared.Class.{Class}
+use Rattle.dng.specs.declared.Class.TheVariants.{Table, Empty, Local, Repair, Unapplied}
+use Rattle.dng.specs.Run.{class_of, takes_rows}
 
 abbrev pub no_repair_in : Class → Bool
-no_repair_in table = true
-no_repair_in empty = true
-no_repair_in local = true
-no_repair_in repair = false
-no_repair_in unapplied = true
+no_repair_in Table = true
+no_repair_in Empty = true
+no_repair_in Local = true
+no_repair_in Repair = false
+no_repair_in Unapplied = true
 
 unfoldable pub no_repair : List Item → Bool
 no_repair [] = true

@@ -2,13 +2,12 @@
 -- 'Taken and left', the row form; data that ends early included. The run goes opcode by opcode over the window
 -- (specs/Run of dng); here each row goes through all opcodes on its own. In a preview both go by what is left of the
 -- list (document 02, M-111).
-use Rattle.std.specs.Prelude.{ℕ, ◌+◌, ◌-◌, ◌*◌, ◌≤◌, ◌<◌, min, Bool, true, cond, List, [], ◌∷◌, ◌++◌, ◌≡◌, eqb, ltb, Float, length, take, drop}
+use Rattle.std.specs.Prelude.{ℕ, ◌+◌, ◌-◌, ◌*◌, ◌≤◌, ◌<◌, min, Bool, true, cond, List, [], ◌∷◌, ◌++◌, ◌≡◌, eqb, ltb, Float, length, take, drop, Ok}
 use Rattle.dng.specs.declared.Window.{Window}
 use Rattle.dng.specs.declared.RowWindow.{RowWindow}
 use Rattle.dng.specs.declared.Settings.{Settings}
 use Rattle.dng.specs.declared.Answer.TheVariants as Ans
 use Rattle.dng.specs.declared.RowAnswer.TheVariants as Row
-use Rattle.dng.specs.declared.Reading.TheVariants as R
 use Rattle.dng.specs.List.{reading_of}
 use Rattle.dng.specs.Run.{kept_in, Room, names_of, skipped, takes_rows}
 use Rattle.dng.specs.Answer.{in_range, f32_out, row_out}
@@ -74,7 +73,7 @@ pub record RowForm (w : Window) (set : Settings) (room : Room) (list : List ℕ)
 pub record RowFormIf (w : Window) (set : Settings) (list names ys : List ℕ) : Type 0 where
   pub ranges : in_range w set.period ≡ true
   pub opcodes : ℕ
-  pub whole : reading_of list ≡ R.Whole opcodes
+  pub whole : reading_of list ≡ Ok opcodes
   pub taken : takes_rows (kept_in set.preview list) ≡ true
   pub wide : 1 ≤ w.width
   pub strided : w.width ≤ w.stride

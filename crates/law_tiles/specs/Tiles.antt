@@ -1,12 +1,12 @@
 -- Document 02, M-110, tiles give the frame: a window cut into rectangles that cover it without overlap, each run as its
 -- own window, one after another in any order, leaves the samples of the one run. Over any sample kind.
-use Rattle.std.specs.Prelude.{ℕ, ◌+◌, ◌-◌, ◌*◌, ◌≤◌, ◌<◌, min, Bool, true, ◌&&◌, cond, List, [], ◌∷◌, ◌++◌, ◌≡◌, leb, ltb, Float, length, take, drop}
+use Rattle.std.specs.Prelude.{ℕ, ◌+◌, ◌-◌, ◌*◌, ◌≤◌, ◌<◌, min, Bool, true, ◌&&◌, cond, List, [], ◌∷◌, ◌++◌, ◌≡◌, leb, ltb, Float, length, take, drop, Ok}
 use Rattle.dng.specs.declared.Window.{Window}
 use Rattle.dng.specs.declared.Settings.{Settings}
 use Rattle.dng.specs.declared.Answer.TheVariants as Ans
-use Rattle.dng.specs.declared.Reading.TheVariants as R
 use Rattle.dng.specs.List.{Item, reading_of}
-use Rattle.dng.specs.Run.{kept_in, Class, Kind, f32_kind, u16_kind, Room, names_of, skipped, skipped16, takes16, takes_rows}
+use Rattle.dng.specs.declared.Class.{Class}
+use Rattle.dng.specs.Run.{kept_in, Kind, f32_kind, u16_kind, Room, names_of, skipped, skipped16, takes16, takes_rows}
 use Rattle.dng.specs.Answer.{in_range, frame_of, takes_all, Out, run_out, f32_out, u16_out}
 use Rattle.law_rows.specs.NoRepair.{no_repair}
 
@@ -119,17 +119,17 @@ pub record Runs : Type 0 where
 -- the list, or what a preview leaves of it: read whole, taken by the form, without a repair, "given room for the skips"
 pub record Suits {A : Type 0} (f : Form A) (preview : Bool) (list names : List ℕ) : Type 0 where
   pub opcodes : ℕ
-  pub whole : reading_of list ≡ R.Whole opcodes
+  pub whole : reading_of list ≡ Ok opcodes
   pub taken : f.takes (kept_in preview list) ≡ true
   pub without : no_repair (kept_in preview list) ≡ true
   pub roomy : length (names_of f.skip (kept_in preview list)) ≤ length names
 
 -- "a list of the row form" is one for the f32 run; one that has tables and unapplied opcodes alone is for the u16 run
 pub record SuitingLists : Type 0 where
-  pub rows : (w : Window) (scale : Float) (preview : Bool) (list names : List ℕ) (n : ℕ) → reading_of list ≡ R.Whole n
+  pub rows : (w : Window) (scale : Float) (preview : Bool) (list names : List ℕ) (n : ℕ) → reading_of list ≡ Ok n
       → takes_rows (kept_in preview list) ≡ true → length (names_of skipped (kept_in preview list)) ≤ length names
       → Suits (f32_form w scale) preview list names
-  pub tables : (preview : Bool) (list names : List ℕ) (n : ℕ) → reading_of list ≡ R.Whole n
+  pub tables : (preview : Bool) (list names : List ℕ) (n : ℕ) → reading_of list ≡ Ok n
       → takes16 (kept_in preview list) ≡ true
       → no_repair (kept_in preview list) ≡ true → length (names_of skipped16 (kept_in preview list)) ≤ length names
       → Suits u16_form preview list names

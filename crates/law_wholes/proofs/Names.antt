@@ -7,7 +7,8 @@ use lib.Dec.{eqb}
 use Rattle.dng.specs.declared.Opcode.{Opcode}
 use Rattle.dng.specs.declared.Opcode.TheVariants.{WarpRectilinear, WarpFisheye, FixVignetteRadial, FixBadPixelsConstant, FixBadPixelsList, TrimBounds, MapTable, MapPolynomial, GainMap, DeltaPerRow, DeltaPerColumn, ScalePerRow, ScalePerColumn, Other}
 use Rattle.dng.specs.List.{Item}
-use Rattle.dng.specs.Run.{empty, table, class_of, name_of, names_of, skipped, skipped16}
+use Rattle.dng.specs.declared.Class.TheVariants.{Table, Empty}
+use Rattle.dng.specs.Run.{class_of, name_of, names_of, skipped, skipped16}
 use Rattle.law_wholes.specs.WholeForm.{without_tables}
 
 -- one opcode, before the names ns of the others
@@ -24,8 +25,8 @@ one_name (TrimBounds t l bm r) ns = refl
 one_name (MapTable r n) ns = go (eqb n 0)
   where
     go : (z : Bool)
-        → without_tables (cond (skipped (cond z empty table)) (7 ∷ ns) ns)
-        ≡ cond (skipped16 (cond z empty table)) (7 ∷ without_tables ns) (without_tables ns)
+        → without_tables (cond (skipped (cond z Empty Table)) (7 ∷ ns) ns)
+        ≡ cond (skipped16 (cond z Empty Table)) (7 ∷ without_tables ns) (without_tables ns)
     go true = refl
     go false = refl
 one_name (MapPolynomial r d) ns = refl

@@ -19,7 +19,8 @@ use Rattle.dng.specs.List.{Item, body_of}
 use Rattle.dng.specs.Select.{on_window}
 use Rattle.dng.specs.Value.{one, table_at, map_table, map_table16, rule_of, rule16_of}
 use Rattle.dng.specs.Repair.{marks_of, marked_in, repaired_in, left_in}
-use Rattle.dng.specs.Run.{drops, kept_of, table, empty, class_of, takes16_on, takes16_from, Kind, f32_kind, u16_kind, Progress, going, marks_full, Room, repair_on, perform_on, perform, perform_all}
+use Rattle.dng.specs.declared.Class.TheVariants.{Table, Empty}
+use Rattle.dng.specs.Run.{drops, kept_of, class_of, takes16_on, takes16_from, Kind, f32_kind, u16_kind, Progress, going, marks_full, Room, repair_on, perform_on, perform, perform_all}
 use Rattle.dng.specs.Answer.{frame_of}
 use Rattle.law_wholes.specs.WholeForm.{Below, Enough}
 use Rattle.law_wholes.proofs.Near.{Exact, Near, exact-near}
@@ -163,9 +164,9 @@ module _ (w : Window) (period : ℕ) (room room' : Room) (planes : 0 < w.planes)
   step free rest (TrimBounds top lf bm rt) b entries k s t r l e p = stay free rest s t r l e p
   step free rest (MapTable reg n) b entries k s t r l e p = go (eqb n 0) e
     where
-      go : (z : Bool) → takes16_on (cond z empty table) free rest ≡ true
-          → Step w room rest (perform_on u16_kind w period room (cond z empty table) (MapTable reg n) b k s r l)
-          (perform_on (kind32 w) w period room' (cond z empty table) (MapTable reg n) b k t r l)
+      go : (z : Bool) → takes16_on (cond z Empty Table) free rest ≡ true
+          → Step w room rest (perform_on u16_kind w period room (cond z Empty Table) (MapTable reg n) b k s r l)
+          (perform_on (kind32 w) w period room' (cond z Empty Table) (MapTable reg n) b k t r l)
       go true h = stay free rest s t r l h p
       go false h = table_step free rest reg n b entries s t r l h p
   step free rest (MapPolynomial reg d) b entries k s t r l e p = absurd (false≢true e)

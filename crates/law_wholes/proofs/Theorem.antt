@@ -9,12 +9,12 @@ use lib.Dec.{leb}
 use lib.Ieee.{Float}
 use lib.ListN.{length}
 use Rattle.dng.specs.declared.Window.{Window}
-use Rattle.dng.specs.declared.Reading.{Reading}
-use Rattle.dng.specs.declared.Reading.TheVariants as R
 use Rattle.dng.specs.declared.Answer.TheVariants as Ans
-use Rattle.dng.specs.List.{Item, reading_of, items_of}
+use Rattle.std.specs.Prelude.{Ok, Err}
+use Rattle.dng.specs.List.{Item, Reading, reading_of, items_of}
 use Rattle.dng.specs.Value.{one}
-use Rattle.dng.specs.Run.{kept_in, Class, Kind, f32_kind, u16_kind, skipped, skipped16, takes16, names_of, Progress, going, Room, perform_all}
+use Rattle.dng.specs.declared.Class.{Class}
+use Rattle.dng.specs.Run.{kept_in, Kind, f32_kind, u16_kind, skipped, skipped16, takes16, names_of, Progress, going, Room, perform_all}
 use Rattle.dng.specs.Answer.{Out, in_range, unchanged, finished, ran_on, read_out, run_out, takes_all, frame_of, u16_out}
 use Rattle.law_wholes.specs.WholeForm.{Below, Enough, WholeFormHolds, widened, narrowed, at_one}
 use Rattle.law_wholes.specs.Together.{renamed, TogetherIf, SameScratch}
@@ -37,7 +37,7 @@ at_one_lem period preview = refl
 -- a run that nothing refuses, in either form
 run_is : {A : Type 0} (kind : Kind A) (takes : List Item → Bool) (skip : Class → Bool) (w : Window) (period : ℕ) (preview : Bool)
     (room : Room) (list : List ℕ) (s : List A) (names : List ℕ) (n : ℕ)
-    → in_range w period ≡ true → reading_of list ≡ R.Whole n → takes (kept_in preview list) ≡ true
+    → in_range w period ≡ true → reading_of list ≡ Ok n → takes (kept_in preview list) ≡ true
     → length (names_of skip (kept_in preview list)) ≤ length names
     → run_out kind takes skip w period preview room list s names
     ≡ finished (names_of skip (kept_in preview list)) names (perform_all kind w period room preview list 0 (items_of list) (going s 0 0))
@@ -130,8 +130,8 @@ module _ (w : Window) (period : ℕ) (preview : Bool) (room : Room) (list s name
       go : (i : Bool) (r : Reading) → in_range w period ≡ i
           → Alike (cond i (read_out u16_kind takes16 skipped16 w period preview room list s names r) (unchanged Ans.Range s names))
           (cond i (read_out (kind32 w) takes_all skipped w period preview room list (widened s) names' r) (unchanged Ans.Range (widened s) names'))
-      go true (R.Whole n) i = alike-ran i
-      go true (R.Malformed k why) i = (refl, untouched s h.words)
+      go true (Ok n) i = alike-ran i
+      go true (Err m) i = (refl, untouched s h.words)
       go false r i = (refl, untouched s h.words)
 
 pub same-scratch : SameScratch

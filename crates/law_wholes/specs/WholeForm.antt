@@ -1,13 +1,12 @@
 -- Demand 3, the whole-number form: it equals widen, run at scale 1, round once and hold. The two runs go by different
 -- rules (specs/Run of dng: f32_kind and u16_kind); this is the bridge.
-use Rattle.std.specs.Prelude.{ℕ, ◌≤◌, ◌<◌, Bool, true, cond, List, [], ◌∷◌, map, ◌≡◌, eqb, Float, length, get_or}
+use Rattle.std.specs.Prelude.{ℕ, ◌≤◌, ◌<◌, Bool, true, cond, List, [], ◌∷◌, map, ◌≡◌, eqb, Float, length, get_or, Ok}
 use Rattle.std.specs.Float.{binary32}
 use Rattle.num_round.specs.Whole.{round_held}
 use Rattle.num_convert.specs.Convert.{whole_in}
 use Rattle.dng.specs.declared.Window.{Window}
 use Rattle.dng.specs.declared.Settings.{Settings}
 use Rattle.dng.specs.declared.Answer.TheVariants as Ans
-use Rattle.dng.specs.declared.Reading.TheVariants as R
 use Rattle.dng.specs.List.{reading_of}
 use Rattle.dng.specs.Value.{one}
 use Rattle.dng.specs.Repair.{positions}
@@ -58,7 +57,7 @@ pub record WholeFormIf (w : Window) (period : ℕ) (preview : Bool) (room room' 
   pub words : Below 65536 s
   pub ranges : in_range w period ≡ true
   pub opcodes : ℕ
-  pub whole : reading_of list ≡ R.Whole opcodes
+  pub whole : reading_of list ≡ Ok opcodes
   pub taken : takes16 (kept_in preview list) ≡ true
   pub enough : Enough w room
   pub enough' : Enough w room'

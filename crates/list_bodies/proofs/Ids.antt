@@ -9,7 +9,7 @@ use borrow.Author.Tests.{ne_eqb}
 use lib.Dec.{eqb, lit≤}
 use mathlib.Core.Bool.{false}
 use Rattle.dng.specs.declared.Opcode.TheVariants.{Other}
-use Rattle.dng.specs.declared.Parsed.TheVariants as P
+use Rattle.std.specs.Prelude.{Ok}
 use Rattle.dng.specs.List.{counted_at, parsed_at}
 use Rattle.list_bodies.specs.Bodies.{line_of}
 
@@ -28,11 +28,11 @@ nought id h a b c d e f g i j =
     (above 8 id (above 7 id (above 6 id (above 5 id (above 4 id (above 3 id (above 2 id (above 1 id l a) b) c) d) e) f) g) i) j))
 
 module _ (s : List ℕ) (id at len : ℕ) where
-  pub none-0 : id < 1 → P.Read (Other id) ≡ parsed_at s id at len
+  pub none-0 : id < 1 → Ok (Other id) ≡ parsed_at s id at len
   unfolding parsed_at
   none-0 h = let e : id ≡ 0 = omega arith in rw e
 
-  pub none-high : 13 < id → P.Read (Other id) ≡ parsed_at s id at len
+  pub none-high : 13 < id → Ok (Other id) ≡ parsed_at s id at len
   unfolding parsed_at
   none-high h =
       let no : (k : ℕ) → k < id → eqb id k ≡ false = λ k l. ne_eqb id k (λ e. omega arith) in

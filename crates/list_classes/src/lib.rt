@@ -2,23 +2,14 @@
 #![tactic(auto)]
 
 ghost use Rattle.std.specs.Prelude.{◌≡◌, cond};
-ghost use Rattle.dng.specs.Run.{unapplied, class_of, name_of};
-ghost use Rattle.list_classes.specs.Classes.{class_is, facts_of};
+ghost use Rattle.dng.specs.declared.Class.TheVariants.{Unapplied};
+ghost use Rattle.dng.specs.Run.{class_of, name_of};
+ghost use Rattle.list_classes.specs.Classes.{facts_of};
 
-use dng::Opcode;
-
-// A table with entries, a table with none, another row-local pixel opcode, a repair, and what is never applied.
-#[derive(Clone, Copy)]
-pub enum Class {
-    Table,
-    Empty,
-    Local,
-    Repair,
-    Unapplied,
-}
+use dng::{Class, Opcode};
 
 pub fn class_of(op: Opcode) -> Class
-    ensures { class_is result ≡ class_of op }
+    ensures { result ≡ class_of op }
 {
     match op {
         Opcode::WarpRectilinear { .. } => Class::Unapplied,
@@ -40,7 +31,7 @@ pub fn class_of(op: Opcode) -> Class
 
 // The class in a run: an opcode that is left out of a preview is not applied there.
 pub fn class_in(op: Opcode, dropped: bool) -> Class
-    ensures { class_is result ≡ cond dropped unapplied (class_of op) }
+    ensures { result ≡ cond dropped Unapplied (class_of op) }
 {
     if dropped {
         Class::Unapplied

@@ -10,7 +10,7 @@ use lib.Seq.{take_all, drop-length}
 use Rattle.dng.specs.declared.Cursor.{Cursor}
 use Rattle.dng.specs.declared.Entry.{Entry}
 use Rattle.dng.specs.declared.Reason.TheVariants as Why
-use Rattle.dng.specs.declared.Next.TheVariants as N
+use Rattle.std.specs.Prelude.{Ok, Err}
 use Rattle.dng.specs.List.{refusal, header_why, header_at, next_at}
 use Rattle.dng.proofs.Cuts.{cut-same}
 
@@ -19,18 +19,18 @@ use Rattle.dng.proofs.Cuts.{cut-same}
 module _ (s : List ℕ) (c : Cursor) where
   -- fewer than 16 bytes are left: the word that is not whole starts at the last multiple of four
   pub cut :
-      length s < c.at + 16 → N.Malformed (refusal Why.Ends (c.at + (length s - c.at) / 4 * 4)) ≡ next_at s c
+      length s < c.at + 16 → Err (refusal Why.Ends (c.at + (length s - c.at) / 4 * 4)) ≡ next_at s c
   unfolding next_at header_why
   cut h = simp (lt-leb _ _ h, cut-same 4 4 (length s - c.at) (omega arith) (omega arith))
 
   -- the body ends past the list
   pub long :
       {e : Entry} → e ≡ header_at s c.at → c.at + 16 ≤ length s → length s < c.at + 16 + e.len
-      → N.Malformed (refusal Why.TooLong (c.at + 12)) ≡ next_at s c
+      → Err (refusal Why.TooLong (c.at + 12)) ≡ next_at s c
   unfolding next_at header_why
   long p h l = simp (le-leb _ _ h, lt-leb _ _ (rw p at l))
 
-  pub found : {e : Entry} → e ≡ header_at s c.at → c.at + 16 ≤ length s → c.at + 16 + e.len ≤ length s → N.Found e (record { at = c.at + 16 + e.len })
+  pub found : {e : Entry} → e ≡ header_at s c.at → c.at + 16 ≤ length s → c.at + 16 + e.len ≤ length s → Ok (record { entry = e; next = record { at = c.at + 16 + e.len } })
       ≡ next_at s c
   unfolding next_at
   found p h l = rw p (simp (le-leb _ _ h, le-leb _ _ (rw p at l)))

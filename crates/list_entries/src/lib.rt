@@ -6,7 +6,7 @@ ghost use Rattle.std.specs.Prelude.{◌≡◌, ◌+◌, ◌-◌, ◌*◌, ◌/�
 ghost use Rattle.dng.specs.declared.Reason.TheVariants.{Ends};
 ghost use Rattle.dng.specs.List.{refusal, header_at, next_at, body_of, optional_of, preview_of};
 
-use dng::{Cursor, Entry, Next, Reason, Refusal};
+use dng::{Cursor, Entry, Found, Reason, Refusal};
 
 // The four words of a header, as they stand, with where the body lies.
 fn header(list: &[u8], at: usize) -> Entry
@@ -23,44 +23,40 @@ fn header(list: &[u8], at: usize) -> Entry
 }
 
 // 20, of a list of n bytes: at the first word after `at` that is not whole.
-fn ends(n: usize, at: usize) -> Next
-    ensures { result ≡ Next.Malformed (refusal Ends (at + (n - at) / 4 * 4)) }
+fn ends(n: usize, at: usize) -> Refusal
+    ensures { result ≡ refusal Ends (at + (n - at) / 4 * 4) }
 {
-    Next::Malformed {
-        why: Refusal {
-            reason: Reason::Ends,
-            at: at + num_words::less(n, at) / 4 * 4,
-        },
+    Refusal {
+        reason: Reason::Ends,
+        at: at + num_words::less(n, at) / 4 * 4,
     }
 }
 
 // The entry at a cursor; or 20, at the word of its header that is not whole; or 22, at its length. The body is compared
 // with what the list has left, so that no sum can wrap.
-pub fn next(list: &[u8], c: Cursor) -> Next
+pub fn next(list: &[u8], c: Cursor) -> Result<Found, Refusal>
     ensures { result ≡ next_at list.now c }
 {
     let at = c.at;
     let n = list.len();
     if n < 16 {
-        return ends(n, at);
+        return Err(ends(n, at));
     }
     if n - 16 < at {
-        return ends(n, at);
+        return Err(ends(n, at));
     }
     let e = header(list, at);
     let len = e.len;
     if n - 16 - at < len {
-        return Next::Malformed {
-            why: Refusal {
-                reason: Reason::TooLong,
-                at: at + 12,
-            },
-        };
+        return Err(Refusal {
+            reason: Reason::TooLong,
+            at: at + 12,
+        });
     }
-    Next::Found {
+    Ok(Found {
         entry: e,
         next: Cursor { at: at + 16 + len },
-    }
+    })
 }
 
 // The body of an entry: the caller's own part, cut where the list ends.

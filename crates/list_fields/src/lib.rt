@@ -8,7 +8,7 @@ ghost use Rattle.dng.specs.List.{offset_in, u32_at, f64_at, region_at, grid_at, 
 ghost use Rattle.list_fields.specs.Fields.{word_at, area_at, lattice_at, lens_at};
 
 use dng::{Grid, Radial, Region};
-use num_words::Word;
+use num_words::Cut;
 
 // ---- fields
 
@@ -85,68 +85,44 @@ fn radial(list: &[u8], at: usize) -> Radial
 // A record of fields of one size asks for its length once: the first field that is not whole starts at the last
 // multiple of that size.
 
-pub fn word_in(list: &[u8], at: usize, k: usize, len: usize) -> Word
+pub fn word_in(list: &[u8], at: usize, k: usize, len: usize) -> Result<u32, Cut>
     ensures { result ≡ word_at list.now at k len }
 {
     num_words::u32_in(list, place(list, at, k), num_words::less(len, k))
 }
 
-#[derive(Clone, Copy)]
-pub enum Area {
-    Is { region: Region },
-    Cut { at: usize },
-}
-
-pub fn region_in(list: &[u8], at: usize, len: usize) -> Area
+pub fn region_in(list: &[u8], at: usize, len: usize) -> Result<Region, Cut>
     ensures { result ≡ area_at list.now at len }
 {
     if len < 32 {
-        Area::Cut {
+        Err(Cut {
             at: place(list, at, len / 4 * 4),
-        }
+        })
     } else {
-        Area::Is {
-            region: region(list, at),
-        }
+        Ok(region(list, at))
     }
 }
 
-#[derive(Clone, Copy)]
-pub enum Lattice {
-    Is { grid: Grid },
-    Cut { at: usize },
-}
-
-pub fn grid_in(list: &[u8], at: usize, len: usize) -> Lattice
+pub fn grid_in(list: &[u8], at: usize, len: usize) -> Result<Grid, Cut>
     ensures { result ≡ lattice_at list.now at len }
 {
     if len < 72 {
-        Lattice::Cut {
+        Err(Cut {
             at: place(list, at, 40 + num_words::less(len, 40) / 8 * 8),
-        }
+        })
     } else {
-        Lattice::Is {
-            grid: grid(list, at),
-        }
+        Ok(grid(list, at))
     }
 }
 
-#[derive(Clone, Copy)]
-pub enum Lens {
-    Is { radial: Radial },
-    Cut { at: usize },
-}
-
-pub fn radial_in(list: &[u8], at: usize, len: usize) -> Lens
+pub fn radial_in(list: &[u8], at: usize, len: usize) -> Result<Radial, Cut>
     ensures { result ≡ lens_at list.now at len }
 {
     if len < 56 {
-        Lens::Cut {
+        Err(Cut {
             at: place(list, at, len / 8 * 8),
-        }
+        })
     } else {
-        Lens::Is {
-            radial: radial(list, at),
-        }
+        Ok(radial(list, at))
     }
 }

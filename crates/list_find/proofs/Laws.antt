@@ -1,23 +1,21 @@
 -- The cases of the walk: one law for each way in which its functions return or go on. Assumes nothing.
-use Prim.Native.Nat.{ℕ, zero, suc, ◌+◌, ◌-◌, ◌*◌, ◌/◌, ◌≤◌, ◌<◌}
+use Prim.Native.Nat.{ℕ, zero, suc, ◌+◌, ◌-◌, ◌*◌, ◌≤◌, ◌<◌}
 use mathlib.Core.Path.{◌≡◌, refl, sym, ap, ◌∙◌}
 use mathlib.Core.Bool.{Bool, true, false, cond}
 use mathlib.Core.List.{List}
 use native.Mathlib.Omega.{arith}
-use native.Mathlib.Nat.{zero-add, add-zero, suc-add, mul-zero, sub-zero, add-sub_cancel_left}
+use native.Mathlib.Nat.{zero-add, add-zero, suc-add, mul-zero, sub-zero}
 use native.Mathlib.Numerals.{add-one}
-use borrow.Author.Tests.{le-leb, lt-leb, leb-true, leb-false, eq-eqb, ne_eqb}
+use borrow.Author.Tests.{le-leb, lt-leb, leb-true, eq-eqb, ne_eqb}
 use lib.Dec.{leb}
-use lib.ListN.{length, get_or, take, drop, length-drop, drop_of_length-le}
-use lib.Seq.{take_all, drop-length}
+use lib.ListN.{get_or}
 use Rattle.num_words.specs.Words.{big, little}
-use Rattle.num_zeros.specs.Zeros.{Zeros, Passed}
+use Rattle.num_zeros.specs.Zeros.{Zeros}
 use Rattle.num_zeros.proofs.Laws.{zeros-part, big-zero, little-zero}
-use Rattle.list_find.specs.declared.Looked.{Looked}
-use Rattle.list_find.specs.declared.Looked.TheVariants.{Done, Going}
-use Rattle.list_find.specs.declared.Found.{Found}
-use Rattle.list_find.specs.declared.Found.TheVariants.{At, Outside, TooMany}
-use Rattle.list_find.specs.Walk.{File, u32, size, entries_in, whole, value_at, inside, count_at, list_at, is_list, after, own_from, visit, sub_of, subs_from, subs_at, any_subs, is_subs, all_subs}
+use Rattle.std.specs.declared.ops.ControlFlow.TheVariants.{Break, Continue}
+use Rattle.std.specs.Prelude.{Err}
+use Rattle.list_find.specs.declared.FindError.TheVariants.{Outside, TooMany}
+use Rattle.list_find.specs.Walk.{Found, Looked, At, File, u32, size, entries_in, whole, value_at, inside, count_at, list_at, is_list, after, own_from, visit, sub_of, subs_from, subs_at, any_subs, is_subs, all_subs}
 use Rattle.list_find.specs.Skips.{Skipped}
 
 -- four bytes are two and two
@@ -30,16 +28,6 @@ halves s at =
 
 -- ---- inside the file
 
-pub outside-all : (at : ℕ) {n m : ℕ} → m < n → false ≡ leb (at + n) m
-outside-all at {n} {m} h = sym (lt-leb (at + n) m (omega arith))
-
-pub leb-moved : (at : ℕ) {n m : ℕ} → n ≤ m → leb at (m - n) ≡ leb (at + n) m
-leb-moved at {n} {m} h = go (leb at (m - n)) refl
-  where
-    go : (b : Bool) → leb at (m - n) ≡ b → leb at (m - n) ≡ leb (at + n) m
-    go true e = e ∙ sym (le-leb (at + n) m (omega (arith, leb-true at (m - n) e)))
-    go false e = e ∙ sym (lt-leb (at + n) m (omega (arith, leb-false at (m - n) e)))
-
 pub whole_is : (f : File) (at : ℕ) {n : ℕ} {b : Bool} → n ≡ entries_in f at → b ≡ leb (at + (n * 12 + 6)) (size f) → b ≡ whole f at
 unfolding whole
 whole_is f at {n} e h = h ∙ ap (λ (m : ℕ). leb m (size f)) (omega (arith, e))
@@ -47,7 +35,7 @@ whole_is f at {n} e h = h ∙ ap (λ (m : ℕ). leb m (size f)) (omega (arith, e
 -- ---- an entry
 
 module _ (f : File) (e : ℕ) {n at : ℕ} {b : Bool} (i : n ≡ count_at f e) (j : at ≡ value_at f e n) (h : b ≡ leb (at + n) (size f)) where
-  pub list-outside : b ≡ false → Outside ≡ list_at f e
+  pub list-outside : b ≡ false → Err Outside ≡ list_at f e
   unfolding list_at inside
   list-outside t = simp (sym i, sym j, sym h ∙ t)
 
@@ -57,21 +45,27 @@ module _ (f : File) (e : ℕ) {n at : ℕ} {b : Bool} (i : n ≡ count_at f e) (
 
 -- ---- the own entries of a directory: at the list, at another entry, and past the last
 
-module _ (f : File) (tag n k e i : ℕ) {b : Bool} (h : i < n) (r : b ≡ is_list f tag e) where
-  pub own-here : b ≡ true → own_from f tag (n - i) e k ≡ Done (list_at f e)
+-- the entry behind entry i
+behind : (e i : ℕ) → e + 12 * i + 12 ≡ e + 12 * (i + 1)
+behind e i = omega arith
+
+module _ (f : File) (tag n k e i : ℕ) {b : Bool} (h : i < n) (r : b ≡ is_list f tag (e + 12 * i)) where
+  pub own-here : b ≡ true → own_from f tag (n - i) (e + 12 * i) k ≡ Break (list_at f (e + 12 * i))
   unfolding own_from
   own-here t = let m : n - i ≡ suc (n - (i + 1)) = omega arith in simp (m, sym r ∙ t)
 
-  pub own_on : b ≡ false → own_from f tag (n - i) e k ≡ own_from f tag (n - (i + 1)) (e + 12) k
+  pub own_on : b ≡ false → own_from f tag (n - i) (e + 12 * i) k ≡ own_from f tag (n - (i + 1)) (e + 12 * (i + 1)) k
   unfolding own_from
-  own_on t = let m : n - i ≡ suc (n - (i + 1)) = omega arith in simp (m, sym r ∙ t)
+  own_on t =
+      let m : n - i ≡ suc (n - (i + 1)) = omega arith in
+      simp (m, sym r ∙ t) (ap (λ (a : ℕ). own_from f tag (n - (i + 1)) a k) (behind e i))
 
-pub own-end : (f : File) (tag n k e i : ℕ) → n ≤ i → own_from f tag (n - i) e k ≡ Going k
+pub own-end : (f : File) (tag n k e i : ℕ) → n ≤ i → own_from f tag (n - i) e k ≡ Continue k
 unfolding own_from
 own-end f tag n k e i h = let m : n - i ≡ 0 = omega arith in simp m
 
-pub own-begin : (f : File) (tag n e k : ℕ) → own_from f tag (n - 0) e k ≡ own_from f tag n e k
-own-begin f tag n e k = ap (λ (m : ℕ). own_from f tag m e k) (omega arith)
+pub own-begin : (f : File) (tag n e k : ℕ) → own_from f tag (n - 0) (e + 12 * 0) k ≡ own_from f tag n e k
+own-begin f tag n e k = simp (sub-zero, mul-zero, add-zero)
 
 -- ---- going to a directory
 
@@ -84,12 +78,12 @@ pub room : (f : File) (at : ℕ) {b : Bool} {n : ℕ} → b ≡ whole f at → b
 room f at h t e = omega (arith, whole_room f at (sym h ∙ t), e)
 
 module _ (f : File) (tag at k : ℕ) where
-  pub visit-many : 64 ≤ k → Done TooMany ≡ visit f tag at k
+  pub visit-many : 64 ≤ k → Break (Err TooMany) ≡ visit f tag at k
   unfolding visit
   visit-many h = simp (le-leb 64 k h)
 
   module _ (h : k < 64) {b : Bool} (w : b ≡ whole f at) where
-    pub visit-outside : b ≡ false → Done Outside ≡ visit f tag at k
+    pub visit-outside : b ≡ false → Break (Err Outside) ≡ visit f tag at k
     unfolding visit
     visit-outside t = simp (lt-leb 64 k h, sym w ∙ t)
 
@@ -100,7 +94,7 @@ module _ (f : File) (tag at k : ℕ) where
 -- ---- SubIFDs
 
 module _ (f : File) (tag k : ℕ) where
-  pub sub-none : {at : ℕ} → at ≡ 0 → Going k ≡ sub_of f tag at k
+  pub sub-none : {at : ℕ} → at ≡ 0 → Continue k ≡ sub_of f tag at k
   unfolding sub_of
   sub-none {at} h = simp (eq-eqb at 0 h)
 
@@ -135,11 +129,11 @@ module _ (f : File) (tag n o k i : ℕ) (h : i < n) {r : Looked} {w : ℕ} (e : 
   unfolding subs_from
   subs-one = let m : n - i ≡ suc (n - (i + 1)) = omega arith in rw m (rw (q, e))
 
-  pub subs-stop : {a : Found} → r ≡ Done a → subs_from f tag (n - i) (o + 4 * i) k ≡ Done a
+  pub subs-stop : {a : Found} → r ≡ Break a → subs_from f tag (n - i) (o + 4 * i) k ≡ Break a
   subs-stop d = subs-one ∙ ap (λ (l : Looked). after l (λ (j : ℕ). subs_from f tag (n - (i + 1)) (o + 4 * i + 4) j)) d
 
   -- and those behind it that are 0
-  pub subs-on : {j x : ℕ} → r ≡ Going j → Skipped f.bytes n o i x → subs_from f tag (n - i) (o + 4 * i) k ≡ subs_from f tag (n - x) (o + 4 * x) j
+  pub subs-on : {j x : ℕ} → r ≡ Continue j → Skipped f.bytes n o i x → subs_from f tag (n - i) (o + 4 * i) k ≡ subs_from f tag (n - x) (o + 4 * x) j
   subs-on {j} {x} g s =
       let d : n - (i + 1) ≡ x - (i + 1) + (n - x) = omega (arith, s.from, s.most) in
       let a : o + 4 * i + 4 ≡ o + 4 * (i + 1) = omega arith in
@@ -149,15 +143,12 @@ module _ (f : File) (tag n o k i : ℕ) (h : i < n) {r : Looked} {w : ℕ} (e : 
       ∙ simp (d, a) (subs-zeros f tag (x - (i + 1)) (n - x) (o + 4 * (i + 1)) j z)
       ∙ ap (λ (p : ℕ). subs_from f tag (n - x) p j) (sym b)
 
-pub subs-end : (f : File) (tag n o i k : ℕ) → n ≤ i → subs_from f tag (n - i) (o + 4 * i) k ≡ Going k
+pub subs-end : (f : File) (tag n o i k : ℕ) → n ≤ i → subs_from f tag (n - i) (o + 4 * i) k ≡ Continue k
 unfolding subs_from
 subs-end f tag n o i k h = let m : n - i ≡ 0 = omega arith in simp m
 
-pub subs-begin : (f : File) (tag n o k : ℕ) → subs_from f tag (n - 0) (o + 4 * 0) k ≡ subs_from f tag n o k
-subs-begin f tag n o k = simp (sub-zero, mul-zero, add-zero)
-
 module _ (f : File) (tag e k : ℕ) {n o : ℕ} {b : Bool} (i : n ≡ count_at f e) (j : o ≡ value_at f e (4 * n)) (h : b ≡ leb (o + 4 * n) (size f)) where
-  pub subs-outside : b ≡ false → Done Outside ≡ subs_at f tag e k
+  pub subs-outside : b ≡ false → Break (Err Outside) ≡ subs_at f tag e k
   unfolding subs_at inside
   subs-outside t = simp (sym i, sym j, sym h ∙ t)
 
@@ -166,7 +157,7 @@ module _ (f : File) (tag e k : ℕ) {n o : ℕ} {b : Bool} (i : n ≡ count_at f
   subs-inside t q = simp (sym i, sym j, sym h ∙ t) q
 
 module _ (f : File) (tag e k : ℕ) {b : Bool} (h : b ≡ is_subs f e) where
-  pub any_none : b ≡ false → Going k ≡ any_subs f tag e k
+  pub any_none : b ≡ false → Continue k ≡ any_subs f tag e k
   unfolding any_subs
   any_none t = simp (sym h ∙ t)
 
@@ -176,46 +167,19 @@ module _ (f : File) (tag e k : ℕ) {b : Bool} (h : b ≡ is_subs f e) where
 
 -- ---- the entries of a directory once more, for SubIFDs
 
-module _ (f : File) (tag n e k i : ℕ) (h : i < n) {r : Looked} (q : r ≡ any_subs f tag e k) where
-  all_one : all_subs f tag (n - i) e k ≡ after r (λ (j : ℕ). all_subs f tag (n - (i + 1)) (e + 12) j)
+module _ (f : File) (tag n e k i : ℕ) (h : i < n) {r : Looked} (q : r ≡ any_subs f tag (e + 12 * i) k) where
+  all_one : all_subs f tag (n - i) (e + 12 * i) k ≡ after r (λ (j : ℕ). all_subs f tag (n - (i + 1)) (e + 12 * i + 12) j)
   unfolding all_subs
   all_one = let m : n - i ≡ suc (n - (i + 1)) = omega arith in rw m (rw q)
 
-  pub all-stop : {a : Found} → r ≡ Done a → all_subs f tag (n - i) e k ≡ Done a
-  all-stop d = all_one ∙ ap (λ (l : Looked). after l (λ (j : ℕ). all_subs f tag (n - (i + 1)) (e + 12) j)) d
+  pub all-stop : {a : Found} → r ≡ Break a → all_subs f tag (n - i) (e + 12 * i) k ≡ Break a
+  all-stop d = all_one ∙ ap (λ (l : Looked). after l (λ (j : ℕ). all_subs f tag (n - (i + 1)) (e + 12 * i + 12) j)) d
 
-  pub all-on : {j : ℕ} → r ≡ Going j → all_subs f tag (n - i) e k ≡ all_subs f tag (n - (i + 1)) (e + 12) j
-  all-on d = all_one ∙ ap (λ (l : Looked). after l (λ (j : ℕ). all_subs f tag (n - (i + 1)) (e + 12) j)) d
+  pub all-on : {j : ℕ} → r ≡ Continue j → all_subs f tag (n - i) (e + 12 * i) k ≡ all_subs f tag (n - (i + 1)) (e + 12 * (i + 1)) j
+  all-on {j} d =
+      all_one ∙ ap (λ (l : Looked). after l (λ (j : ℕ). all_subs f tag (n - (i + 1)) (e + 12 * i + 12) j)) d
+      ∙ ap (λ (a : ℕ). all_subs f tag (n - (i + 1)) a j) (behind e i)
 
-pub all_end : (f : File) (tag n e i k : ℕ) → n ≤ i → all_subs f tag (n - i) e k ≡ Going k
+pub all_end : (f : File) (tag n e i k : ℕ) → n ≤ i → all_subs f tag (n - i) e k ≡ Continue k
 unfolding all_subs
 all_end f tag n e i k h = let m : n - i ≡ 0 = omega arith in simp m
-
-pub all-begin : (f : File) (tag n e k : ℕ) → all_subs f tag (n - 0) e k ≡ all_subs f tag n e k
-all-begin f tag n e k = ap (λ (m : ℕ). all_subs f tag m e k) (omega arith)
-
--- what num_zeros passed over, in offsets
-pub skipped-of : {s : List ℕ} {n o i p : ℕ} → i < n → Passed s (o + 4 * (i + 1)) (o + 4 * n) p → Skipped s n o i ((p - o) / 4)
-skipped-of {s} {n} {o} {i} {p} h x =
-    record {
-      from = omega (arith, x.from);
-      most = omega (arith, x.most);
-      zeros = zeros-part (omega arith) (omega (arith, x.from)) x.zeros;
-    }
-
--- ---- a part, as the code takes it
-
--- what is left from a position on
-rest : (s : List ℕ) (at n : ℕ) → length s ≤ at + n → take n (drop at s) ≡ drop at s
-rest s at n h = take_all n (drop at s) (simp length-drop (omega arith))
-
-module _ (s : List ℕ) (at len : ℕ) where
-  pub part-past : length s ≤ at → take (length s - length s) (drop (length s) s) ≡ take len (drop at s)
-  part-past h =
-      rest s (length s) (length s - length s) (omega arith) ∙ drop-length s ∙ sym (drop_of_length-le s h) ∙ sym (rest s at len (omega arith))
-
-  pub part-across : length s ≤ at + len → take (length s - at) (drop at s) ≡ take len (drop at s)
-  part-across h = rest s at (length s - at) (omega arith) ∙ sym (rest s at len h)
-
-  pub part-inside : take (at + len - at) (drop at s) ≡ take len (drop at s)
-  part-inside = simp add-sub_cancel_left

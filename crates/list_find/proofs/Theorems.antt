@@ -6,8 +6,9 @@ use mathlib.Core.Path.{◌≡◌, refl, sym, ◌∙◌}
 use native.Mathlib.Omega.{arith}
 use lib.ListN.{length, length-take, length-drop}
 use Rattle.list_find.specs.declared.Which.{Which}
-use Rattle.list_find.specs.declared.Found.TheVariants.{At, NotTiff}
-use Rattle.list_find.specs.Walk.{headed, found_in}
+use Rattle.std.specs.Prelude.{Err}
+use Rattle.list_find.specs.declared.FindError.TheVariants.{NotTiff}
+use Rattle.list_find.specs.Walk.{At, headed, found_in}
 use Rattle.list_find.specs.Promises.{Promises}
 use Rattle.list_find.proofs.Fine.{found_none, found-lies}
 
@@ -18,7 +19,7 @@ inside s which start len e = go (headed s) refl
     go true h = let l = found-lies s which h in rw e at l
     go false h = let n = found_none s which refl h in let z : ◌≡◌ {A = ℕ} 0 1 = cc in absurd (omega arith)
 
-tiff : (s : List ℕ) (which : Which) → found_in s which ≡ NotTiff → headed s ≡ false
+tiff : (s : List ℕ) (which : Which) → found_in s which ≡ Err NotTiff → headed s ≡ false
 tiff s which e = go (headed s) refl
   where
     go : (b : Bool) → headed s ≡ b → headed s ≡ false

@@ -1,11 +1,10 @@
 -- Worked values, which the checker computes: small files, one for each sentence of document 02, M-105, and each
 -- reading of it (docs/DECISIONS).
-use Rattle.std.specs.Prelude.{ℕ, zero, suc, ◌+◌, ◌/◌, ◌%◌, ◌≡◌, refl, Bool, true, false, cond, List, [], ◌∷◌, ◌++◌, replicate}
+use Rattle.std.specs.Prelude.{ℕ, zero, suc, ◌+◌, ◌/◌, ◌%◌, ◌≡◌, refl, Bool, true, false, cond, List, Err, [], ◌∷◌, ◌++◌, replicate}
 use Rattle.num_words.specs.Words.{big, little}
 use Rattle.list_find.specs.declared.Which.TheVariants.{List1, List2, List3}
-use Rattle.list_find.specs.declared.Found.{Found}
-use Rattle.list_find.specs.declared.Found.TheVariants.{At, NotTiff, Outside, TooMany, Missing}
-use Rattle.list_find.specs.Walk.{number_of, whole, value_at, inside, is_list, is_subs, list_at, own_from, visit, sub_of, subs_from, subs_at, any_subs, all_subs, directory, chain, headed, found_in, part_of}
+use Rattle.list_find.specs.declared.FindError.TheVariants.{NotTiff, Outside, TooMany, Missing}
+use Rattle.list_find.specs.Walk.{Found, At, number_of, whole, value_at, inside, is_list, is_subs, list_at, own_from, visit, sub_of, subs_from, subs_at, any_subs, all_subs, directory, chain, headed, found_in, part_of}
 
 -- ---- files, in either order
 
@@ -52,19 +51,19 @@ found most rest = found_in (head most 8 ++ rest) List1
 -- ---- the walk
 
 pub record Header : Type 0 where
-  pub empty : found_in [] List1 ≡ NotTiff
+  pub empty : found_in [] List1 ≡ Err NotTiff
   -- fewer than four bytes after 42
-  pub short : found_in (73 ∷ 73 ∷ 42 ∷ 0 ∷ 8 ∷ 0 ∷ 0 ∷ []) List1 ≡ NotTiff
+  pub short : found_in (73 ∷ 73 ∷ 42 ∷ 0 ∷ 8 ∷ 0 ∷ 0 ∷ []) List1 ≡ Err NotTiff
   -- 43 is BigTIFF
-  pub other : found_in (77 ∷ 77 ∷ 0 ∷ 43 ∷ 0 ∷ 0 ∷ 0 ∷ 0 ∷ []) List1 ≡ NotTiff
+  pub other : found_in (77 ∷ 77 ∷ 0 ∷ 43 ∷ 0 ∷ 0 ∷ 0 ∷ 0 ∷ []) List1 ≡ Err NotTiff
   -- 42 in the other order; two letters that differ
-  pub turned : found_in (77 ∷ 77 ∷ 42 ∷ 0 ∷ 0 ∷ 0 ∷ 0 ∷ 0 ∷ []) List1 ≡ NotTiff
-  pub turned-back : found_in (73 ∷ 73 ∷ 0 ∷ 42 ∷ 0 ∷ 0 ∷ 0 ∷ 0 ∷ []) List1 ≡ NotTiff
-  pub mixed : found_in (73 ∷ 77 ∷ 42 ∷ 0 ∷ 0 ∷ 0 ∷ 0 ∷ 0 ∷ []) List1 ≡ NotTiff
+  pub turned : found_in (77 ∷ 77 ∷ 42 ∷ 0 ∷ 0 ∷ 0 ∷ 0 ∷ 0 ∷ []) List1 ≡ Err NotTiff
+  pub turned-back : found_in (73 ∷ 73 ∷ 0 ∷ 42 ∷ 0 ∷ 0 ∷ 0 ∷ 0 ∷ []) List1 ≡ Err NotTiff
+  pub mixed : found_in (73 ∷ 77 ∷ 42 ∷ 0 ∷ 0 ∷ 0 ∷ 0 ∷ 0 ∷ []) List1 ≡ Err NotTiff
   -- offset 0 ends the chain, also the first
-  pub none : found_in (head false 0) List1 ≡ Missing
+  pub none : found_in (head false 0) List1 ≡ Err Missing
   -- an offset below 8: a directory of no entries in the header itself
-  pub low : found_in (head false 6 ++ four false 0) List1 ≡ Missing
+  pub low : found_in (head false 6 ++ four false 0) List1 ≡ Err Missing
 
 -- in a big-endian and in a little-endian file
 pub record Own (most : Bool) : Type 0 where
@@ -72,48 +71,48 @@ pub record Own (most : Bool) : Type 0 where
   pub asked2 : found_in (head most 8 ++ dir1 most (entry most 51009 7 4 0) 0) List2 ≡ At 18 4
   pub asked3 : found_in (head most 8 ++ dir1 most (entry most 51022 7 4 0) 0) List3 ≡ At 18 4
   -- another list than the one asked for
-  pub other : found_in (head most 8 ++ dir1 most (list1 most 4) 0) List2 ≡ Missing
+  pub other : found_in (head most 8 ++ dir1 most (list1 most 4) 0) List2 ≡ Err Missing
   -- five bytes stand elsewhere: up to the file's end, and one past it
   pub five : found most (dir1 most (entry most 51008 7 5 26) 0 ++ (1 ∷ 2 ∷ 3 ∷ 4 ∷ 5 ∷ [])) ≡ At 26 5
-  pub past : found most (dir1 most (entry most 51008 7 5 26) 0 ++ (1 ∷ 2 ∷ 3 ∷ 4 ∷ [])) ≡ Outside
+  pub past : found most (dir1 most (entry most 51008 7 5 26) 0 ++ (1 ∷ 2 ∷ 3 ∷ 4 ∷ [])) ≡ Err Outside
   -- a count of 0: found, no bytes, where the value would stand
   pub nothing : found most (dir1 most (list1 most 0) 0) ≡ At 18 0
   -- a list may stand at offset 0
   pub first : found most (dir1 most (entry most 51008 7 5 0) 0) ≡ At 0 5
   -- offset and size are added without wrapping: in 32 bits the sum would be 4
-  pub far : found most (dir1 most (entry most 51008 7 5 4294967295) 0) ≡ Outside
+  pub far : found most (dir1 most (entry most 51008 7 5 4294967295) 0) ≡ Err Outside
   -- types 7 and 1; another is passed over, those of SubIFDs too
   pub bytes : found most (dir1 most (entry most 51008 1 4 0) 0) ≡ At 18 4
   pub ascii : found most (dir2 most (entry most 51008 2 4 0) (list1 most 3) 0) ≡ At 30 3
   pub long : found most (dir2 most (entry most 51008 4 1 0) (list1 most 3) 0) ≡ At 30 3
   pub ifd : found most (dir2 most (entry most 51008 13 1 0) (list1 most 3) 0) ≡ At 30 3
   -- the first one of a right type decides, also where it lies outside
-  pub decides : found most (dir2 most (entry most 51008 7 5 99) (list1 most 3) 0) ≡ Outside
+  pub decides : found most (dir2 most (entry most 51008 7 5 99) (list1 most 3) 0) ≡ Err Outside
   -- an entry of another tag is not looked into
   pub unread : found most (dir2 most (entry most 273 4 9 4294967295) (list1 most 3) 0) ≡ At 30 3
 
 pub record Directories (most : Bool) : Type 0 where
   -- a directory not whole in the file: its next offset cut, and a first offset at the file's end
-  pub cut : found most (two most 1 ++ list1 most 4 ++ (0 ∷ 0 ∷ 0 ∷ [])) ≡ Outside
-  pub after : found_in (head most 8) List1 ≡ Outside
+  pub cut : found most (two most 1 ++ list1 most 4 ++ (0 ∷ 0 ∷ 0 ∷ [])) ≡ Err Outside
+  pub after : found_in (head most 8) List1 ≡ Err Outside
   -- the next directory; a next offset outside is refused only where it is followed
   pub chained : found most (dir0 most 14 ++ dir1 most (list1 most 2) 0) ≡ At 24 2
   pub unfollowed : found most (dir1 most (list1 most 2) 99) ≡ At 18 2
-  pub followed : found_in (head most 8 ++ dir1 most (list1 most 2) 99) List2 ≡ Outside
+  pub followed : found_in (head most 8 ++ dir1 most (list1 most 2) 99) List2 ≡ Err Outside
   -- at an odd offset
   pub odd : found_in (head most 9 ++ (0 ∷ []) ++ dir1 most (list1 most 2) 0) List1 ≡ At 19 2
   -- a directory that is its own next one
-  pub loop : found most (dir0 most 8) ≡ TooMany
+  pub loop : found most (dir0 most 8) ≡ Err TooMany
 
 pub record Subs (most : Bool) : Type 0 where
   pub one : found most (dir1 most (sub most 1 26) 0 ++ dir1 most (list1 most 2) 0) ≡ At 36 2
   -- type 13 as well as 4, and no other
   pub ifd : found most (dir1 most (entry most 330 13 1 26) 0 ++ dir1 most (list1 most 2) 0) ≡ At 36 2
-  pub short : found most (dir1 most (entry most 330 3 1 26) 0 ++ dir1 most (list1 most 2) 0) ≡ Missing
-  pub bytes : found most (dir1 most (entry most 330 1 4 26) 0 ++ dir1 most (list1 most 2) 0) ≡ Missing
-  pub undefined : found most (dir1 most (entry most 330 7 4 26) 0 ++ dir1 most (list1 most 2) 0) ≡ Missing
+  pub short : found most (dir1 most (entry most 330 3 1 26) 0 ++ dir1 most (list1 most 2) 0) ≡ Err Missing
+  pub bytes : found most (dir1 most (entry most 330 1 4 26) 0 ++ dir1 most (list1 most 2) 0) ≡ Err Missing
+  pub undefined : found most (dir1 most (entry most 330 7 4 26) 0 ++ dir1 most (list1 most 2) 0) ≡ Err Missing
   -- a count of 0: there are none
-  pub none : found most (dir1 most (sub most 0 26) 0 ++ dir1 most (list1 most 2) 0) ≡ Missing
+  pub none : found most (dir1 most (sub most 0 26) 0 ++ dir1 most (list1 most 2) 0) ≡ Err Missing
   -- own entries come first, whatever stands before them
   pub own_first : found most (dir2 most (sub most 1 38) (list1 most 3) 0 ++ dir1 most (list1 most 2) 0) ≡ At 30 3
   pub outside : found most (dir2 most (sub most 9 99) (list1 most 3) 0) ≡ At 30 3
@@ -138,17 +137,17 @@ pub record Subs (most : Bool) : Type 0 where
   pub first_found :
       found most (dir2 most (sub most 1 38) (sub most 9 99) 0 ++ dir1 most (list1 most 2) 0) ≡ At 48 2
   pub first-outside :
-      found most (dir2 most (sub most 9 99) (sub most 1 38) 0 ++ dir1 most (list1 most 2) 0) ≡ Outside
+      found most (dir2 most (sub most 9 99) (sub most 1 38) 0 ++ dir1 most (list1 most 2) 0) ≡ Err Outside
   -- offsets partly outside: at once, before the first SubIFD
-  pub partly : found most (dir1 most (sub most 2 44) 0 ++ dir1 most (list1 most 2) 0 ++ four most 26) ≡ Outside
+  pub partly : found most (dir1 most (sub most 2 44) 0 ++ dir1 most (list1 most 2) 0 ++ four most 26) ≡ Err Outside
   -- four times the count does not wrap
-  pub many : found most (dir1 most (sub most 1073741824 0) 0) ≡ Outside
+  pub many : found most (dir1 most (sub most 1073741824 0) 0) ≡ Err Outside
   -- neither a SubIFD's chain nor its own SubIFDs are followed, and its next offset may lie anywhere
-  pub no-chain : found most (dir1 most (sub most 1 26) 0 ++ dir0 most 32 ++ dir1 most (list1 most 2) 0) ≡ Missing
+  pub no-chain : found most (dir1 most (sub most 1 26) 0 ++ dir0 most 32 ++ dir1 most (list1 most 2) 0) ≡ Err Missing
   pub no_deeper :
-      found most (dir1 most (sub most 1 26) 0 ++ dir1 most (sub most 1 44) 99 ++ dir1 most (list1 most 2) 0) ≡ Missing
+      found most (dir1 most (sub most 1 26) 0 ++ dir1 most (sub most 1 44) 99 ++ dir1 most (list1 most 2) 0) ≡ Err Missing
   -- a SubIFD that is not whole
-  pub cut : found most (dir1 most (sub most 1 26) 0) ≡ Outside
+  pub cut : found most (dir1 most (sub most 1 26) 0) ≡ Err Outside
 
 -- a first directory at 8 whose n SubIFDs are the one at 26 again and again, and one more at an offset of its own, and
 -- its next offset
@@ -167,30 +166,30 @@ links (suc n) at = dir0 true (at + 6) ++ links n (at + 6)
 
 pub record Limit : Type 0 where
   -- a chain of 64, and of 65
-  pub chain64 : found_in (head true 8 ++ links 63 8) List1 ≡ Missing
-  pub chain65 : found_in (head true 8 ++ links 64 8) List1 ≡ TooMany
+  pub chain64 : found_in (head true 8 ++ links 63 8) List1 ≡ Err Missing
+  pub chain65 : found_in (head true 8 ++ links 64 8) List1 ≡ Err TooMany
   -- every visit counts, also to one directory again: 64 with the first, and none asked for
-  pub full : found_in (again 62 26 0) List1 ≡ Missing
+  pub full : found_in (again 62 26 0) List1 ≡ Err Missing
   -- SubIFDs count where the chain goes on, and those of one entry where the next is looked at
-  pub chain-full : found_in (again 61 26 26) List1 ≡ Missing
-  pub chain-over : found_in (again 62 26 26) List1 ≡ TooMany
-  pub entry-over : found_in (twice (sub true 1 38)) List1 ≡ TooMany
+  pub chain-full : found_in (again 61 26 26) List1 ≡ Err Missing
+  pub chain-over : found_in (again 62 26 26) List1 ≡ Err TooMany
+  pub entry-over : found_in (twice (sub true 1 38)) List1 ≡ Err TooMany
   -- offsets that lie outside are met before the 65th directory is gone to
-  pub entry-outside : found_in (twice (sub true 9 99999)) List1 ≡ Outside
+  pub entry-outside : found_in (twice (sub true 9 99999)) List1 ≡ Err Outside
   -- a 65th, also where it would not be whole; offset 0 does not count, neither before the 64th nor behind it
-  pub over : found_in (again 63 26 0) List1 ≡ TooMany
-  pub unseen : found_in (again 63 99999 0) List1 ≡ TooMany
-  pub uncounted : found_in (again 62 0 26) List1 ≡ Missing
-  pub zero : found_in (again 63 0 0) List1 ≡ Missing
+  pub over : found_in (again 63 26 0) List1 ≡ Err TooMany
+  pub unseen : found_in (again 63 99999 0) List1 ≡ Err TooMany
+  pub uncounted : found_in (again 62 0 26) List1 ≡ Err Missing
+  pub zero : found_in (again 63 0 0) List1 ≡ Err Missing
   -- the 64th, where it is not whole
-  pub last : found_in (again 62 99999 0) List1 ≡ Outside
+  pub last : found_in (again 62 99999 0) List1 ≡ Err Outside
 
 pub record Numbers : Type 0 where
   pub found : number_of (At 5 4) ≡ 0
-  pub tiff : number_of NotTiff ≡ 30
-  pub outside : number_of Outside ≡ 31
-  pub many : number_of TooMany ≡ 32
-  pub missing : number_of Missing ≡ 33
+  pub tiff : number_of (Err NotTiff) ≡ 30
+  pub outside : number_of (Err Outside) ≡ 31
+  pub many : number_of (Err TooMany) ≡ 32
+  pub missing : number_of (Err Missing) ≡ 33
   pub part : part_of (1 ∷ 2 ∷ 3 ∷ 4 ∷ []) 1 2 ≡ 2 ∷ 3 ∷ []
 
 pub header : Header

@@ -30,6 +30,9 @@ ghost use Rattle.list_find.specs.Walk.{
   part_of,
 };
 
+use std::ops::ControlFlow;
+use std::ops::ControlFlow::{Break, Continue};
+
 // Which list is asked for.
 #[derive(Clone, Copy)]
 pub enum Which {
@@ -46,36 +49,37 @@ impl Which {
     pub const TAG3: usize = 51022;
 }
 
-// Where it stands in the file, or why it was not found.
+// Where it stands in the file.
 #[derive(Clone, Copy)]
-pub enum Found {
-    At { start: usize, len: usize },
+pub struct Place {
+    pub start: usize,
+    pub len: usize,
+}
+
+// Why none was found.
+#[derive(Clone, Copy)]
+pub enum FindError {
     NotTiff,
     Outside,
     TooMany,
     Missing,
 }
 
-// An answer, or none so far and how many directories were gone to.
-#[derive(Clone, Copy)]
-pub enum Looked {
-    Done { found: Found },
-    Going { directories: usize },
-}
+// An answer, which ends the walk, or how many directories were gone to.
+type Walked = ControlFlow<Result<Place, FindError>, usize>;
 
-impl Looked {
-    pub const MAX_DIRECTORIES: usize = 64;
-    // The tag of SubIFDs, and the types that count: UNDEFINED and BYTE of a list, LONG and IFD of SubIFDs.
-    pub const SUB_IFDS: usize = 330;
+const MAX_DIRECTORIES: usize = 64;
 
-    pub const UNDEFINED: usize = 7;
+// The tag of SubIFDs, and the types that count: UNDEFINED and BYTE of a list, LONG and IFD of SubIFDs.
+const SUB_IFDS: usize = 330;
 
-    pub const BYTE: usize = 1;
+const UNDEFINED: usize = 7;
 
-    pub const LONG: usize = 4;
+const BYTE: usize = 1;
 
-    pub const IFD: usize = 13;
-}
+const LONG: usize = 4;
+
+const IFD: usize = 13;
 
 // ---- numbers
 
@@ -117,10 +121,7 @@ fn value_at(file: &[u8], most: bool, e: usize, n: usize) -> usize
 fn is_inside(file: &[u8], at: usize, n: usize) -> bool
     ensures { result ≡ leb (at + n) (length file.now) }
 {
-    if file.len() < n {
-        return false;
-    }
-    at <= file.len() - n
+    n <= file.len() && at <= file.len() - n
 }
 
 fn is_list(file: &[u8], most: bool, tag: usize, e: usize) -> bool
@@ -128,7 +129,7 @@ fn is_list(file: &[u8], most: bool, tag: usize, e: usize) -> bool
     ensures { result ≡ is_list (file_with most file.now) tag e }
 {
     let kind = half(file, most, e + 2);
-    (half(file, most, e) == tag) & ((kind == Looked::UNDEFINED) | (kind == Looked::BYTE))
+    (half(file, most, e) == tag) & ((kind == UNDEFINED) | (kind == BYTE))
 }
 
 fn is_subs(file: &[u8], most: bool, e: usize) -> bool
@@ -136,42 +137,37 @@ fn is_subs(file: &[u8], most: bool, e: usize) -> bool
     ensures { result ≡ is_subs (file_with most file.now) e }
 {
     let kind = half(file, most, e + 2);
-    (half(file, most, e) == Looked::SUB_IFDS) & ((kind == Looked::LONG) | (kind == Looked::IFD))
+    (half(file, most, e) == SUB_IFDS) & ((kind == LONG) | (kind == IFD))
 }
 
 // The list that an entry holds, as a part of the file.
-fn list_at(file: &[u8], most: bool, e: usize) -> Found
+fn list_at(file: &[u8], most: bool, e: usize) -> Result<Place, FindError>
     requires { e + 12 ≤ length file.now }
     ensures { result ≡ list_at (file_with most file.now) e }
 {
     let n = word(file, most, e + 4);
     let at = value_at(file, most, e, n);
     if is_inside(file, at, n) {
-        Found::At { start: at, len: n }
+        Ok(Place { start: at, len: n })
     } else {
-        Found::Outside
+        Err(FindError::Outside)
     }
 }
 
 // ---- a directory
 
 // The first of n entries from e on that is the list.
-fn own(file: &[u8], most: bool, tag: usize, n: usize, e: usize, k: usize) -> Looked
+fn own(file: &[u8], most: bool, tag: usize, n: usize, e: usize, k: usize) -> Walked
     requires { e + 12 * n ≤ length file.now }
     ensures { result ≡ own_from (file_with most file.now) tag n e k }
 {
-    let mut i: usize = 0;
-    let mut at = e;
-    while i < n {
+    for i in 0..n {
+        let at = e + 12 * i;
         if is_list(file, most, tag, at) {
-            return Looked::Done {
-                found: list_at(file, most, at),
-            };
+            return Break(list_at(file, most, at));
         }
-        at += 12;
-        i += 1;
     }
-    Looked::Going { directories: k }
+    Continue(k)
 }
 
 fn is_whole(file: &[u8], most: bool, at: usize) -> bool
@@ -180,18 +176,14 @@ fn is_whole(file: &[u8], most: bool, at: usize) -> bool
     is_inside(file, at, half(file, most, at) * 12 + 6)
 }
 
-fn visit(file: &[u8], most: bool, tag: usize, at: usize, k: usize) -> Looked
+fn visit(file: &[u8], most: bool, tag: usize, at: usize, k: usize) -> Walked
     ensures { result ≡ visit (file_with most file.now) tag at k }
 {
-    if Looked::MAX_DIRECTORIES <= k {
-        return Looked::Done {
-            found: Found::TooMany,
-        };
+    if MAX_DIRECTORIES <= k {
+        return Break(Err(FindError::TooMany));
     }
     if !is_whole(file, most, at) {
-        return Looked::Done {
-            found: Found::Outside,
-        };
+        return Break(Err(FindError::Outside));
     }
     own(file, most, tag, half(file, most, at), at + 2, k + 1)
 }
@@ -200,11 +192,11 @@ fn visit(file: &[u8], most: bool, tag: usize, at: usize, k: usize) -> Looked
 // again: `known` keeps which were found to be zero.
 
 // One offset of a SubIFD.
-fn sub(file: &[u8], most: bool, tag: usize, at: usize, k: usize) -> Looked
+fn sub(file: &[u8], most: bool, tag: usize, at: usize, k: usize) -> Walked
     ensures { result ≡ sub_of (file_with most file.now) tag at k }
 {
     if at == 0 {
-        Looked::Going { directories: k }
+        Continue(k)
     } else {
         visit(file, most, tag, at, k)
     }
@@ -229,7 +221,7 @@ fn subs(
     n: usize,
     o: usize,
     k: usize,
-) -> Looked
+) -> Walked
     requires n_in_bounds { o + 4 * n ≤ length file.now }
     requires known { Known file.now known.old }
     ensures value { result ≡ subs_from (file_with most file.now) tag n o k }
@@ -237,23 +229,17 @@ fn subs(
 {
     let mut i: usize = 0;
     let mut gone = k;
+    // not a range: a step passes the offsets that are 0
     while i < n {
         let at = word(file, most, o + 4 * i);
-        match sub(file, most, tag, at, gone) {
-            Looked::Done { found } => {
-                return Looked::Done { found };
-            }
-            Looked::Going { directories } => {
-                gone = directories;
-                i = next_sub(file, &mut *known, n, o, i);
-            }
-        }
+        gone = sub(file, most, tag, at, gone)?;
+        i = next_sub(file, &mut *known, n, o, i);
     }
-    Looked::Going { directories: gone }
+    Continue(gone)
 }
 
 // The SubIFDs of an entry.
-fn subs_at(file: &[u8], known: &mut [u16], most: bool, tag: usize, e: usize, k: usize) -> Looked
+fn subs_at(file: &[u8], known: &mut [u16], most: bool, tag: usize, e: usize, k: usize) -> Walked
     requires e_in_bounds { e + 12 ≤ length file.now }
     requires known { Known file.now known.old }
     ensures value { result ≡ subs_at (file_with most file.now) tag e k }
@@ -264,14 +250,12 @@ fn subs_at(file: &[u8], known: &mut [u16], most: bool, tag: usize, e: usize, k: 
     if is_inside(file, o, 4 * n) {
         subs(file, known, most, tag, n, o, k)
     } else {
-        Looked::Done {
-            found: Found::Outside,
-        }
+        Break(Err(FindError::Outside))
     }
 }
 
 // The same where the entry is of SubIFDs.
-fn any_subs(file: &[u8], known: &mut [u16], most: bool, tag: usize, e: usize, k: usize) -> Looked
+fn any_subs(file: &[u8], known: &mut [u16], most: bool, tag: usize, e: usize, k: usize) -> Walked
     requires e_in_bounds { e + 12 ≤ length file.now }
     requires known { Known file.now known.old }
     ensures value { result ≡ any_subs (file_with most file.now) tag e k }
@@ -280,7 +264,7 @@ fn any_subs(file: &[u8], known: &mut [u16], most: bool, tag: usize, e: usize, k:
     if is_subs(file, most, e) {
         subs_at(file, known, most, tag, e, k)
     } else {
-        Looked::Going { directories: k }
+        Continue(k)
     }
 }
 
@@ -293,50 +277,29 @@ fn all_subs(
     n: usize,
     e: usize,
     k: usize,
-) -> Looked
+) -> Walked
     requires n_in_bounds { e + 12 * n ≤ length file.now }
     requires known { Known file.now known.old }
     ensures value { result ≡ all_subs (file_with most file.now) tag n e k }
     ensures known_2 { Known file.now known.new }
 {
-    let mut i: usize = 0;
-    let mut at = e;
     let mut gone = k;
-    while i < n {
-        match any_subs(file, &mut *known, most, tag, at, gone) {
-            Looked::Done { found } => {
-                return Looked::Done { found };
-            }
-            Looked::Going { directories } => {
-                gone = directories;
-                at += 12;
-                i += 1;
-            }
-        }
+    for i in 0..n {
+        gone = any_subs(file, &mut *known, most, tag, e + 12 * i, gone)?;
     }
-    Looked::Going { directories: gone }
+    Continue(gone)
 }
 
 // ---- the chain
 
 // A directory's own entries, then its SubIFDs.
-fn directory(file: &[u8], known: &mut [u16], most: bool, tag: usize, at: usize, k: usize) -> Looked
+fn directory(file: &[u8], known: &mut [u16], most: bool, tag: usize, at: usize, k: usize) -> Walked
     requires { Known file.now known.old }
     ensures value { result ≡ directory (file_with most file.now) tag at k }
     ensures known { Known file.now known.new }
 {
-    match visit(file, most, tag, at, k) {
-        Looked::Done { found } => Looked::Done { found },
-        Looked::Going { directories } => all_subs(
-            file,
-            known,
-            most,
-            tag,
-            half(file, most, at),
-            at + 2,
-            directories,
-        ),
-    }
+    let gone = visit(file, most, tag, at, k)?;
+    all_subs(file, known, most, tag, half(file, most, at), at + 2, gone)
 }
 
 fn next(file: &[u8], most: bool, at: usize) -> usize
@@ -347,24 +310,27 @@ fn next(file: &[u8], most: bool, at: usize) -> usize
 }
 
 // The chain of directories from `first` on.
-fn walk(file: &[u8], known: &mut [u16], most: bool, tag: usize, first: usize) -> Found
+fn walk(
+    file: &[u8],
+    known: &mut [u16],
+    most: bool,
+    tag: usize,
+    first: usize,
+) -> Result<Place, FindError>
     requires { Known file.now known.old }
     ensures { result ≡ chain (file_with most file.now) tag 65 first 0 }
 {
     let mut at = first;
-    let mut gone: usize = 0;
+    let mut gone = 0;
+    // not a range: the file says where the next directory is
     while at != 0 {
         match directory(file, &mut *known, most, tag, at, gone) {
-            Looked::Done { found } => {
-                return found;
-            }
-            Looked::Going { directories } => {
-                gone = directories;
-                at = next(file, most, at);
-            }
+            Break(found) => return found,
+            Continue(directories) => gone = directories,
         }
+        at = next(file, most, at);
     }
-    Found::Missing
+    Err(FindError::Missing)
 }
 
 // ---- the file
@@ -393,11 +359,11 @@ fn tag_of(which: Which) -> usize
 }
 
 // The first list of the kind asked for, in the order of the walk, for any bytes.
-pub fn find(file: &[u8], which: Which) -> Found
+pub fn find(file: &[u8], which: Which) -> Result<Place, FindError>
     ensures { result ≡ found_in file.now which }
 {
     if !is_headed(file) {
-        return Found::NotTiff;
+        return Err(FindError::NotTiff);
     }
     let most = file[0] == 77;
     let mut known = [0u16; 8192];
@@ -408,13 +374,6 @@ pub fn find(file: &[u8], which: Which) -> Found
 pub fn part(file: &[u8], start: usize, len: usize) -> &[u8]
     ensures { result.now ≡ part_of file.now start len }
 {
-    let n = file.len();
-    if n <= start {
-        return &file[n..];
-    }
-    if n - start < len {
-        return &file[start..];
-    }
-    let end = start + len;
-    &file[start..end]
+    let rest = &file[start.min(file.len())..];
+    &rest[..len.min(rest.len())]
 }

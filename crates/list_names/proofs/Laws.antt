@@ -10,7 +10,8 @@ use lib.Seq.{sets, sets-eq, set_out}
 use Rattle.dng.specs.declared.Entry.{Entry}
 use Rattle.dng.specs.declared.Opcode.{Opcode}
 use Rattle.dng.specs.List.{Item, preview_of}
-use Rattle.dng.specs.Run.{kept_of, Class, class_of, name_of, names_of}
+use Rattle.dng.specs.declared.Class.{Class}
+use Rattle.dng.specs.Run.{kept_of, class_of, name_of, names_of}
 use Rattle.dng.specs.Answer.{written}
 
 -- ---- one store, made or not

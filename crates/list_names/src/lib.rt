@@ -8,7 +8,7 @@ ghost use Rattle.dng.specs.List.{preview_of};
 ghost use Rattle.dng.specs.Run.{kept_in, class_of, name_of, skipped, skipped16, names_of};
 ghost use Rattle.list_names.specs.Names.{skipped_in};
 
-use dng::{Cursor, Entry, Opcode, Step};
+use dng::{Cursor, Entry, Opcode};
 
 // `whole` asks for the whole-number form.
 fn skips(op: Opcode, whole: bool) -> bool
@@ -44,21 +44,15 @@ fn put_all(list: &[u8], names: &mut [u8], whole: bool, preview: bool)
 {
     let n = list_read::count(list);
     let mut j: usize = 0;
-    let mut k: usize = 0;
     let mut c = Cursor { at: 4 };
-    while k < n {
-        match list_read::step(list, c) {
-            Step::Item { entry, op, next } => {
-                let named = is_named(entry, op, whole, preview);
-                put(&mut *names, j, op, named);
-                j += num_small::one_if(named);
-                c = next;
-                k += 1;
-            }
-            Step::Malformed { why: _ } => {
-                return;
-            }
-        }
+    for k in 0..n {
+        let Ok(s) = list_read::step(list, c) else {
+            return;
+        };
+        let named = is_named(s.entry, s.op, whole, preview);
+        put(&mut *names, j, s.op, named);
+        j += usize::from(named);
+        c = s.next;
     }
 }
 

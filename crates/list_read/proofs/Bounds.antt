@@ -8,39 +8,35 @@ use borrow.Author.Tests.{leb-true}
 use lib.Dec.{leb, eqb}
 use lib.ListN.{length}
 use Rattle.dng.specs.declared.Cursor.{Cursor}
-use Rattle.dng.specs.declared.Entry.{Entry}
 use Rattle.dng.specs.declared.Region.{Region}
 use Rattle.dng.specs.declared.Opcode.{Opcode}
 use Rattle.dng.specs.declared.Opcode.TheVariants.{WarpFisheye, FixVignetteRadial, FixBadPixelsConstant, FixBadPixelsList, TrimBounds, MapTable, MapPolynomial, GainMap, DeltaPerRow, DeltaPerColumn, ScalePerRow, ScalePerColumn, Other}
 use Rattle.dng.specs.declared.Refusal.{Refusal}
-use Rattle.dng.specs.declared.Next.{Next}
-use Rattle.dng.specs.declared.Next.TheVariants as N
-use Rattle.dng.specs.declared.Parsed.{Parsed}
-use Rattle.dng.specs.declared.Parsed.TheVariants as P
+use Rattle.dng.specs.declared.Found.{Found}
 use Rattle.dng.specs.declared.Step.{Step}
-use Rattle.dng.specs.declared.Step.TheVariants as S
+use Rattle.std.specs.Prelude.{Result, Ok, Err}
 use Rattle.dng.specs.List.{u32_at, region_at, grid_at, given, header_at, header_why, next_at, warp_at, vignette_at, constant_at, bad_list_at, trim_at, counted_at, polynomial_at, gain_at, parsed_at, step_on, step_of, step_at, items_of, Item}
 use Rattle.dng.specs.Bounds.{bounded}
 use Rattle.list_read.proofs.Fold.{All, every-item}
 
 -- ---- a body that was read has bounded counts
 
-abbrev pub bounded_in : Parsed → Bool
-bounded_in (P.Read op) = bounded op
-bounded_in (P.Malformed why) = true
+abbrev pub bounded_in : Result Opcode Refusal → Bool
+bounded_in (Ok op) = bounded op
+bounded_in (Err why) = true
 
-pub record Bounded (p : Parsed) : Type 0 where
+pub record Bounded (p : Result Opcode Refusal) : Type 0 where
   pub holds : bounded_in p ≡ true
 
-either : (b : Bool) {x y : Parsed} → Bounded x → Bounded y → Bounded (cond b x y)
+either : (b : Bool) {x y : Result Opcode Refusal} → Bounded x → Bounded y → Bounded (cond b x y)
 either true h i = h
 either false h i = i
 
 -- an opcode that is bounded whatever its fields are
-plain : (op : Opcode) → bounded op ≡ true → Bounded (P.Read op)
+plain : (op : Opcode) → bounded op ≡ true → Bounded (Ok op)
 plain op h = record { holds = h }
 
-nothing : {why : Refusal} → Bounded (P.Malformed why)
+nothing : {why : Refusal} → Bounded (Err why)
 nothing = record { holds = refl }
 
 -- of a test in three parts the second bounds the count, of one in four the second and the third
@@ -57,7 +53,7 @@ four true true false d o why h = nothing
 four true false c d o why h = nothing
 four false b c d o why h = nothing
 
-either-warp : (b : Bool) (x y : Opcode) → bounded x ≡ true → bounded y ≡ true → Bounded (P.Read (cond b x y))
+either-warp : (b : Bool) (x y : Opcode) → bounded x ≡ true → bounded y ≡ true → Bounded (Ok (cond b x y))
 either-warp true x y h i = plain x h
 either-warp false x y h i = plain y i
 
@@ -86,7 +82,7 @@ module _ (s : List ℕ) (at len : ℕ) where
       four (leb 76 len) (leb 1 total) (leb total 16777216) (leb (76 + 4 * total) len)
       (GainMap (region_at s at) v h (grid_at s (at + 40)) m) _ refl
 
-  warp-bounded : Bounded (P.Read (warp_at s at len))
+  warp-bounded : Bounded (Ok (warp_at s at len))
   unfolding warp_at
   warp-bounded =
       either-warp (leb 4 len && (leb 1 (u32_at s at) && (leb (u32_at s at) 4 && leb (4 + (6 * u32_at s at + 2) * 8) len))) _ _ refl refl
@@ -117,13 +113,13 @@ module _ (s : List ℕ) (at len : ℕ) where
 -- ---- an entry that was read lies inside the list
 
 -- its body, which ends where the next entry starts
-pub record Inside (s : List ℕ) (e : Entry) (next : Cursor) : Type 0 where
-  pub ends : e.at + e.len ≤ length s
-  pub goes_on : next.at ≡ e.at + e.len
+pub record Inside (s : List ℕ) (f : Found) : Type 0 where
+  pub ends : f.entry.at + f.entry.len ≤ length s
+  pub goes_on : f.next.at ≡ f.entry.at + f.entry.len
 
-unfoldable InsideNext : List ℕ → Next → Type 0
-InsideNext s (N.Found e next) = Inside s e next
-InsideNext s (N.Malformed why) = Unit
+unfoldable InsideNext : List ℕ → Result Found Refusal → Type 0
+InsideNext s (Ok f) = Inside s f
+InsideNext s (Err why) = Unit
 
 next-inside : (s : List ℕ) (c : Cursor) → InsideNext s (next_at s c)
 unfolding next_at InsideNext
@@ -131,38 +127,37 @@ next-inside s c = go (leb (c.at + 16) (length s)) (leb (c.at + 16 + u32_at s (c.
   where
     go :
         (a b : Bool) → (b ≡ true → c.at + 16 + u32_at s (c.at + 12) ≤ length s)
-        → InsideNext s (cond (a && b) (N.Found (header_at s c.at) (record { at = c.at + 16 + u32_at s (c.at + 12) }))
-        (N.Malformed (header_why s c.at)))
+        → InsideNext s (cond {A = Result Found Refusal} (a && b) (Ok (record { entry = header_at s c.at; next = record { at = c.at + 16 + u32_at s (c.at + 12) } }))
+        (Err (header_why s c.at)))
     go true true h = record { ends = h refl; goes_on = refl }
     go true false h = tt
     go false b h = tt
 
 -- ---- both, of the item that a step returns
 
-pub record Sound (s : List ℕ) (e : Entry) (op : Opcode) (next : Cursor) : Type 0 where
-  pub counts : bounded op ≡ true
-  pub within : e.at + e.len ≤ length s
-  pub goes_on : next.at ≡ e.at + e.len
+pub record Sound (s : List ℕ) (i : Step) : Type 0 where
+  pub counts : bounded i.op ≡ true
+  pub within : i.entry.at + i.entry.len ≤ length s
+  pub goes_on : i.next.at ≡ i.entry.at + i.entry.len
 
-unfoldable SoundStep : List ℕ → Step → Type 0
-SoundStep s (S.Item e op next) = Sound s e op next
-SoundStep s (S.Malformed why) = Unit
+unfoldable SoundStep : List ℕ → Result Step Refusal → Type 0
+SoundStep s (Ok i) = Sound s i
+SoundStep s (Err why) = Unit
 
-parsed-sound : (s : List ℕ) (e : Entry) (next : Cursor) (p : Parsed) → Inside s e next → Bounded p → SoundStep s (step_on e next p)
+parsed-sound : (s : List ℕ) (f : Found) (p : Result Opcode Refusal) → Inside s f → Bounded p → SoundStep s (step_on f p)
 unfolding SoundStep
-parsed-sound s e next (P.Read op) h b = record { counts = b.holds; within = h.ends; goes_on = h.goes_on }
-parsed-sound s e next (P.Malformed why) h b = tt
+parsed-sound s f (Ok op) h b = record { counts = b.holds; within = h.ends; goes_on = h.goes_on }
+parsed-sound s f (Err why) h b = tt
 
-next-sound : (s : List ℕ) (n : Next) → InsideNext s n → SoundStep s (step_of s n)
+next-sound : (s : List ℕ) (n : Result Found Refusal) → InsideNext s n → SoundStep s (step_of s n)
 unfolding SoundStep InsideNext
-next-sound s (N.Found e next) h = parsed-sound s e next (parsed_at s e.id e.at e.len) h (parsed-bounded s e.at e.len e.id)
-next-sound s (N.Malformed why) h = tt
+next-sound s (Ok f) h =
+    let e = f.entry in parsed-sound s f (parsed_at s e.id e.at e.len) h (parsed-bounded s e.at e.len e.id)
+next-sound s (Err why) h = tt
 
-pub sound :
-    (s : List ℕ) (c : Cursor) {r : Step} {e : Entry} {op : Opcode} {next : Cursor} → r ≡ step_at s c → r ≡ S.Item e op next
-    → Sound s e op next
+pub sound : (s : List ℕ) (c : Cursor) {r : Result Step Refusal} {i : Step} → r ≡ step_at s c → r ≡ Ok i → Sound s i
 unfolding step_at SoundStep
-sound s c p q = subst (λ (r : Step). SoundStep s r) (sym p ∙ q) (next-sound s (next_at s c) (next-inside s c))
+sound s c p q = subst (λ (r : Result Step Refusal). SoundStep s r) (sym p ∙ q) (next-sound s (next_at s c) (next-inside s c))
 
 -- ---- both, of every item of a list
 
@@ -173,4 +168,4 @@ pub record SoundItem (s : List ℕ) (i : Item) : Type 0 where
 pub items-sound : (s : List ℕ) → All (SoundItem s) (items_of s)
 items-sound s =
     every-item s (SoundItem s)
-    (λ c e op next q. let h = sound s c refl q in record { counts = h.counts; within = h.within })
+    (λ c i q. let h = sound s c refl q in record { counts = h.counts; within = h.within })

@@ -11,13 +11,11 @@ use borrow.Author.Tests.{eqb-true, leb-true}
 use lib.Dec.{leb, eqb}
 use lib.ListN.{length}
 use Rattle.dng.specs.declared.Cursor.{Cursor}
-use Rattle.dng.specs.declared.Entry.{Entry}
-use Rattle.dng.specs.declared.Opcode.{Opcode}
 use Rattle.dng.specs.declared.Refusal.{Refusal}
 use Rattle.dng.specs.declared.Step.{Step}
-use Rattle.dng.specs.declared.Step.TheVariants as S
-use Rattle.dng.specs.declared.Reading.TheVariants as R
-use Rattle.dng.specs.List.{Item, u32_at, step_at, read_on, read_from, counted, items_of, why_from, why_of, reading_of}
+use Rattle.dng.specs.declared.Malformed.{Malformed}
+use Rattle.std.specs.Prelude.{Result, Ok, Err}
+use Rattle.dng.specs.List.{Item, item_of, u32_at, step_at, read_on, read_from, counted, items_of, why_from, why_of, malformed, reading_of}
 use Rattle.list_read.specs.Count.{count_of}
 
 abbrev pub All : (Item → Type 0) → List Item → Type 0
@@ -48,13 +46,13 @@ module _ (s : List ℕ) where
   module _ (n k : ℕ) (c : Cursor) where
     -- one entry more
     pub item :
-        {r : Step} {e : Entry} {op : Opcode} {next : Cursor} → k < n → r ≡ step_at s c → r ≡ S.Item e op next
-        → read_from s (n - k) c ≡ record { entry = e; op = op } ∷ read_from s (n - (k + 1)) next
+        {r : Result Step Refusal} {i : Step} → k < n → r ≡ step_at s c → r ≡ Ok i
+        → read_from s (n - k) c ≡ item_of i ∷ read_from s (n - (k + 1)) i.next
     unfolding read_from
     item h p q = let m : n - k ≡ suc (n - (k + 1)) = omega arith in simp (m, sym p ∙ q)
 
     -- a malformed entry
-    pub stop : {r : Step} {why : Refusal} → k < n → r ≡ step_at s c → r ≡ S.Malformed why → read_from s (n - k) c ≡ []
+    pub stop : {r : Result Step Refusal} {why : Refusal} → k < n → r ≡ step_at s c → r ≡ Err why → read_from s (n - k) c ≡ []
     unfolding read_from
     stop h p q = let m : n - k ≡ suc (n - (k + 1)) = omega arith in simp (m, sym p ∙ q)
 
@@ -65,23 +63,23 @@ module _ (s : List ℕ) where
 
     -- why the first malformed entry is refused: another entry's, or this one's
     pub why-item :
-        {r : Step} {e : Entry} {op : Opcode} {next : Cursor} → k < n → r ≡ step_at s c → r ≡ S.Item e op next
-        → why_from s (n - k) c ≡ why_from s (n - (k + 1)) next
+        {r : Result Step Refusal} {i : Step} → k < n → r ≡ step_at s c → r ≡ Ok i
+        → why_from s (n - k) c ≡ why_from s (n - (k + 1)) i.next
     unfolding why_from
     why-item h p q = let m : n - k ≡ suc (n - (k + 1)) = omega arith in simp (m, sym p ∙ q)
 
-    pub why-stop : {r : Step} {why : Refusal} → k < n → r ≡ step_at s c → r ≡ S.Malformed why → why_from s (n - k) c ≡ why
+    pub why-stop : {r : Result Step Refusal} {why : Refusal} → k < n → r ≡ step_at s c → r ≡ Err why → why_from s (n - k) c ≡ why
     unfolding why_from
     why-stop h p q = let m : n - k ≡ suc (n - (k + 1)) = omega arith in simp (m, sym p ∙ q)
 
     -- How many were read stays the same total; so in an accepted list, where it is n, no step before the n-th is malformed.
     pub total :
-        (t : ℕ) {r : Step} {e : Entry} {op : Opcode} {next : Cursor} → k < n → r ≡ step_at s c → r ≡ S.Item e op next
-        → k + length (read_from s (n - k) c) ≡ t → k + 1 + length (read_from s (n - (k + 1)) next) ≡ t
+        (t : ℕ) {r : Result Step Refusal} {i : Step} → k < n → r ≡ step_at s c → r ≡ Ok i
+        → k + length (read_from s (n - k) c) ≡ t → k + 1 + length (read_from s (n - (k + 1)) i.next) ≡ t
     total t h p q l = omega (arith, ap length (item h p q))
 
     pub never :
-        {r : Step} {why : Refusal} → k < n → r ≡ step_at s c → r ≡ S.Malformed why → k + length (read_from s (n - k) c) ≡ n → ⊥
+        {r : Result Step Refusal} {why : Refusal} → k < n → r ≡ step_at s c → r ≡ Err why → k + length (read_from s (n - k) c) ≡ n → ⊥
     never h p q l = omega (arith, ap length (stop h p q))
 
   -- ---- at most 4,096 turns, and no more items than turns
@@ -96,9 +94,9 @@ module _ (s : List ℕ) where
       go false b h = zero-le
 
   read-on-bound :
-      (n : ℕ) (rest : Cursor → List Item) → ((next : Cursor) → length (rest next) ≤ n) → (r : Step) → length (read_on rest r) ≤ suc n
-  read-on-bound n rest h (S.Item e op next) = suc-le-suc (h next)
-  read-on-bound n rest h (S.Malformed why) = zero-le
+      (n : ℕ) (rest : Cursor → List Item) → ((next : Cursor) → length (rest next) ≤ n) → (r : Result Step Refusal) → length (read_on rest r) ≤ suc n
+  read-on-bound n rest h (Ok i) = suc-le-suc (h i.next)
+  read-on-bound n rest h (Err why) = zero-le
 
   pub read-bound : (n : ℕ) (c : Cursor) → length (read_from s n c) ≤ n
   unfolding read_from
@@ -111,12 +109,12 @@ module _ (s : List ℕ) where
   -- ---- what holds of every item that a step returns holds of every item of the list
 
   module _ (p : Item → Type 0)
-      (step : (c : Cursor) (e : Entry) (op : Opcode) (next : Cursor) → step_at s c ≡ S.Item e op next → p (record { entry = e; op = op })) where
+      (step : (c : Cursor) (i : Step) → step_at s c ≡ Ok i → p (item_of i)) where
     every-on :
-        (c : Cursor) (rest : Cursor → List Item) → ((next : Cursor) → All p (rest next)) → (r : Step) → step_at s c ≡ r
+        (c : Cursor) (rest : Cursor → List Item) → ((next : Cursor) → All p (rest next)) → (r : Result Step Refusal) → step_at s c ≡ r
         → All p (read_on rest r)
-    every-on c rest h (S.Item e op next) q = (step c e op next q, h next)
-    every-on c rest h (S.Malformed why) q = tt
+    every-on c rest h (Ok i) q = (step c i q, h i.next)
+    every-on c rest h (Err why) q = tt
 
     pub every : (n : ℕ) (c : Cursor) → All p (read_from s n c)
     unfolding read_from
@@ -129,27 +127,31 @@ module _ (s : List ℕ) where
 -- ---- how many items an accepted list has, and a refused one
 
 whole-if :
-    (a : Bool) (l m : ℕ) (why : Refusal) {n : ℕ} → cond (a && eqb l m) (R.Whole m) (R.Malformed l why) ≡ R.Whole n
+    (a : Bool) (l m : ℕ) (why : Refusal) {n : ℕ} → cond (a && eqb l m) (Ok m) (Err (malformed l why)) ≡ Ok n
     → (l ≡ n) × (n ≡ cond a m 0)
 whole-if true l m why e = go (eqb l m) refl e
   where
-    go : (b : Bool) → eqb l m ≡ b → {n : ℕ} → cond b (R.Whole m) (R.Malformed l why) ≡ R.Whole n → (l ≡ n) × (n ≡ m)
+    go : (b : Bool) → eqb l m ≡ b → {n : ℕ} → cond b (Ok m) (Err (malformed l why)) ≡ Ok n → (l ≡ n) × (n ≡ m)
     go true h e = let p : l ≡ m = eqb-true l m h in (cc, cc)
     go false h e = (cc, cc)
 whole-if false l m why e = (cc, cc)
 
 -- as many as its count says
-pub accepted : (s : List ℕ) {n : ℕ} → reading_of s ≡ R.Whole n → (length (items_of s) ≡ n) × (n ≡ count_of s)
+pub accepted : (s : List ℕ) {n : ℕ} → reading_of s ≡ Ok n → (length (items_of s) ≡ n) × (n ≡ count_of s)
 unfolding reading_of count_of
 accepted s e = whole-if (counted s) (length (items_of s)) (u32_at s 0) (why_of s) e
 
 -- as many as the answer says, and the reason of the first that could not be read
-pub refused : (s : List ℕ) {k : ℕ} {why : Refusal} → reading_of s ≡ R.Malformed k why → (length (items_of s) ≡ k) × (why_of s ≡ why)
+pub refused : (s : List ℕ) {k : ℕ} {why : Refusal} → reading_of s ≡ Err (malformed k why) → (length (items_of s) ≡ k) × (why_of s ≡ why)
 unfolding reading_of
 refused s {k} {why} e = go (counted s && eqb (length (items_of s)) (u32_at s 0)) e
   where
     go :
-        (b : Bool) → cond b (R.Whole (u32_at s 0)) (R.Malformed (length (items_of s)) (why_of s)) ≡ R.Malformed k why
+        (b : Bool) → cond b (Ok (u32_at s 0)) (Err (malformed (length (items_of s)) (why_of s))) ≡ Err (malformed k why)
         → (length (items_of s) ≡ k) × (why_of s ≡ why)
-    go true e = (cc, cc)
-    go false e = (cc, cc)
+    go true e = absurd (let z : ◌≡◌ {A = ℕ} 0 1 = cc in omega arith)
+    go false e =
+        let m : malformed (length (items_of s)) (why_of s) ≡ malformed k why = cc in (
+          ap (λ (x : Malformed). x.after) m,
+          ap (λ (x : Malformed). x.why) m,
+        )

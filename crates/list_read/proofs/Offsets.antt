@@ -10,22 +10,17 @@ use borrow.Author.Tests.{le-leb, leb-true}
 use lib.Dec.{leb, eqb}
 use lib.ListN.{length}
 use Rattle.dng.specs.declared.Cursor.{Cursor}
-use Rattle.dng.specs.declared.Entry.{Entry}
 use Rattle.dng.specs.declared.Region.{Region}
 use Rattle.dng.specs.declared.Opcode.{Opcode}
 use Rattle.dng.specs.declared.Opcode.TheVariants.{MapTable, DeltaPerRow, DeltaPerColumn, ScalePerRow, ScalePerColumn}
 use Rattle.dng.specs.declared.Reason.{Reason}
 use Rattle.dng.specs.declared.Reason.TheVariants as Why
 use Rattle.dng.specs.declared.Refusal.{Refusal}
-use Rattle.dng.specs.declared.Next.{Next}
-use Rattle.dng.specs.declared.Next.TheVariants as N
-use Rattle.dng.specs.declared.Parsed.{Parsed}
-use Rattle.dng.specs.declared.Parsed.TheVariants as P
+use Rattle.dng.specs.declared.Found.{Found}
 use Rattle.dng.specs.declared.Step.{Step}
-use Rattle.dng.specs.declared.Step.TheVariants as S
-use Rattle.dng.specs.declared.Reading.TheVariants as R
+use Rattle.std.specs.Prelude.{Result, Ok, Err}
 use Rattle.dng.specs.List.{u32_at, refusal, offset_in, extent, first_cut, header_fields, vignette_fields, constant_fields, bad_list_fields, trim_fields, counted_fields, gain_fields, region_at, header_at, header_why, next_at, inside_why, field_why}
-use Rattle.dng.specs.List.{vignette_at, constant_at, bad_list_at, trim_at, counted_at, polynomial_at, gain_at, parsed_at, step_on, step_of, step_at, why_on, why_from, why_of, reading_of}
+use Rattle.dng.specs.List.{vignette_at, constant_at, bad_list_at, trim_at, counted_at, polynomial_at, gain_at, parsed_at, step_on, step_of, step_at, why_on, why_from, why_of, malformed, reading_of}
 use Rattle.dng.proofs.Cuts.{cut-bound}
 use Rattle.list_read.proofs.Fold.{refused}
 
@@ -47,19 +42,19 @@ module _ (s : List ℕ) (at len : ℕ) (h : at + len ≤ length s) where
 
 -- ---- any body, any entry: not past the list's end
 
-abbrev InList : List ℕ → Parsed → Type 0
-InList s (P.Read op) = Unit
-InList s (P.Malformed why) = why.at ≤ length s
+abbrev InList : List ℕ → Result Opcode Refusal → Type 0
+InList s (Ok op) = Unit
+InList s (Err why) = why.at ≤ length s
 
 -- kept shut, so that a case of `cond` shows which body it is of
-pub record Held (s : List ℕ) (p : Parsed) : Type 0 where
+pub record Held (s : List ℕ) (p : Result Opcode Refusal) : Type 0 where
   pub holds : InList s p
 
 module _ (s : List ℕ) (at len : ℕ) where
-  read : (op : Opcode) → Held s (P.Read op)
+  read : (op : Opcode) → Held s (Ok op)
   read op = record { holds = tt }
 
-  either : (b : Bool) {x y : Parsed} → Held s x → Held s y → Held s (cond b x y)
+  either : (b : Bool) {x y : Result Opcode Refusal} → Held s x → Held s y → Held s (cond b x y)
   either true h i = h
   either false h i = i
 
@@ -75,10 +70,10 @@ module _ (s : List ℕ) (at len : ℕ) where
       go true = min-le_right (at + k) (length s)
       go false = inside-held fields
 
-  cut-held : (fields : List ℕ) → Held s (P.Malformed (inside_why fields s at len))
+  cut-held : (fields : List ℕ) → Held s (Err (inside_why fields s at len))
   cut-held fields = record { holds = inside-held fields }
 
-  not-held : (fields : List ℕ) (r : Reason) (k : ℕ) → Held s (P.Malformed (field_why fields r k s at len))
+  not-held : (fields : List ℕ) (r : Reason) (k : ℕ) → Held s (Err (field_why fields r k s at len))
   not-held fields r k = record { holds = field-held fields r k }
 
   vignette-held : Held s (vignette_at s at len)
@@ -136,13 +131,13 @@ module _ (s : List ℕ) (at len : ℕ) where
       (read _)))))))))))))
 
 -- the entry at a cursor that lies in the list: so does the next cursor, or the refusal
-unfoldable HeldNext : List ℕ → Next → Type 0
-HeldNext s (N.Found e next) = next.at ≤ length s
-HeldNext s (N.Malformed why) = why.at ≤ length s
+unfoldable HeldNext : List ℕ → Result Found Refusal → Type 0
+HeldNext s (Ok f) = f.next.at ≤ length s
+HeldNext s (Err why) = why.at ≤ length s
 
-unfoldable HeldStep : List ℕ → Step → Type 0
-HeldStep s (S.Item e op next) = next.at ≤ length s
-HeldStep s (S.Malformed why) = why.at ≤ length s
+unfoldable HeldStep : List ℕ → Result Step Refusal → Type 0
+HeldStep s (Ok i) = i.next.at ≤ length s
+HeldStep s (Err why) = why.at ≤ length s
 
 module _ (s : List ℕ) where
   header-held : (at : ℕ) → at ≤ length s → (header_why s at).at ≤ length s
@@ -161,32 +156,33 @@ module _ (s : List ℕ) where
     where
       go :
           (a b : Bool) → (b ≡ true → c.at + 16 + u32_at s (c.at + 12) ≤ length s)
-          → HeldNext s (cond (a && b) (N.Found (header_at s c.at) (record { at = c.at + 16 + u32_at s (c.at + 12) }))
-          (N.Malformed (header_why s c.at)))
+          → HeldNext s (cond {A = Result Found Refusal} (a && b) (Ok (record { entry = header_at s c.at; next = record { at = c.at + 16 + u32_at s (c.at + 12) } }))
+          (Err (header_why s c.at)))
       go true true l = l refl
       go true false l = header-held c.at h
       go false b l = header-held c.at h
 
-  body-held : (e : Entry) (next : Cursor) (p : Parsed) → next.at ≤ length s → Held s p → HeldStep s (step_on e next p)
+  body-held : (f : Found) (p : Result Opcode Refusal) → f.next.at ≤ length s → Held s p → HeldStep s (step_on f p)
   unfolding HeldStep
-  body-held e next (P.Read op) h i = h
-  body-held e next (P.Malformed why) h i = i.holds
+  body-held f (Ok op) h i = h
+  body-held f (Err why) h i = i.holds
 
-  found-held : (n : Next) → HeldNext s n → HeldStep s (step_of s n)
+  found-held : (n : Result Found Refusal) → HeldNext s n → HeldStep s (step_of s n)
   unfolding HeldStep HeldNext
-  found-held (N.Found e next) h = body-held e next (parsed_at s e.id e.at e.len) h (parsed-held s e.at e.len e.id)
-  found-held (N.Malformed why) h = h
+  found-held (Ok f) h =
+      let e = f.entry in body-held f (parsed_at s e.id e.at e.len) h (parsed-held s e.at e.len e.id)
+  found-held (Err why) h = h
 
   step-held : (c : Cursor) → c.at ≤ length s → HeldStep s (step_at s c)
   unfolding step_at
   step-held c h = found-held (next_at s c) (next-held c h)
 
   on-held :
-      (rest : Cursor → Refusal) → ((next : Cursor) → next.at ≤ length s → (rest next).at ≤ length s) → (r : Step) → HeldStep s r
+      (rest : Cursor → Refusal) → ((next : Cursor) → next.at ≤ length s → (rest next).at ≤ length s) → (r : Result Step Refusal) → HeldStep s r
       → (why_on rest r).at ≤ length s
   unfolding HeldStep
-  on-held rest h (S.Item e op next) i = h next i
-  on-held rest h (S.Malformed why) i = i
+  on-held rest h (Ok k) i = h k.next i
+  on-held rest h (Err why) i = i
 
   from-held : (n : ℕ) (c : Cursor) → c.at ≤ length s → (why_from s n c).at ≤ length s
   unfolding why_from
@@ -205,5 +201,5 @@ module _ (s : List ℕ) where
       go false b l = zero-le
 
 -- of a list that is refused
-pub offset-held : (s : List ℕ) {k : ℕ} {why : Refusal} → reading_of s ≡ R.Malformed k why → why.at ≤ length s
+pub offset-held : (s : List ℕ) {k : ℕ} {why : Refusal} → reading_of s ≡ Err (malformed k why) → why.at ≤ length s
 offset-held s e = subst (λ (w : Refusal). w.at ≤ length s) (refused s e).1 (why-held s)

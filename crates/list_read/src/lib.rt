@@ -5,94 +5,63 @@ ghost use Rattle.std.specs.Prelude.{◌≡◌};
 ghost use Rattle.dng.specs.List.{step_at, reading_of};
 ghost use Rattle.list_read.specs.Count.{entries_of, count_of, reading_from};
 
-use dng::{Cursor, Next, Opcode, Parsed, Reading, Reason, Refusal, Step};
-use num_words::Word;
+use dng::{Cursor, Found, Malformed, Opcode, Reason, Refusal, Step};
 
 // The entry at a cursor, header and body.
-pub fn step(list: &[u8], c: Cursor) -> Step
+pub fn step(list: &[u8], c: Cursor) -> Result<Step, Refusal>
     ensures { result ≡ step_at list.now c }
 {
-    match list_entries::next(list, c) {
-        Next::Found { entry: e, next } => match list_bodies::parse(list, e) {
-            Parsed::Read { op } => Step::Item { entry: e, op, next },
-            Parsed::Malformed { why } => Step::Malformed { why },
-        },
-        Next::Malformed { why } => Step::Malformed { why },
-    }
+    let Found { entry, next } = list_entries::next(list, c)?;
+    let op = list_bodies::parse(list, entry)?;
+    Ok(Step { entry, op, next })
 }
 
 // How many entries a list has; or 20 of a count that is cut, 21 of one above the limit.
-#[derive(Clone, Copy)]
-pub enum Entries {
-    Are { n: usize },
-    Refused { why: Refusal },
-}
-
-pub fn entries_in(list: &[u8]) -> Entries
+pub fn entries_in(list: &[u8]) -> Result<usize, Refusal>
     ensures { result ≡ entries_of list.now }
 {
-    match num_words::u32_in(list, 0, list.len()) {
-        Word::Cut { at } => Entries::Refused {
-            why: Refusal {
-                reason: Reason::Ends,
-                at,
-            },
-        },
-        Word::Is { value } => {
-            if Opcode::MAX_OPCODES < value {
-                Entries::Refused {
-                    why: Refusal {
-                        reason: Reason::TooMany,
-                        at: 0,
-                    },
-                }
-            } else {
-                Entries::Are { n: value as usize }
-            }
-        }
+    let Ok(n) = num_words::u32_in(list, 0, list.len()) else {
+        return Err(Refusal {
+            reason: Reason::Ends,
+            at: 0,
+        });
+    };
+    if Opcode::MAX_OPCODES < n {
+        return Err(Refusal {
+            reason: Reason::TooMany,
+            at: 0,
+        });
     }
+    Ok(n as usize)
 }
 
 // How many steps a loop over a list takes, from the cursor at 4 on; fewer where an entry is malformed.
 pub fn count(list: &[u8]) -> usize
     ensures { result ≡ count_of list.now }
 {
-    match entries_in(list) {
-        Entries::Are { n } => n,
-        Entries::Refused { why: _ } => 0,
-    }
+    entries_in(list).unwrap_or(0)
 }
 
 // n entries after the count, to the last or to the first malformed one.
-fn read_entries(list: &[u8], n: usize) -> Reading
+fn read_entries(list: &[u8], n: usize) -> Result<usize, Malformed>
     ensures { result ≡ reading_from list.now n }
 {
-    let mut k: usize = 0;
     let mut c = Cursor { at: 4 };
-    while k < n {
+    for k in 0..n {
         match step(list, c) {
-            Step::Item {
-                entry: _,
-                op: _,
-                next,
-            } => {
-                c = next;
-                k += 1;
-            }
-            Step::Malformed { why } => {
-                return Reading::Malformed { after: k, why };
-            }
+            Ok(s) => c = s.next,
+            Err(why) => return Err(Malformed { after: k, why }),
         }
     }
-    Reading::Whole { opcodes: n }
+    Ok(n)
 }
 
 // Reads a list to its end or to its first malformed entry.
-pub fn read(list: &[u8]) -> Reading
+pub fn read(list: &[u8]) -> Result<usize, Malformed>
     ensures { result ≡ reading_of list.now }
 {
     match entries_in(list) {
-        Entries::Refused { why } => Reading::Malformed { after: 0, why },
-        Entries::Are { n } => read_entries(list, n),
+        Ok(n) => read_entries(list, n),
+        Err(why) => Err(Malformed { after: 0, why }),
     }
 }

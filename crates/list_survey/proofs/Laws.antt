@@ -9,14 +9,13 @@ use lib.ListN.{length}
 use Rattle.dng.specs.declared.Entry.{Entry}
 use Rattle.dng.specs.declared.Opcode.{Opcode}
 use Rattle.dng.specs.declared.Refusal.{Refusal}
-use Rattle.dng.specs.declared.Reading.{Reading}
-use Rattle.dng.specs.declared.Reading.TheVariants as R
-use Rattle.dng.specs.List.{Item, preview_of, read_from, items_of}
-use Rattle.dng.specs.Run.{drops, kept_of, kept_in, Class, table, empty, local, repair, unapplied, class_of, name_of, skipped, skipped16, takes16_on, takes16_from, row_takes, takes_rows, names_of}
+use Rattle.std.specs.Prelude.{Result, Ok, Err}
+use Rattle.dng.specs.List.{Item, preview_of, read_from, items_of, malformed, Reading}
+use Rattle.dng.specs.declared.Class.{Class}
+use Rattle.dng.specs.declared.Class.TheVariants.{Table, Empty, Local, Repair, Unapplied}
+use Rattle.dng.specs.Run.{drops, kept_of, kept_in, class_of, name_of, skipped, skipped16, takes16_on, takes16_from, row_takes, takes_rows, names_of}
 use Rattle.list_classes.specs.declared.Facts.{Facts}
 use Rattle.list_classes.specs.Classes.{is_local, is_repair, facts_of}
-use Rattle.list_read.specs.declared.Entries.{Entries}
-use Rattle.list_read.specs.declared.Entries.TheVariants as E
 use Rattle.list_read.specs.Count.{entries_of, reading_from}
 use Rattle.list_read.proofs.Fold.{start, items-start, read-bound, count-bound, refused}
 use Rattle.list_read.proofs.Laws.{count-is, reading-is, reading-none}
@@ -79,15 +78,15 @@ on16 :
     (k : Class) (w free : Bool) (rest : Bool → Bool)
     → ((w && (not (is_local k) && (free || not (is_repair k)))) && rest (free && not (is_repair k))) ≡ (w && takes16_on k free rest)
 unfolding takes16_on
-on16 table true true rest = refl
-on16 table true false rest = refl
-on16 empty true true rest = refl
-on16 empty true false rest = refl
-on16 local true free rest = refl
-on16 repair true true rest = refl
-on16 repair true false rest = refl
-on16 unapplied true true rest = refl
-on16 unapplied true false rest = refl
+on16 Table true true rest = refl
+on16 Table true false rest = refl
+on16 Empty true true rest = refl
+on16 Empty true false rest = refl
+on16 Local true free rest = refl
+on16 Repair true true rest = refl
+on16 Repair true false rest = refl
+on16 Unapplied true true rest = refl
+on16 Unapplied true false rest = refl
 on16 k false free rest = refl
 
 pub takes_all : (t : Tally) (is : List Item) → (tally_from t is).takes16 ≡ (t.takes16 && takes16_from t.free is)
@@ -183,12 +182,12 @@ empty-list : (is : List Item) → length is ≡ 0 → is ≡ []
 empty-list [] h = refl
 empty-list (i ∷ is) h = absurd (omega (arith, h))
 
-pub few : (s : List ℕ) {x : Entries} {n : ℕ} → x ≡ entries_of s → x ≡ E.Are n → n ≤ 4096
+pub few : (s : List ℕ) {x : Result ℕ Refusal} {n : ℕ} → x ≡ entries_of s → x ≡ Ok n → n ≤ 4096
 few s e f = omega (arith, count-is s e f, count-bound s)
 
-module _ (preview : Bool) (s : List ℕ) {x : Entries} (e : x ≡ entries_of s) where
+module _ (preview : Bool) (s : List ℕ) {x : Result ℕ Refusal} (e : x ≡ entries_of s) where
   pub none :
-      {why : Refusal} {t : Tally} {v : Surveyed} → x ≡ E.Refused why → t ≡ begun → v ≡ surveyed_by (R.Malformed 0 why) 0 t
+      {why : Refusal} {t : Tally} {v : Surveyed} → x ≡ Err why → t ≡ begun → v ≡ surveyed_by (Err (malformed 0 why)) 0 t
       → v ≡ survey_of preview s
   unfolding survey_of
   none f b h =
@@ -197,7 +196,7 @@ module _ (preview : Bool) (s : List ℕ) {x : Entries} (e : x ≡ entries_of s) 
       found (length (items_of s)) (kept_in preview s) _ h (sym z) (b ∙ no_more preview begun (empty-list (items_of s) z))
       ∙ ap (λ (r : Reading). record { reading = r; survey = survey_on (length (items_of s)) (kept_in preview s) }) bad
 
-  module _ {n : ℕ} (f : x ≡ E.Are n) where
+  module _ {n : ℕ} (f : x ≡ Ok n) where
     pub all : survey_from preview s n ≡ survey_of preview s
     unfolding survey_from survey_of
     all =

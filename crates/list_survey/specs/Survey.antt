@@ -2,8 +2,7 @@
 -- take them and how many opcodes each form skips (dng/specs/Run). Document 01, 'What comes back' and the last paragraph
 -- of 'What each does to a value'.
 use Rattle.std.specs.Prelude.{ℕ, ◌+◌, Bool, true, not, ◌&&◌, ◌||◌, cond, List, length}
-use Rattle.dng.specs.declared.Reading.{Reading}
-use Rattle.dng.specs.List.{Item, items_of, read_from, reading_of}
+use Rattle.dng.specs.List.{Item, items_of, read_from, Reading, reading_of}
 use Rattle.dng.specs.Run.{kept_of, kept_in, takes16, takes_rows, skipped, skipped16, names_of}
 use Rattle.list_classes.specs.declared.Facts.{Facts}
 use Rattle.list_read.specs.Count.{reading_from}

@@ -8,8 +8,7 @@ ghost use Rattle.dng.specs.Run.{class_of};
 ghost use Rattle.list_classes.specs.Classes.{facts_of};
 ghost use Rattle.list_survey.specs.Survey.{begun, turn_on, surveyed_by, survey_from, survey_of};
 
-use dng::{Cursor, Opcode, Reading, Step};
-use list_read::Entries;
+use dng::{Cursor, Malformed, Opcode};
 
 // How many entries are read whole, whether the whole-number form and the row form take them, and how many opcodes the
 // f32 run and the whole-number run skip.
@@ -24,7 +23,7 @@ pub struct Survey {
 
 #[derive(Clone, Copy)]
 pub struct Surveyed {
-    pub reading: Reading,
+    pub reading: Result<usize, Malformed>,
     pub survey: Survey,
 }
 
@@ -59,8 +58,8 @@ fn turn(t: Tally, op: Opcode, dropped: bool) -> Tally
         return t;
     }
     let f = list_classes::facts_of(op);
-    let one = num_small::one_if(f.skipped);
-    let one16 = num_small::one_if(f.skipped16);
+    let one = usize::from(f.skipped);
+    let one16 = usize::from(f.skipped16);
     Tally {
         free: t.free & !f.repair,
         takes16: t.takes16 & (!f.local & (t.free | !f.repair)),
@@ -70,7 +69,7 @@ fn turn(t: Tally, op: Opcode, dropped: bool) -> Tally
     }
 }
 
-fn made_of(reading: Reading, opcodes: usize, t: Tally) -> Surveyed
+fn made_of(reading: Result<usize, Malformed>, opcodes: usize, t: Tally) -> Surveyed
     ensures { result ≡ surveyed_by reading opcodes t }
 {
     let survey = Survey {
@@ -89,21 +88,17 @@ fn read_entries(list: &[u8], n: usize, preview: bool) -> Surveyed
     ensures { result ≡ survey_from preview list.now n }
 {
     let mut t = begin();
-    let mut k: usize = 0;
     let mut c = Cursor { at: 4 };
-    while k < n {
+    for k in 0..n {
         match list_read::step(list, c) {
-            Step::Item { entry, op, next } => {
-                t = turn(t, op, list_entries::dropped(entry, preview));
-                c = next;
-                k += 1;
+            Ok(s) => {
+                t = turn(t, s.op, list_entries::dropped(s.entry, preview));
+                c = s.next;
             }
-            Step::Malformed { why } => {
-                return made_of(Reading::Malformed { after: k, why }, k, t);
-            }
+            Err(why) => return made_of(Err(Malformed { after: k, why }), k, t),
         }
     }
-    made_of(Reading::Whole { opcodes: n }, n, t)
+    made_of(Ok(n), n, t)
 }
 
 // Reads a list to its end or to its first malformed entry.
@@ -111,7 +106,7 @@ pub fn read(list: &[u8], preview: bool) -> Surveyed
     ensures { result ≡ survey_of preview list.now }
 {
     match list_read::entries_in(list) {
-        Entries::Refused { why } => made_of(Reading::Malformed { after: 0, why }, 0, begin()),
-        Entries::Are { n } => read_entries(list, n, preview),
+        Ok(n) => read_entries(list, n, preview),
+        Err(why) => made_of(Err(Malformed { after: 0, why }), 0, begin()),
     }
 }

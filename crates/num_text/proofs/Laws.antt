@@ -1,28 +1,31 @@
 -- Appending: one byte, many bytes, nothing, and one text after another. Assumes nothing.
-use Prim.Native.Nat.{ℕ, ◌+◌, ◌≤◌, ◌<◌}
+use Prim.Native.Nat.{ℕ, ◌+◌, ◌-◌, ◌≤◌, ◌<◌}
 use mathlib.Core.Path.{◌≡◌, refl, sym, ap, ap₂, ◌∙◌}
 use mathlib.Core.List.{List, [], ◌∷◌, ◌++◌, append_assoc, append-nil}
 use native.Mathlib.Omega.{arith}
 use native.Mathlib.Nat.{add-zero}
 use native.Mathlib.Numerals.{add-one}
 use lib.ListN.{length, take, drop, set, length-append, take-append-drop}
-use lib.Seq.{take-suc-set, drop-set-lt, drop-drop, take_all, paste, take-paste, drop-paste}
+use lib.Seq.{take-suc-set, drop-set-lt, drop-drop}
+use borrow.Rule.Slice.PartMut.{put_mid}
+use Rattle.std.proofs.lemmas.Slice.{take-put_mid, drop-put_mid}
 use Rattle.num_text.specs.Appended.{Appended}
 
 pub appended-byte : (b : List ℕ) (at x : ℕ) → at < length b → Appended b at (x ∷ []) (at + 1) (set b at x)
 appended-byte b at x h =
     record { ends = refl; written = rw add-one (take-suc-set b at x h); after = drop-set-lt (at + 1) b at x (omega arith) }
 
-pub appended-all :
-    (b : List ℕ) (at : ℕ) (p : List ℕ) {i : ℕ} {o : List ℕ} → at + length p ≤ length b → i ≡ length p → o ≡ paste b at p i
-    → Appended b at p (at + i) o
-appended-all b at p {i} {o} h e q =
-    let hb : at ≤ length b = omega arith in
-    let hi : i ≤ length p = omega arith in
+-- the part from `at` on was written over by p
+pub appended-copied :
+    (b : List ℕ) (at : ℕ) (p : List ℕ) {q : List ℕ} → at + length p ≤ length b → q ≡ p
+    → Appended b at p (at + length p) (put_mid at (at + length p - at) b q)
+appended-copied b at p {q} h e =
+    let l : length q ≡ length p = ap length e in
     record {
-      ends = ap (λ (n : ℕ). at + n) e;
-      written = ap (take (at + i)) q ∙ take-paste b at p i hb hi ∙ ap (λ (l : List ℕ). take at b ++ l) (take_all i p (omega arith));
-      after = ap (drop (at + i)) q ∙ drop-paste b at p i hb hi;
+      ends = refl;
+      written = take-put_mid at (at + length p - at) b q (at + length p) (omega arith) (omega arith)
+          ∙ ap (λ (l : List ℕ). take at b ++ l) e;
+      after = drop-put_mid at (at + length p - at) b q (at + length p) (omega arith) (omega arith) (omega arith);
     }
 
 pub appended-none : (b : List ℕ) (at : ℕ) → Appended b at [] at b

@@ -10,9 +10,9 @@ use lib.Ieee.{Float, nan, inf, fin, Format, binary32, binary64, prec, ones, hid,
 use lib.Ieee.Bits.{nan_bits_is, nan_bits_above, of_bits-to_bits, to_bits-lt}
 use lib.Ieee.Compare.{differs_from_itself, nan_differs}
 use borrow.Author.Tests.{lt-leb}
-use Rattle.num_words.specs.declared.Word.{Word}
-use Rattle.num_words.specs.declared.Word.TheVariants as W
-use Rattle.num_words.specs.Words.{big, little, put, word_in}
+use Rattle.std.specs.Prelude.{Result, Ok, Err}
+use Rattle.num_words.specs.declared.Cut.{Cut}
+use Rattle.num_words.specs.Words.{big, little, put, cut, word_in}
 
 -- ---- a word is its parts
 
@@ -252,27 +252,27 @@ own_bits (fin s m k) e = tt
 -- ---- a word of a part that may end inside it
 
 module _ (s : List ℕ) (at : ℕ) {left : ℕ} where
-  pub word_cut : left < 4 → W.Cut at ≡ word_in s at left
+  pub word_cut : left < 4 → Err (cut at) ≡ word_in s at left
   unfolding word_in
   word_cut h = simp (lt-leb _ _ h)
 
-  pub word-is : {x : ℕ} → 4 ≤ left → x ≡ big 4 s at → W.Is x ≡ word_in s at left
+  pub word-is : {x : ℕ} → 4 ≤ left → x ≡ big 4 s at → Ok x ≡ word_in s at left
   unfolding word_in
   word-is h e = simp (le-leb _ _ h, e)
 
   -- back from what was read
-  pub cut_word : {r : Word} {p : ℕ} → r ≡ word_in s at left → r ≡ W.Cut p → (left < 4) × (p ≡ at)
+  pub cut_word : {r : Result ℕ Cut} {d : Cut} → r ≡ word_in s at left → r ≡ Err d → (left < 4) × (d ≡ cut at)
   unfolding word_in
-  cut_word {r} {p} e f = go (leb 4 left) refl (sym e ∙ f)
+  cut_word {r} {d} e f = go (leb 4 left) refl (sym e ∙ f)
     where
-      go : (b : Bool) → leb 4 left ≡ b → cond b (W.Is (big 4 s at)) (W.Cut at) ≡ W.Cut p → (left < 4) × (p ≡ at)
+      go : (b : Bool) → leb 4 left ≡ b → cond b (Ok (big 4 s at)) (Err (cut at)) ≡ Err d → (left < 4) × (d ≡ cut at)
       go true t q = absurd (let z : ◌≡◌ {A = ℕ} 0 1 = cc in omega arith)
       go false t q = (leb-false _ _ t, cc)
 
-  pub is_word : {r : Word} {x : ℕ} → r ≡ word_in s at left → r ≡ W.Is x → (4 ≤ left) × (x ≡ big 4 s at)
+  pub is_word : {r : Result ℕ Cut} {x : ℕ} → r ≡ word_in s at left → r ≡ Ok x → (4 ≤ left) × (x ≡ big 4 s at)
   unfolding word_in
   is_word {r} {x} e f = go (leb 4 left) refl (sym e ∙ f)
     where
-      go : (b : Bool) → leb 4 left ≡ b → cond b (W.Is (big 4 s at)) (W.Cut at) ≡ W.Is x → (4 ≤ left) × (x ≡ big 4 s at)
+      go : (b : Bool) → leb 4 left ≡ b → cond b (Ok (big 4 s at)) (Err (cut at)) ≡ Ok x → (4 ≤ left) × (x ≡ big 4 s at)
       go true t q = (leb-true _ _ t, cc)
       go false t q = absurd (let z : ◌≡◌ {A = ℕ} 0 1 = cc in omega arith)

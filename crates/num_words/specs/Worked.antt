@@ -1,9 +1,8 @@
 -- Worked values of the definitions, each by computing both sides. A slip in `Words` fails here.
-use Rattle.std.specs.Prelude.{◌≡◌, true, false, [], ◌∷◌, pos, negsuc, refl}
+use Rattle.std.specs.Prelude.{◌≡◌, true, false, [], ◌∷◌, pos, negsuc, refl, Ok, Err}
 use Rattle.std.specs.Float.{nan, inf, fin, binary32, binary64}
 use Rattle.std.specs.Float.Ieee.{of_bits, to_bits}
-use Rattle.num_words.specs.declared.Word.TheVariants as W
-use Rattle.num_words.specs.Words.{big, little, put, word_in}
+use Rattle.num_words.specs.Words.{big, little, put, cut, word_in}
 
 -- ---- words
 
@@ -46,11 +45,11 @@ unfolding big
 big-past = refl
 
 -- of a part that ends with the word it is read, of one that is a byte shorter it is cut at its first byte
-pub word-whole : word_in (9 ∷ 1 ∷ 2 ∷ 3 ∷ 4 ∷ []) 1 4 ≡ W.Is 0x01020304
+pub word-whole : word_in (9 ∷ 1 ∷ 2 ∷ 3 ∷ 4 ∷ []) 1 4 ≡ Ok 0x01020304
 unfolding big word_in
 word-whole = refl
 
-pub word_cut : word_in (9 ∷ 1 ∷ 2 ∷ 3 ∷ 4 ∷ []) 1 3 ≡ W.Cut 1
+pub word_cut : word_in (9 ∷ 1 ∷ 2 ∷ 3 ∷ 4 ∷ []) 1 3 ≡ Err (cut 1)
 unfolding word_in
 word_cut = refl
 

@@ -131,21 +131,19 @@ pub fn u64_at(s: &[u8], at: usize) -> u64
 
 // ---- big-endian, in a part that has `left` bytes from `at` on: the value, or where the word that is not whole begins
 
+// The offset of the first field that is not whole.
 #[derive(Clone, Copy)]
-pub enum Word {
-    Is { value: u32 },
-    Cut { at: usize },
+pub struct Cut {
+    pub at: usize,
 }
 
-pub fn u32_in(s: &[u8], at: usize, left: usize) -> Word
+pub fn u32_in(s: &[u8], at: usize, left: usize) -> Result<u32, Cut>
     ensures { result ≡ word_in s.now at left }
 {
     if left < 4 {
-        Word::Cut { at }
+        Err(Cut { at })
     } else {
-        Word::Is {
-            value: u32_at(s, at),
-        }
+        Ok(u32_at(s, at))
     }
 }
 

@@ -4,7 +4,7 @@ use mathlib.Core.Path.{◌≡◌, refl, sym, ◌∙◌}
 use mathlib.Core.Bool.{Bool, true, false, ◌&&◌, cond}
 use mathlib.Core.List.{List}
 use native.Mathlib.Omega.{arith}
-use native.Mathlib.Nat.{add-zero, add-suc, zero-mul, one-mul, add-mul, le_trans, mul-le-mul_right, le-mul_of_pos_right, mul_comm, lt-mul-div-succ, div-mul-le_self, lt_of_lt_of_le}
+use native.Mathlib.Nat.{add-zero, add-suc, zero-mul, one-mul, add-mul, mul-le-mul_right, mul_comm, lt-mul-div-succ, lt_of_lt_of_le}
 use native.Mathlib.Decide.{dec_lt}
 use borrow.Author.Tests.{le-leb, lt-leb, eqb-true, eqb-false}
 use lib.Dec.{leb, eqb}
@@ -78,31 +78,6 @@ module _ (s : List ℕ) (at : ℕ) where
       (zeros-then (omega arith) (zeros-then (omega arith) (in-part 0 (omega arith) i y.0) (in-part 8 (omega arith) j y.1))
       (zeros-then (omega arith) (in-part 16 (omega arith) k z.0) (in-part 24 (omega arith) l z.1)))
 
--- ---- what is passed
-
-pub passed_none : {s : List ℕ} {at end : ℕ} → at ≤ end → Passed s at end at
-passed_none h = record { from = omega arith; most = h; zeros = zeros-none _ (omega arith) }
-
-pub passed-sooner : {s : List ℕ} {at edge end p : ℕ} → edge ≤ end → Passed s at edge p → Passed s at end p
-passed-sooner h x = record { from = x.from; most = le_trans x.most h; zeros = x.zeros }
-
-pub passed_then : {s : List ℕ} {at end p r : ℕ} → Passed s at end p → Passed s p end r → Passed s at end r
-passed_then x y = record { from = le_trans x.from y.from; most = y.most; zeros = zeros-then (omega arith) x.zeros y.zeros }
-
--- k bytes more
-pub passed-more : {s : List ℕ} {at end p : ℕ} (k : ℕ) → p + k ≤ end → Passed s at end p → Zeros s p (p + k) → Passed s at end (p + k)
-passed-more k h x z = record { from = omega (arith, x.from); most = h; zeros = zeros-then (omega arith) x.zeros z }
-
--- the last eight bytes before the end, over some that were passed
-pub last-eight : {s : List ℕ} {at end p : ℕ} → end < p + 8 → 8 ≤ end → Passed s at end p → big 8 s (end - 8) ≡ 0 → Passed s at end end
-last-eight {s} {at} {end} {p} h k x e =
-    let z = zeros-word 8 s (end - 8) e in
-    record {
-      from = omega (arith, x.from, x.most);
-      most = omega arith;
-      zeros = zeros-part (omega arith) (omega arith) (zeros-then (omega arith) x.zeros z);
-    }
-
 -- ---- the table
 
 module _ (t : List ℕ) (j m : ℕ) where
@@ -149,13 +124,6 @@ module _ {s t : List ℕ} (j m : ℕ) (k : Known s t) (z : Zeros s (j * block_of
 -- ---- blocks, of `size` bytes each
 
 module _ {s t : List ℕ} (j : ℕ) (k : Known s t) where
-  -- as the table has it
-  pub counted-known : {m : ℕ} → m ≡ get_or t j 0 → Counted s j (j + m) t
-  counted-known e = record { from = omega arith; zeros = rw e (k.each j); known = k }
-
-  pub counted_none : {i : ℕ} → i ≡ j → Counted s j i t
-  counted_none e = record { from = omega (arith, e); zeros = zeros-none s (rw e (omega arith)); known = k }
-
   -- one block, which was read
   pub counted-one :
       {size p : ℕ} {o : List ℕ} → size ≡ block_of (length s) → Passed s (j * size) (j * size + size) p → j * size + size ≤ p
@@ -165,10 +133,6 @@ module _ {s t : List ℕ} (j : ℕ) (k : Known s t) where
       let y : Zeros s (j * block_of (length s)) ((j + 1) * block_of (length s)) = rw e at z in
       record { from = omega arith; zeros = y; known = rw q (known-noted j 1 k y) }
 
-pub counted-then : {s t o : List ℕ} {i j k : ℕ} → Counted s i j t → Counted s j k o → Counted s i k o
-counted-then x y =
-    record { from = omega (arith, x.from, y.from); zeros = zeros-then (omega arith) x.zeros y.zeros; known = y.known }
-
 -- the end is kept
 pub counted-kept : {s t o : List ℕ} {j k : ℕ} → Counted s j k t → o ≡ noted t j (k - j) → Counted s j k o
 counted-kept {s} {t} {o} {j} {k} x e =
@@ -176,20 +140,9 @@ counted-kept {s} {t} {o} {j} {k} x e =
     let z : Zeros s (j * block_of (length s)) ((j + (k - j)) * block_of (length s)) = rw p at x.zeros in
     record { from = x.from; zeros = x.zeros; known = rw e (known-noted j (k - j) x.known z) }
 
--- a block below another lies before it, and no block's number is above its place
-pub block-before : (j last size n : ℕ) → j < last → last * size ≤ n → (j + 1) * size ≤ n
-block-before j last size n h l = le_trans (mul-le-mul_right size (omega arith)) l
-
-pub few-blocks : (last size n m : ℕ) → size ≡ block_of n → last * size ≤ m → last ≤ m
-few-blocks last size n m e h = le_trans (le-mul_of_pos_right last (omega (arith, e))) h
-
 -- ---- from a place to another, by the blocks of both
 
 module _ (s : List ℕ) {size : ℕ} (e : size ≡ block_of (length s)) where
-  -- the block of n begins at n or before, and the one behind it past n
-  pub block_within : (k n : ℕ) → k ≤ n / size → k * size ≤ n
-  block_within k n h = le_trans (mul-le-mul_right size h) (div-mul-le_self n size)
-
   pub block-behind : (n : ℕ) → n < (n / size + 1) * size
   block-behind n = rw mul_comm (lt-mul-div-succ n (omega (arith, e)))
 
@@ -201,11 +154,3 @@ module _ (s : List ℕ) {size : ℕ} (e : size ≡ block_of (length s)) where
     passed-all {end} g l =
         let m : end < k * size = lt_of_lt_of_le (block-behind end) (mul-le-mul_right size (omega (arith, l))) in
         record { from = g; most = omega arith; zeros = zeros-part (omega arith) (omega (arith, m)) over }
-
-    pub passed_on : {end r : ℕ} → Passed s (k * size) end r → Passed s at end r
-    passed_on z =
-        record {
-          from = le_trans (omega (arith, x.from, h)) (le_trans (mul-le-mul_right size y.from) z.from);
-          most = z.most;
-          zeros = zeros-then (omega arith) over z.zeros;
-        }

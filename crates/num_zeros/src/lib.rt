@@ -4,7 +4,7 @@
 // that has it twice more. An entry of the table never falls.
 #![tactic(auto)]
 
-ghost use Rattle.std.specs.Prelude.{◌≡◌, true, ◌+◌, ◌*◌, ◌≤◌, length, get_or};
+ghost use Rattle.std.specs.Prelude.{ℕ, ◌≡◌, true, ◌+◌, ◌*◌, ◌≤◌, ◌<◌, length, get_or};
 ghost use Rattle.num_zeros.specs.Zeros.{Zeros, block_of, Known, Passed, Counted, noted};
 
 // How many bytes a block has: a table of 8,192 entries has one for each block.
@@ -25,31 +25,23 @@ fn is_blank(s: &[u8], at: usize) -> bool
         & ((num_words::u64_at(part, 16) == 0) & (num_words::u64_at(part, 24) == 0))
 }
 
-// As long as they are zero, by 32 and by 8.
-fn wides(s: &[u8], at: usize, end: usize) -> usize
-    requires { (at ≤ end) × (end ≤ length s.now) }
-    ensures { Passed s.now at end result }
+fn is_zero(s: &[u8], at: usize) -> bool
+    ensures { result ≡ true → Zeros s.now at (at + 8) }
 {
-    let mut p = at;
-    while 32 <= end - p {
-        if !is_blank(s, p) {
-            return p;
-        }
-        p += 32;
-    }
-    p
+    num_words::u64_at(s, at) == 0
 }
 
-fn eights(s: &[u8], at: usize, end: usize) -> usize
-    requires { (at ≤ end) × (end ≤ length s.now) }
+// As long as they are zero, by n.
+fn steps<F: Fn(usize) -> bool>(s: &[u8], at: usize, end: usize, n: usize, is_zero: F) -> usize
+    requires in_bounds { (at ≤ end) × (end ≤ length s.now) × (0 < n) }
+    requires callable { (p : ℕ) → p + n ≤ length s.now → F.pre is_zero p }
+    requires zeros { (p : ℕ) → p + n ≤ length s.now → F.post is_zero p true → Zeros s.now p (p + n) }
     ensures { Passed s.now at end result }
 {
+    // The place where it stops is the answer: a range and its counter are no plainer.
     let mut p = at;
-    while 8 <= end - p {
-        if num_words::u64_at(s, p) != 0 {
-            return p;
-        }
-        p += 8;
+    while n <= end - p && is_zero(p) {
+        p += n;
     }
     p
 }
@@ -59,14 +51,9 @@ fn stretch(s: &[u8], at: usize, end: usize) -> usize
     requires { (at ≤ end) × (end ≤ length s.now) }
     ensures { Passed s.now at end result }
 {
-    let p = eights(s, wides(s, at, end), end);
-    if 8 <= end - p {
-        return p;
-    }
-    if end < 8 {
-        return p;
-    }
-    if num_words::u64_at(s, end - 8) != 0 {
+    let wide = steps(s, at, end, 32, |p| is_blank(s, p));
+    let p = steps(s, wide, end, 8, |p| is_zero(s, p));
+    if 8 <= end - p || end < 8 || !is_zero(s, end - 8) {
         return p;
     }
     end
@@ -78,10 +65,11 @@ fn stretch(s: &[u8], at: usize, end: usize) -> usize
 fn note(known: &mut [u16], j: usize, m: usize)
     ensures { known.new ≡ noted known.old j m }
 {
-    if m <= 65535 {
-        if j < known.len() {
-            known[j] = m as u16;
-        }
+    let Ok(m) = u16::try_from(m) else {
+        return;
+    };
+    if j < known.len() {
+        known[j] = m;
     }
 }
 
@@ -89,11 +77,7 @@ fn note(known: &mut [u16], j: usize, m: usize)
 fn looked_up(known: &[u16], j: usize) -> usize
     ensures { (result ≡ get_or known.now j 0) × (result ≤ 65535) }
 {
-    if j < known.len() {
-        known[j] as usize
-    } else {
-        0
-    }
+    known.get(j).map_or(0, |m| usize::from(*m))
 }
 
 // How many blocks from block j on are zero: as many as the table has, else one or none.
@@ -121,6 +105,7 @@ fn blocks(s: &[u8], known: &mut [u16], size: usize, j: usize, last: usize) -> us
     ensures { Counted s.now j result known.new }
 {
     let mut k = j;
+    // not a range: a step is as many blocks as are known to be zero
     while k < last {
         let m = next_blocks(s, &mut *known, size, k);
         if m == 0 {

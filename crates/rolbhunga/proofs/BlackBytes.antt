@@ -18,28 +18,26 @@ use Rattle.run_bytes.specs.Samples.{float_at, floats_in, decoded, encoded}
 use Rattle.run_bytes.proofs.Laws.{length-decoded}
 use Rattle.row_black.specs.declared.Field.{Field}
 use Rattle.row_black.specs.declared.Pattern.{Pattern}
-use Rattle.row_black.specs.declared.Black.{Black}
-use Rattle.row_black.specs.declared.Black.TheVariants.{Done}
-use Rattle.row_black.specs.Black.{Levels, total, levelled_at, samples_in, sampled, answer_of, number_of, is_done, BlackOut, black_out, Levelled}
+use Rattle.std.specs.Prelude.{Ok, Err, is_ok, is_err}
+use Rattle.row_black.specs.Black.{Levels, total, levelled_at, samples_in, sampled, Answer, answer_of, number_of, BlackOut, black_out, Levelled}
 use Rattle.row_black.proofs.Refusals.{goes}
-use Rattle.row_black.proofs.Calls.{done-is}
 use Rattle.row_black.proofs.Theorems.{exactly-when}
 use Rattle.rolbhunga.specs.Black.{BlackTold, roomy, number_in, frame_in, bytes_in, BlackPut, BlackBytes, BlackLent}
 
 -- a typed call, in numbers
-pub told : (o : BlackOut) (a : Black) (r : ℕ) (out : List Float) → Levelled o a out → r ≡ number_of a → BlackTold o r out
+pub told : (o : BlackOut) (a : Answer) (r : ℕ) (out : List Float) → Levelled o a out → r ≡ number_of a → BlackTold o r out
 told o a r out ran e = record { answered = e ∙ ap number_of ran.answered; left = ran.left }
 
 -- ---- the frame put back
 
 -- exactly as many samples are enough
-exact : (f : Field) (p : Pattern) (b s input output : ℕ) → answer_of f p b s input output ≡ Done
-    → answer_of f p b s (total f) (total f) ≡ Done
+exact : (f : Field) (p : Pattern) (b s input output : ℕ) → answer_of f p b s input output ≡ Ok tt
+    → answer_of f p b s (total f) (total f) ≡ Ok tt
 unfolding sampled
 exact f p b s input output e =
-    let t = (exactly-when f p b s input output Done).0 e in
+    let t = (exactly-when f p b s input output (Ok tt)).0 e in
     let full : leb (total f) (total f) ≡ true = le-leb (total f) (total f) (omega arith) in
-    (exactly-when f p b s (total f) (total f) Done).1 (t.0, t.1, ap₂ ◌&&◌ full full)
+    (exactly-when f p b s (total f) (total f) (Ok tt)).1 (t.0, t.1, ap₂ ◌&&◌ full full)
 
 module _ {A : Type 0} (none : A) (to_float : A → Float) (f : Field) (l : Levels) where
   -- in the frame a sample goes by the input at its place, whatever stood there
@@ -49,21 +47,21 @@ module _ {A : Type 0} (none : A) (to_float : A → Float) (f : Field) (l : Level
   inside s s' j v v' h e = rw (lt-ltb j (total f) h, e) refl
 
   -- a call on the decoded samples, into room of the frame's size, gives the first of those that the call on all would give
-  framed : (s work : List A) (out made made' : List Float) {a : Black} → length work ≡ total f → length made ≡ total f
-      → (black_out none to_float f l s out).answer ≡ Done
+  framed : (s work : List A) (out made made' : List Float) {a : Answer} → length work ≡ total f → length made ≡ total f
+      → (black_out none to_float f l s out).answer ≡ Ok tt
       → ((j : ℕ) → j < total f → get_or work j none ≡ get_or s j none)
       → Levelled (black_out none to_float f l work made) a made' → made' ≡ take (total f) (black_out none to_float f l s out).output
   unfolding black_out
   framed s work out made made' w m e agree ran =
       ran.left
-      ∙ ap (λ (a : Black). cond (is_done a) (each (levelled_at none to_float f l work) made) made) inner
+      ∙ ap (λ (a : Answer). cond (is_ok a) (each (levelled_at none to_float f l work) made) made) inner
       ∙ first
-      ∙ sym (ap (λ (a : Black). take (total f) (cond (is_done a) (each (levelled_at none to_float f l s) out) out)) e)
+      ∙ sym (ap (λ (a : Answer). take (total f) (cond (is_ok a) (each (levelled_at none to_float f l s) out) out)) e)
     where
       long : total f ≤ length out
       long = (goes f l.pattern (length l.blacks) (length l.scales) (length s) (length out) e).written
 
-      inner : answer_of f l.pattern (length l.blacks) (length l.scales) (length work) (length made) ≡ Done
+      inner : answer_of f l.pattern (length l.blacks) (length l.scales) (length work) (length made) ≡ Ok tt
       inner = rw (w, m) (exact f l.pattern (length l.blacks) (length l.scales) (length s) (length out) e)
 
       many : length (each (levelled_at none to_float f l work) made) ≡ total f
@@ -111,8 +109,8 @@ module _ {A : Type 0} (none zero : A) (to_float : A → Float) (at : ℕ → A) 
       (samples-many at n zero) (samples-many (float_at old) (length old / 4) nought)
 
   -- decoded into the work room, levelled into the other, and put back
-  pub written : (work work' : List A) (made made' : List Float) {a : Black} {bytes : List ℕ}
-      → answer_of f l.pattern (length l.blacks) (length l.scales) n (length old / 4) ≡ Done
+  pub written : (work work' : List A) (made made' : List Float) {a : Answer} {bytes : List ℕ}
+      → answer_of f l.pattern (length l.blacks) (length l.scales) n (length old / 4) ≡ Ok tt
       → length work ≡ total f → length made ≡ total f → work' ≡ decoded at work
       → Levelled (black_out none to_float f l work' made) a made' → bytes ≡ encoded 4 (to_bits binary32) nan made' old
       → bytes ≡ frame_in out_in (total f) old
@@ -137,47 +135,61 @@ module _ {f : Field} {p : Pattern} {b s size input output work made : ℕ} (k : 
 
 -- ---- the answers
 
-pub done-answer : (f : Field) (p : Pattern) (b s input output : ℕ) {a : Black} → a ≡ answer_of f p b s input output → is_done a ≡ true
-    → answer_of f p b s input output ≡ Done
-done-answer f p b s input output {a} e d = sym e ∙ done-is a d
+is-done : (a : Answer) → is_err a ≡ false → a ≡ Ok tt
+is-done (Ok u) e = refl
+is-done (Err r) e = cc
 
--- where the call is not refused, its count is the frame's
-pub samples-are : (f : Field) (p : Pattern) (b s input output : ℕ) {n : ℕ} → answer_of f p b s input output ≡ Done → n ≡ samples_in f
-    → n ≡ total f
-unfolding samples_in
-samples-are f p b s input output e counted = counted ∙ ap (λ (t : Bool). cond t (total f) 0) ((exactly-when f p b s input output Done).0 e).0
+is-refused : (a : Answer) → is_err a ≡ true → is_ok a ≡ false
+is-refused (Ok u) e = cc
+is-refused (Err r) e = refl
 
-module _ (o : BlackOut) (n : ℕ) (old : List ℕ) (work made : ℕ) {a : Black} (given : a ≡ o.answer) where
-  done-too : {d : Bool} → is_done a ≡ d → is_done o.answer ≡ d
-  done-too e = ap is_done (sym given) ∙ e
+-- the answer a to the call on all samples was asked for, and k samples were counted
+module _ {A : Type 0} (none zero : A) (to_float : A → Float) (at : ℕ → A) (n : ℕ) (f : Field) (l : Levels) (old : List ℕ) (work made : ℕ)
+    {a : Answer} (asked : a ≡ answer_of f l.pattern (length l.blacks) (length l.scales) n (length old / 4)) where
+  given : a ≡ (out_in none zero to_float at n f l old).answer
+  given = asked ∙ sym (answer-in none zero to_float at n f l old)
 
-  pub put_refused : {r : ℕ} → is_done a ≡ false → r ≡ number_of a → BlackPut o n old work made r old
+  pub not-refused : is_err a ≡ false → answer_of f l.pattern (length l.blacks) (length l.scales) n (length old / 4) ≡ Ok tt
+  not-refused e = sym asked ∙ is-done a e
+
+  -- the samples are the frame's
+  pub counted : {k : ℕ} → is_err a ≡ false → k ≡ samples_in f → k ≡ total f
+  unfolding samples_in
+  counted e h =
+      h
+      ∙ ap (λ (t : Bool). cond t (total f) 0)
+      ((exactly-when f l.pattern (length l.blacks) (length l.scales) n (length old / 4) (Ok tt)).0 (not-refused e)).0
+
+  pub put_refused : {r : ℕ} → is_err a ≡ true → r ≡ number_of a
+      → BlackPut (out_in none zero to_float at n f l old) (total f) old work made r old
   unfolding number_in bytes_in
   put_refused e q =
-      record {
-        answered = rw (done-too e) (q ∙ ap number_of given);
-        left = rw (done-too e) refl;
-      }
+      let d : is_ok (out_in none zero to_float at n f l old).answer ≡ false = ap is_ok (sym given) ∙ is-refused a e in
+      record { answered = rw d (q ∙ ap number_of given); left = rw d refl }
 
-  short : is_done a ≡ true → roomy n work made ≡ false → BlackPut o n old work made 100 old
-  unfolding number_in bytes_in
-  short e q = record { answered = rw (done-too e, q) refl; left = rw (done-too e, q) refl }
+  module _ (e : is_err a ≡ false) where
+    done : (out_in none zero to_float at n f l old).answer ≡ Ok tt
+    done = sym given ∙ is-done a e
 
-  pub short-work : is_done a ≡ true → work < n → BlackPut o n old work made 100 old
-  short-work e h = short e (ap (λ (t : Bool). t && leb n made) (lt-leb n work h))
+    short : roomy (total f) work made ≡ false → BlackPut (out_in none zero to_float at n f l old) (total f) old work made 100 old
+    unfolding number_in bytes_in
+    short q = record { answered = rw (done, q) refl; left = rw (done, q) refl }
 
-  pub short-made : is_done a ≡ true → n ≤ work → made < n → BlackPut o n old work made 100 old
-  short-made e h q = short e (ap₂ ◌&&◌ (le-leb n work h) (lt-leb n made q))
+    module _ {k : ℕ} (h : k ≡ samples_in f) where
+      pub short-work : work < k → BlackPut (out_in none zero to_float at n f l old) (total f) old work made 100 old
+      short-work q = short (ap (λ (t : Bool). t && leb (total f) made) (lt-leb (total f) work (omega (arith, counted e h))))
 
-  pub put-done : {bytes : List ℕ} → is_done a ≡ true → n ≤ work → n ≤ made → bytes ≡ frame_in o n old
-      → BlackPut o n old work made 0 bytes
-  unfolding number_in bytes_in
-  put-done e p q h =
-      let room : roomy n work made ≡ true = ap₂ ◌&&◌ (le-leb n work p) (le-leb n made q) in
-      record {
-        answered = rw (done-too e, room) (sym (ap number_of (sym given ∙ done-is a e)));
-        left = rw (done-too e, room) h;
-      }
+      pub short-made : k ≤ work → made < k → BlackPut (out_in none zero to_float at n f l old) (total f) old work made 100 old
+      short-made p q =
+          short (ap₂ ◌&&◌ (le-leb (total f) work (omega (arith, counted e h))) (lt-leb (total f) made (omega (arith, counted e h))))
+
+      pub put-done : {bytes : List ℕ} → k ≤ work → k ≤ made → bytes ≡ frame_in (out_in none zero to_float at n f l old) (total f) old
+          → BlackPut (out_in none zero to_float at n f l old) (total f) old work made 0 bytes
+      unfolding number_in bytes_in
+      put-done p q put =
+          let room : roomy (total f) work made ≡ true =
+          ap₂ ◌&&◌ (le-leb (total f) work (omega (arith, counted e h))) (le-leb (total f) made (omega (arith, counted e h))) in
+          record { answered = rw (done, room) refl; left = rw (done, room) put }
 
 -- ---- two results that keep the promise are equal
 

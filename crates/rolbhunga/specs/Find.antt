@@ -1,21 +1,20 @@
 -- What `rolbhunga_find` promises: `found_in` of list_find, in numbers.
-use Rattle.std.specs.Prelude.{ℕ, cond, List, [], ◌≡◌, refl, eqb}
+use Rattle.std.specs.Prelude.{ℕ, cond, List, [], Ok, Err, ◌≡◌, refl, eqb}
 use Rattle.list_find.specs.declared.Which.TheVariants.{List1, List2, List3}
-use Rattle.list_find.specs.declared.Found.{Found}
-use Rattle.list_find.specs.declared.Found.TheVariants.{At, NotTiff, Outside, TooMany, Missing}
-use Rattle.list_find.specs.Walk.{number_of, headed, found_in}
+use Rattle.list_find.specs.declared.FindError.{FindError}
+use Rattle.list_find.specs.Walk.{Found, At, number_of, headed, found_in}
 use Rattle.rolbhunga.specs.declared.find.FindNumbers.{FindNumbers}
 
 -- a refusal has a number alone
 abbrev pub none : ℕ → FindNumbers
 none number = record { number = number; start = 0; length = 0 }
 
+abbrev pub refusal : FindError → ℕ
+refusal why = number_of (Err why)
+
 abbrev pub told : Found → FindNumbers
-told (At start len) = record { number = 0; start = start; length = len }
-told NotTiff = none (number_of NotTiff)
-told Outside = none (number_of Outside)
-told TooMany = none (number_of TooMany)
-told Missing = none (number_of Missing)
+told (Ok place) = record { number = 0; start = place.start; length = place.len }
+told (Err why) = none (refusal why)
 
 -- 1 to 3 ask for a list; any other number is answered with 1, whatever the file
 unfoldable pub found_for : List ℕ → ℕ → FindNumbers

@@ -1,5 +1,5 @@
 -- Worked values of black level over bytes, each by computing: when 100 is given, and a frame with bytes left over.
-use Rattle.std.specs.Prelude.{ℕ, true, false, List, [], ◌∷◌, ◌≡◌, refl}
+use Rattle.std.specs.Prelude.{ℕ, true, false, List, [], ◌∷◌, ◌≡◌, refl, Ok, Err}
 use Rattle.std.specs.Float.{nan, binary32}
 use Rattle.std.specs.Float.Ieee.{of_bits, to_bits, of_int, round, sub, mul, lt}
 use Rattle.num_words.specs.Words.{little}
@@ -7,17 +7,17 @@ use Rattle.num_convert.specs.Convert.{whole_in}
 use Rattle.pointwise.specs.Points.{each, between}
 use Rattle.run_bytes.specs.Samples.{floats_in, wholes_in, decoded, encoded, byte_of}
 use Rattle.row_black.specs.declared.Field.{Field}
-use Rattle.row_black.specs.declared.Black.TheVariants.{Done, Range, Tables, Samples}
+use Rattle.row_black.specs.declared.Refused.TheVariants.{Range, Tables, Samples}
 use Rattle.row_black.specs.Black.{Levels, levels, with_delta, black_at, levelled_by, levelled, levelled_at, field_in_range, tabled, sampled, answer_of, BlackOut, black_out}
 use Rattle.rolbhunga.specs.Black.{roomy, number_in, bytes_in}
 
 pub record Numbers : Type 0 where
   -- 100 is last: it is given where the call would be done, and nowhere else
-  pub done : number_in true Done ≡ 0
-  pub short : number_in false Done ≡ 100
-  pub range : number_in false Range ≡ 1
-  pub tables : number_in false Tables ≡ 60
-  pub samples : number_in false Samples ≡ 61
+  pub done : number_in true (Ok tt) ≡ 0
+  pub short : number_in false (Ok tt) ≡ 100
+  pub range : number_in false (Err Range) ≡ 1
+  pub tables : number_in false (Err Tables) ≡ 60
+  pub samples : number_in false (Err Samples) ≡ 61
   -- a room that is as long as the frame is enough, and both rooms count
   pub exact : roomy 6 6 6 ≡ true
   pub work-short : roomy 6 5 6 ≡ false
@@ -66,7 +66,7 @@ unfolding bytes_in black_out answer_of field_in_range tabled sampled encoded byt
 whole-bytes = refl
 
 -- one byte is no sample: 61; too little room: as it was
-pub no-sample : (black_out 0 (whole_in binary32) one plain (wholes_in (3 ∷ [])) (floats_in before)).answer ≡ Samples
+pub no-sample : (black_out 0 (whole_in binary32) one plain (wholes_in (3 ∷ [])) (floats_in before)).answer ≡ Err Samples
 unfolding black_out answer_of field_in_range tabled sampled decoded each
 no-sample = refl
 

@@ -6,12 +6,13 @@
 pub mod black;
 pub mod find;
 
-ghost use Rattle.std.specs.Prelude.{◌≡◌, cond, ◌*◌, ◌≤◌, length, replicate};
+ghost use Rattle.std.specs.Prelude.{◌≡◌, cond, ◌*◌, ◌/◌, ◌≤◌, length, replicate};
 ghost use Rattle.std.specs.Float.{nan, binary32};
 ghost use Rattle.std.specs.Float.Ieee.{to_bits};
 ghost use Rattle.dng.specs.List.{reading_of};
 ghost use Rattle.dng.specs.Value.{nought};
-ghost use Rattle.dng.specs.Answer.{reading_numbers_of, row_out, f32_out, u16_out};
+ghost use Rattle.dng.specs.Answer.{reading_numbers_of, row_out, f32_out, u16_out, frame_of, run_out};
+ghost use Rattle.sample.specs.Kinds.{kind_of};
 ghost use Rattle.run_bytes.specs.Samples.{
   float_at,
   whole_at,
@@ -35,6 +36,9 @@ ghost use Rattle.rolbhunga.specs.Calls.{
 };
 
 use dng::{Answer, Numbers, Refusal, RowAnswer, RowWindow, Settings, Window};
+use run_bytes::InBytes;
+use run_opcodes::WindowStep;
+use run_refuse::Form;
 
 // What a row call answers: the papers' number, the entries read whole before a malformed one, the byte at which that
 // one was refused, and how many opcodes of the list the f32 run names.
@@ -108,28 +112,23 @@ pub fn rolbhunga_run_row(
     row_numbers(run_row::run_row(list, row, w, y, scale, preview))
 }
 
-// ---- f32 samples in bytes
+// ---- a row, its samples in bytes
 
 // Back into the bytes, where a run changed the samples.
-fn put_f32(room: &[f32], bytes: &mut [u8], ran: bool)
-    requires { length room.now * 4 ≤ length bytes.old }
+fn put<S: InBytes>(room: &[S], bytes: &mut [u8], ran: bool)
+    requires { length room.now * S.SIZE ≤ length bytes.old }
     ensures { bytes.new
-        ≡ cond ran (encoded 4 (to_bits binary32) nan room.now bytes.old) bytes.old }
+        ≡ cond ran (encoded S.SIZE S.bits S.none room.now bytes.old) bytes.old }
 {
     if ran {
-        run_bytes::encode_f32(room, bytes);
+        run_bytes::encode(room, bytes);
     }
 }
 
 fn is_row_done(a: RowAnswer) -> bool
     ensures { result ≡ row_done a }
 {
-    match a {
-        RowAnswer::Done { skipped: _ } => true,
-        RowAnswer::Range => false,
-        RowAnswer::Malformed { entry: _, why: _ } => false,
-        RowAnswer::NotTaken => false,
-    }
+    matches!(a, RowAnswer::Done { .. })
 }
 
 // A row in bytes, with room for each of its samples and no more.
@@ -147,9 +146,9 @@ fn row_in(
         (row_out w scale preview y list.now (decoded (float_at bytes.old) room.old))
         bytes.old result bytes.new }
 {
-    run_bytes::decode_f32(bytes, &mut *room);
+    run_bytes::decode(bytes, &mut *room);
     let r = run_row::run_row(list, &mut *room, w, y, scale, preview);
-    put_f32(room, bytes, is_row_done(r));
+    put(room, bytes, is_row_done(r));
     r
 }
 
@@ -168,7 +167,7 @@ pub fn rolbhunga_bytes_row(
 {
     let n = bytes.len() / 4;
     if work.len() < n {
-        run_bytes::clear_f32(work);
+        run_bytes::clear(work);
         RowNumbers {
             number: 100,
             entry: 0,
@@ -177,7 +176,7 @@ pub fn rolbhunga_bytes_row(
         }
     } else {
         let r = row_in(list, bytes, w, y, scale, preview, &mut work[..n]);
-        run_bytes::clear_f32(work);
+        run_bytes::clear(work);
         row_numbers(r)
     }
 }
@@ -197,7 +196,7 @@ pub fn rolbhunga_run_f32(
         (record { marks = length marks.entry.now })
         result samples.new names.new marks.exit.now }
 {
-    run_answers::numbers(run_window::run_f32(list, samples, w, set, marks, names))
+    run_answers::numbers(run_window::run(list, samples, w, set, marks, names))
 }
 
 pub fn rolbhunga_run_u16(
@@ -214,7 +213,12 @@ pub fn rolbhunga_run_u16(
         (record { marks = length marks.entry.now })
         result samples.new names.new marks.exit.now }
 {
-    run_answers::numbers(run_window::run_u16(list, samples, w, period, preview, marks, names))
+    let set = Settings {
+        period,
+        scale: 1.0,
+        preview,
+    };
+    run_answers::numbers(run_window::run(list, samples, w, set, marks, names))
 }
 
 // Whether a frame is whole: its run answered `number`. A caller by rows asks once, with 0.
@@ -236,18 +240,7 @@ pub fn rolbhunga_whole(
 fn is_reached(a: Answer) -> bool
     ensures { result ≡ reached a }
 {
-    match a {
-        Answer::Done {
-            names: _,
-            repaired: _,
-            left: _,
-        } => true,
-        Answer::Range => false,
-        Answer::Malformed { entry: _, why: _ } => false,
-        Answer::NotTaken => false,
-        Answer::Names => false,
-        Answer::Marks { opcode: _ } => true,
-    }
+    matches!(a, Answer::Done { .. } | Answer::Marks { .. })
 }
 
 // Too little work room: the scratch is cleared, as at every return.
@@ -267,28 +260,59 @@ fn refuse(marks: &mut [u32]) -> Numbers
 }
 
 // The samples of the bytes, with room for each of them and no more.
-fn f32_in(
+fn run_in<S: Form + WindowStep + InBytes>(
     list: &[u8],
     bytes: &mut [u8],
     w: Window,
     set: Settings,
-    room: &mut [f32],
+    room: &mut [S],
     marks: &mut [u32],
     names: &mut [u8],
 ) -> Answer
-    requires { length room.old * 4 ≤ length bytes.old }
-    ensures { Left 4 (to_bits binary32) nan
-        (f32_out w set (record { marks = length marks.entry.now })
-        list.now (decoded (float_at bytes.old) room.old) names.old)
-        (record { marks = length marks.entry.now })
-        bytes.old result bytes.new names.new marks.exit.now }
+    requires { length room.old * S.SIZE ≤ length bytes.old }
+    ensures { Left S.SIZE S.bits S.none
+        (run_out (kind_of S.none S.to_float S.of_mean S.constant_at S.equals S.rule (frame_of w set.scale))
+        S.takes S.skip w set.period set.preview (record { marks = length marks.old })
+        list.now (decoded (S.at bytes.old) room.old) names.old)
+        (record { marks = length marks.old })
+        bytes.old result bytes.new names.new marks.new }
 {
-    run_bytes::decode_f32(bytes, &mut *room);
-    let r = run_window::run_f32(list, &mut *room, w, set, marks, names);
-    put_f32(room, bytes, is_reached(r));
+    run_bytes::decode(bytes, &mut *room);
+    let r = run_window::run(list, &mut *room, w, set, marks, names);
+    put(room, bytes, is_reached(r));
     r
 }
 
+// Each kind of sample by the same test of the work room.
+fn told_in_bytes<S: Form + WindowStep + InBytes>(
+    list: &[u8],
+    bytes: &mut [u8],
+    w: Window,
+    set: Settings,
+    work: &mut [S],
+    marks: &mut [u32],
+    names: &mut [u8],
+) -> Numbers
+    ensures { Bytes S.SIZE S.bits S.none S.ZERO
+        (run_out (kind_of S.none S.to_float S.of_mean S.constant_at S.equals S.rule (frame_of w set.scale))
+        S.takes S.skip w set.period set.preview (record { marks = length marks.old })
+        list.now (decoded (S.at bytes.old) (replicate (length bytes.old / S.SIZE) S.ZERO)) names.old)
+        (record { marks = length marks.old })
+        bytes.old names.old (length work.old)
+        result bytes.new names.new marks.new work.new }
+{
+    let n = bytes.len() / S::SIZE;
+    if work.len() < n {
+        run_bytes::clear(work);
+        refuse(marks)
+    } else {
+        let r = run_in(list, bytes, w, set, &mut work[..n], marks, names);
+        run_bytes::clear(work);
+        run_answers::numbers(r)
+    }
+}
+
+// A function for each kind of sample: the C interface.
 pub fn rolbhunga_bytes_f32(
     list: &[u8],
     bytes: &mut [u8],
@@ -305,52 +329,10 @@ pub fn rolbhunga_bytes_f32(
         bytes.old names.old (length work.old)
         result bytes.new names.new marks.exit.now work.new }
 {
-    let n = bytes.len() / 4;
-    if work.len() < n {
-        run_bytes::clear_f32(work);
-        refuse(marks)
-    } else {
-        let r = f32_in(list, bytes, w, set, &mut work[..n], marks, names);
-        run_bytes::clear_f32(work);
-        run_answers::numbers(r)
-    }
+    told_in_bytes(list, bytes, w, set, work, marks, names)
 }
 
-// ---- the same for u16
-
-fn put_u16(room: &[u16], bytes: &mut [u8], ran: bool)
-    requires { length room.now * 2 ≤ length bytes.old }
-    ensures { bytes.new ≡ cond ran (encoded 2 (λ n. n) 0 room.now bytes.old)
-        bytes.old }
-{
-    if ran {
-        run_bytes::encode_u16(room, bytes);
-    }
-}
-
-fn u16_in(
-    list: &[u8],
-    bytes: &mut [u8],
-    w: Window,
-    period: usize,
-    preview: bool,
-    room: &mut [u16],
-    marks: &mut [u32],
-    names: &mut [u8],
-) -> Answer
-    requires { length room.old * 2 ≤ length bytes.old }
-    ensures { Left 2 (λ n. n) 0
-        (u16_out w period preview (record { marks = length marks.entry.now })
-        list.now (decoded (whole_at bytes.old) room.old) names.old)
-        (record { marks = length marks.entry.now })
-        bytes.old result bytes.new names.new marks.exit.now }
-{
-    run_bytes::decode_u16(bytes, &mut *room);
-    let r = run_window::run_u16(list, &mut *room, w, period, preview, marks, names);
-    put_u16(room, bytes, is_reached(r));
-    r
-}
-
+// The same for u16, which has no scale.
 pub fn rolbhunga_bytes_u16(
     list: &[u8],
     bytes: &mut [u8],
@@ -368,22 +350,10 @@ pub fn rolbhunga_bytes_u16(
         bytes.old names.old (length work.old)
         result bytes.new names.new marks.exit.now work.new }
 {
-    let count = bytes.len() / 2;
-    if work.len() < count {
-        run_bytes::clear_u16(work);
-        refuse(marks)
-    } else {
-        let r = u16_in(
-            list,
-            bytes,
-            w,
-            period,
-            preview,
-            &mut work[..count],
-            marks,
-            names,
-        );
-        run_bytes::clear_u16(work);
-        run_answers::numbers(r)
-    }
+    let set = Settings {
+        period,
+        scale: 1.0,
+        preview,
+    };
+    told_in_bytes(list, bytes, w, set, work, marks, names)
 }

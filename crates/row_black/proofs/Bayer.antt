@@ -15,7 +15,7 @@ use Rattle.pointwise.proofs.Each.{below_or, each-agree}
 use Rattle.row_black.specs.declared.Level.{Level}
 use Rattle.row_black.specs.declared.Pattern.{Pattern}
 use Rattle.row_black.specs.Black.{levels, with_delta, black_at, levelled_by, levelled}
-use Rattle.row_black.specs.Rows.{level_in, settled_at, pair_of, no_delta, own_delta, pair_rule, row_rule, InTables, RowLent}
+use Rattle.row_black.specs.Rows.{level_in, settled_at, pair_of, no_delta, own_delta, pair_rule, row_rule}
 use Rattle.row_black.proofs.Values.{delta-here, delta-past}
 use Rattle.row_black.proofs.Refusals.{split}
 
@@ -119,15 +119,3 @@ module _ {A : Type 0} (none : A) (to_float : A → Float) (s : List A) (p : Patt
 pub level-is : (p : Pattern) (blacks scales rows : List Float) (y x : ℕ) {c : ℕ} {a : Level} → c ≡ x % p.width
     → a ≡ level_in p blacks scales rows y c 0 → a ≡ level_in p blacks scales rows y (x % p.width) 0
 level-is p blacks scales rows y x e h = h ∙ ap (λ (k : ℕ). level_in p blacks scales rows y k 0) e
-
--- plane 0 and a column of the pattern lie in the tables of a row
-pub row-tables : {p : Pattern} {planes x0 n b s c : ℕ} (x : ℕ) → RowLent p planes x0 n b s → c ≡ x % p.width → InTables p 0 c b s
-row-tables {p} {planes} x k e =
-    record {
-      planes = planes;
-      plane = k.some;
-      column = omega (arith, e, mod-lt x k.wide);
-      tall = k.tall;
-      black = k.black;
-      scale = k.scale;
-    }

@@ -11,7 +11,7 @@ use Rattle.row_black.specs.declared.Level.{Level}
 use Rattle.row_black.specs.declared.Pattern.{Pattern}
 use Rattle.row_black.specs.declared.Spot.{Spot}
 use Rattle.row_black.specs.Black.{levels, black_at, levelled}
-use Rattle.row_black.specs.Rows.{level_in, spot_at, step_rule, row_rule, InTables, RowLent, Stepped}
+use Rattle.row_black.specs.Rows.{level_in, spot_at, step_rule, row_rule, Placed, Stepped}
 
 -- where sample j stands, seen from sample i of the first period
 pub record Alike (planes width pitch x0 step i j : ℕ) : Type 0 where
@@ -80,7 +80,7 @@ spot-rule none to_float s p blacks scales rows columns planes x0 y pitch step i 
 
 -- ---- what a row hands on
 
-module _ {p : Pattern} {planes x0 n b s : ℕ} (k : RowLent p planes x0 n b s) where
+module _ {p : Pattern} {planes x0 y l c b s : ℕ} (k : Placed p planes x0 y l c b s) where
   -- a period is not longer than a table
   pub period-fits : p.width * planes ≤ b
   period-fits =
@@ -95,32 +95,29 @@ module _ {p : Pattern} {planes x0 n b s : ℕ} (k : RowLent p planes x0 n b s) w
       )
 
   -- a row that has a sample is walked over
-  pub step-some : {step j : ℕ} → step ≡ min (p.width * planes) n → j < n → 1 ≤ step
+  pub step-some : {n step j : ℕ} → step ≡ min (p.width * planes) n → j < n → 1 ≤ step
   step-some e h = omega (arith, e, mul-le-mul k.wide k.some)
 
   module _ {t : Spot} (i : ℕ) (here : t ≡ spot_at planes p.width x0 i) where
-    plane : t.plane < planes
-    plane = omega (arith, ap (λ (q : Spot). q.plane) here, mod-lt i k.some)
+    pub spot-plane : t.plane < planes
+    spot-plane = omega (arith, ap (λ (q : Spot). q.plane) here, mod-lt i k.some)
 
-    entry : t.entry < p.width
-    entry = omega (arith, ap (λ (q : Spot). q.entry) here, mod-lt (x0 + i / planes) k.wide)
+    pub spot-entry : t.entry < p.width
+    spot-entry = omega (arith, ap (λ (q : Spot). q.entry) here, mod-lt (x0 + i / planes) k.wide)
 
     column : i ≤ 524288 → t.column ≤ 17301504
     column h = omega (arith, ap (λ (q : Spot). q.column) here, div-le_self i planes, k.column)
 
-    pub spot-tables : InTables p t.plane t.entry b s
-    spot-tables = record { planes = planes; plane = plane; column = entry; tall = k.tall; black = k.black; scale = k.scale }
-
     pub spot-next : i ≤ 524288 → (t.plane < planes) × (t.entry < p.width) × (t.column < 4294967296)
-    spot-next h = (plane, entry, omega (arith, column h))
+    spot-next h = (spot-plane, spot-entry, omega (arith, column h))
 
-    pub spot-strides : {step pitch : ℕ} → step ≡ min (p.width * planes) n → pitch ≡ min p.width n → i < step
+    pub spot-strides : {n step pitch : ℕ} → n ≤ 524288 → step ≡ min (p.width * planes) n → pitch ≡ min p.width n → i < step
         → Stepped i step pitch t.column n
-    spot-strides e f h =
+    spot-strides short e f h =
         record {
           first = h;
-          near = omega (arith, e, k.short);
-          narrow = omega (arith, f, k.short);
-          column = omega (arith, column (omega (arith, e, k.short)));
-          short = k.short;
+          near = omega (arith, e);
+          narrow = omega (arith, f);
+          column = omega (arith, column (omega (arith, e)));
+          short = short;
         }

@@ -1,95 +1,88 @@
--- Samples by pairs: which level a place has, and where pairs are the pattern's columns. Assumes nothing.
-use Prim.Native.Nat.{ℕ, ◌+◌, ◌-◌, ◌*◌, ◌/◌, ◌%◌, ◌≤◌, ◌<◌}
+-- Samples by pairs: which level a place has, and a loop over pairs. Assumes nothing.
+use Prim.Native.Nat.{ℕ, ◌+◌, ◌*◌, ◌%◌, ◌<◌}
 use mathlib.Core.Bool.{Bool, cond}
 use mathlib.Core.List.{List}
-use mathlib.Core.Path.{◌≡◌, refl, sym, ap, subst, ◌∙◌}
-use native.Mathlib.Nat.{mod-lt, mod-le, div-add-mod', add-mul-mod_self_right}
+use mathlib.Core.Path.{◌≡◌, sym, ap, subst, ◌∙◌}
 use native.Mathlib.Omega.{arith}
 use borrow.Author.Tests.{eq-eqb, ne_eqb}
-use lib.Arith.{digits_mod}
-use lib.Ieee.{Float}
-use lib.ListN.{length, get_or, set}
+use lib.Ieee.{Float, nan}
+use lib.ListN.{length, get_or, set, length-set}
+use lib.Seq.{get_or-set_same, get_or-set_other}
+use Rattle.std.proofs.lemmas.List.{get_or_default}
 use Rattle.pointwise.specs.Points.{each}
-use Rattle.pointwise.proofs.Each.{below_or}
+use Rattle.pointwise.proofs.Each.{below_or, is-each}
 use Rattle.row_black.specs.declared.Level.{Level}
 use Rattle.row_black.specs.Black.{levelled_by}
-use Rattle.row_black.specs.Rows.{pair_of, pair_rule}
-use Rattle.row_black.proofs.Filling.{Till, till-start, till-next, till-end}
+use Rattle.row_black.specs.Rows.{pair_of, pair_rule, PairAt}
 
--- ---- even places
+module _ (even odd : Level) (k : ℕ) where
+  at-even : pair_of even odd (2 * k) ≡ even
+  at-even = ap (λ (b : Bool). cond b even odd) (eq-eqb (2 * k % 2) 0 (omega arith))
 
-pub whole-pairs : (n : ℕ) → (n - n % 2) % 2 ≡ 0
-whole-pairs n =
-    ap (λ (k : ℕ). k % 2) (let e : n - n % 2 ≡ n / 2 * 2 + 0 = omega (arith, div-add-mod' n 2) in e)
-    ∙ digits_mod (n / 2) {m = 2} {r = 0} (omega arith)
+  at-odd : pair_of even odd (2 * k + 1) ≡ odd
+  at-odd = ap (λ (b : Bool). cond b even odd) (ne_eqb ((2 * k + 1) % 2) 0 (λ q. omega arith))
 
-pub next-even : (j : ℕ) → j % 2 ≡ 0 → (j + 2) % 2 ≡ 0
-next-even j e = add-mul-mod_self_right j 1 2 ∙ e
+module _ (P : ℕ → Float → Type 0) (now : List Float) {v : Float} (m : ℕ) where
+  -- a store at m, where all before it is done
+  stored : m < length now → ((i : ℕ) → i < m → P i (get_or now i nan)) → P m v → (i : ℕ) → i < m + 1 → P i (get_or (set now m v) i nan)
+  stored h below here i q =
+      below_or i m
+      (λ r. subst (P i) (sym (get_or-set_other now m i v nan (λ e. omega arith))) (below i r))
+      (λ r.
+      let e : i ≡ m = omega arith in
+      rw e (subst (P m) (sym (get_or-set_same now m v nan h)) here))
 
-pub pair_fits : (j e : ℕ) → j % 2 ≡ 0 → e % 2 ≡ 0 → j < e → j + 2 ≤ e
-pair_fits j e p q h = omega (arith, p, q, div-add-mod' j 2, div-add-mod' e 2)
+module _ {A : Type 0} (none : A) (to_float : A → Float) (s : List A) (black : ℕ → Float → Float → Type 0) (even odd : Level) where
+  -- a loop that has done the places before j
+  abbrev pub Paired : List Float → ℕ → Type 0
+  Paired now j = (i : ℕ) → i < j → PairAt none to_float s black even odd i (get_or now i nan)
 
--- before the last pair's end a pair is whole
-pub pair_in : (n j : ℕ) → j % 2 ≡ 0 → j < n - n % 2 → j + 2 ≤ n
-pair_in n j p h = omega (arith, pair_fits j (n - n % 2) p (whole-pairs n) h)
+  -- what place j of the level a becomes: x is its sample, and w that as a float
+  value : {x : A} {w b v : Float} {a : Level} (j : ℕ) → j < length s → pair_of even odd j ≡ a
+      → black j a.black b → v ≡ levelled_by b a.scale w → w ≡ to_float x → x ≡ get_or s j x
+      → PairAt none to_float s black even odd j v
+  value {x} {w} {b} {v} {a} j h e given made wide is =
+      record {
+        used = b;
+        given = subst (λ (l : Level). black j l.black b) (sym e) given;
+        value = made
+            ∙ ap (levelled_by b a.scale) (wide ∙ ap to_float (is ∙ get_or_default s j x none h))
+            ∙ sym (ap (λ (l : Level). levelled_by b l.scale (to_float (get_or s j none))) e);
+      }
 
-pub one_left : (n : ℕ) → (n - n % 2 ≡ n → ⊥) → n ≡ n - n % 2 + 1
-one_left n h =
-    below_or (n % 2) 1 (λ q. absurd (h (omega arith))) (λ q. omega (arith, mod-lt n {m = 2} (omega arith), mod-le n 2))
+  module _ (k : ℕ) where
+    pub value-even : {x : A} {w b v : Float} → 2 * k < length s → black (2 * k) even.black b → v ≡ levelled_by b even.scale w
+        → w ≡ to_float x → x ≡ get_or s (2 * k) x → PairAt none to_float s black even odd (2 * k) v
+    value-even h = value (2 * k) h (at-even even odd k)
 
-module _ (even odd : Level) (j : ℕ) (e : j % 2 ≡ 0) where
-  at-even : pair_of even odd j ≡ even
-  at-even = ap (λ (b : Bool). cond b even odd) (eq-eqb (j % 2) 0 e)
+    pub value-odd : {x : A} {w b v : Float} → 2 * k + 1 < length s → black (2 * k + 1) odd.black b → v ≡ levelled_by b odd.scale w
+        → w ≡ to_float x → x ≡ get_or s (2 * k + 1) x → PairAt none to_float s black even odd (2 * k + 1) v
+    value-odd h = value (2 * k + 1) h (at-odd even odd k)
 
-  at-odd : pair_of even odd (j + 1) ≡ odd
-  at-odd =
-      ap (λ (b : Bool). cond b even odd)
-      (ne_eqb ((j + 1) % 2) 0 (λ q. omega (arith, q, e, div-add-mod' j 2, div-add-mod' (j + 1) 2)))
+    -- two stores, or one
+    pub pairs_next : (now : List Float) {v w : Float} → 2 * k + 1 < length now → Paired now (2 * k)
+        → PairAt none to_float s black even odd (2 * k) v → PairAt none to_float s black even odd (2 * k + 1) w
+        → Paired (set (set now (2 * k) v) (2 * k + 1) w) (2 * (k + 1))
+    pairs_next now {v} h below a b =
+        rw (let e : 2 * (k + 1) ≡ 2 * k + 1 + 1 = omega arith in e)
+        (stored (PairAt none to_float s black even odd) (set now (2 * k) v) (2 * k + 1) (simp length-set h)
+        (stored (PairAt none to_float s black even odd) now (2 * k) (omega arith) below a) b)
 
--- ---- a loop over pairs
+    pub pairs-last : (now : List Float) {x : A} {w b v : Float} {j : ℕ} → j ≡ 2 * k → j < length now → j < length s → Paired now (2 * k)
+        → black j even.black b → v ≡ levelled_by b even.scale w → w ≡ to_float x → x ≡ get_or s j x → Paired (set now j v) (j + 1)
+    pairs-last now {x} {w} {b} {v} {j} e h q below given made wide is =
+        stored (PairAt none to_float s black even odd) now j h (λ i r. below i (omega arith))
+        (value j q (rw e (at-even even odd k)) given made wide is)
 
--- the places before j are done, and j is even
-module _ {A : Type 0} (none : A) (to_float : A → Float) (s : List A) (plus : ℕ → Float → Float) (even odd : Level) where
-  pub record Paired (old now : List Float) (j : ℕ) : Type 0 where
-    pub till : Till (pair_rule none to_float s plus even odd) old now j
-    pub pair : j % 2 ≡ 0
-
--- what a place of the level a becomes, w being its sample
-abbrev pub Becomes : {A : Type 0} → A → (A → Float) → List A → (ℕ → Float → Float) → Level → ℕ → Float → Type 0
-Becomes none to_float s plus a j v = (w : Float) × (v ≡ levelled_by (plus j a.black) a.scale w) × (w ≡ to_float (get_or s j none))
-
-module _ {A : Type 0} (none : A) (to_float : A → Float) (s : List A) (plus : ℕ → Float → Float) (even odd : Level) where
-  value : {v : Float} (j : ℕ) (a : Level) → pair_of even odd j ≡ a → Becomes none to_float s plus a j v
-      → v ≡ pair_rule none to_float s plus even odd j
+  -- each place by the rule, where the black is `plus`
+  pub paired : (plus : ℕ → Float → Float) (old new : List Float) → length new ≡ length old → Paired new (length old)
+      → ((j : ℕ) (b r : Float) → j < length old → black j b r → r ≡ plus j b)
+      → new ≡ each (λ j v. pair_rule none to_float s plus even odd j) old
   unfolding pair_rule
-  value j a e (w, q, r) =
-      q ∙ ap (levelled_by (plus j a.black) a.scale) r
-      ∙ sym (ap (λ (b : Level). levelled_by (plus j b.black) b.scale (to_float (get_or s j none))) e)
-
-  pub pairs_start : (old : List Float) → Paired none to_float s plus even odd old old 0
-  pairs_start old = record { till = till-start; pair = refl }
-
-module _ {A : Type 0} {none : A} {to_float : A → Float} {s : List A} {plus : ℕ → Float → Float} {even odd : Level} where
-  module _ {old now : List Float} {j : ℕ} (p : Paired none to_float s plus even odd old now j) where
-    -- two stores
-    pub pairs_next : {v w : Float} → j + 1 < length old → Becomes none to_float s plus even j v → Becomes none to_float s plus odd (j + 1) w
-        → Paired none to_float s plus even odd old (set (set now j v) (j + 1) w) (j + 2)
-    pairs_next {v} {w} h a b =
-        record {
-          till = rw (let e : j + 2 ≡ j + 1 + 1 = omega arith in e)
-              (till-next (till-next p.till (omega arith) (value none to_float s plus even odd j even (at-even even odd j p.pair) a)) h
-              (value none to_float s plus even odd (j + 1) odd (at-odd even odd j p.pair) b));
-          pair = next-even j p.pair;
-        }
-
-    -- none is left, or one
-    pub pairs_end : length old ≤ j → now ≡ each (λ i v. pair_rule none to_float s plus even odd i) old
-    pairs_end h = till-end p.till h
-
-    pub pairs-at : {i : ℕ} → j ≡ i → Paired none to_float s plus even odd old now i
-    pairs-at e = subst (λ (k : ℕ). Paired none to_float s plus even odd old now k) e p
-
-    pub pairs-last : {v : Float} → length old ≡ j + 1 → Becomes none to_float s plus even j v
-        → set now j v ≡ each (λ i u. pair_rule none to_float s plus even odd i) old
-    pairs-last h a =
-        till-end (till-next p.till (omega arith) (value none to_float s plus even odd j even (at-even even odd j p.pair) a)) (omega arith)
+  paired plus old new same made is =
+      is-each nan (λ j v. pair_rule none to_float s plus even odd j) old new same
+      (λ j h.
+      let p = made j h in
+      p.value
+      ∙ ap (λ (b : Float). levelled_by b (pair_of even odd j).scale (to_float (get_or s j none)))
+      (is j (pair_of even odd j).black p.used h p.given))

@@ -1,4 +1,4 @@
--- A list filled place by place with what does not go by what stood there: from the front, and over the places of a set. Assumes nothing.
+-- A list filled over the places of a set with what does not go by what stood there. Assumes nothing.
 use Prim.Native.Nat.{ℕ, ◌+◌, ◌*◌, ◌/◌, ◌%◌, ◌≤◌, ◌<◌}
 use mathlib.Core.Bool.{Bool, true, false, ◌&&◌, cond}
 use mathlib.Core.List.{List}
@@ -10,33 +10,10 @@ use lib.Dec.{eqb, ltb}
 use lib.Ieee.{Float, nan}
 use lib.ListN.{length, get_or, set, length-set}
 use lib.Seq.{get_or-set_same, get_or-set_other}
-use Rattle.pointwise.specs.Points.{each, between}
+use Rattle.pointwise.specs.Points.{each}
 use Rattle.pointwise.proofs.Each.{below_or, length-each, get_or-each, is-each, each-agree, each_none, each-each}
-use Rattle.pointwise.proofs.Parts.{between_in, each-between-empty, store}
 use Rattle.row_black.specs.Rows.{only}
 use Rattle.row_black.proofs.Refusals.{by_cases}
-
--- ---- from the front
-
--- the places before i are f's, and no place is lost
-pub record Till (f : ℕ → Float) (old now : List Float) (i : ℕ) : Type 0 where
-  pub held : now ≡ each (between 0 i (λ j v. f j)) old
-  pub same : length now ≡ length old
-
-module _ {f : ℕ → Float} {old : List Float} where
-  pub till-start : Till f old old 0
-  till-start = record { held = sym (each-between-empty 0 0 (λ j v. f j) old (omega arith)); same = refl }
-
-  -- a store at i
-  pub till-next : {now : List Float} {i : ℕ} {v : Float} → Till f old now i → i < length old → v ≡ f i → Till f old (set now i v) (i + 1)
-  till-next {now} {i} {v} t h e =
-      let s : set now i v ≡ each (between 0 (i + 1) (λ j u. f j)) old = store nan (λ j u. f j) 0 i old now v t.held e (omega arith) h in
-      record { held = s; same = ap length s ∙ length-each (between 0 (i + 1) (λ j u. f j)) old }
-
-  pub till-end : {now : List Float} {i : ℕ} → Till f old now i → length old ≤ i → now ≡ each (λ j v. f j) old
-  till-end {now} {i} t h =
-      t.held ∙ each-agree (between 0 i (λ j v. f j)) (λ j v. f j) old
-      (λ j v q. between_in 0 i (λ j v. f j) j v (omega arith) (omega arith))
 
 -- ---- over a set
 

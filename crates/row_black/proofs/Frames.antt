@@ -3,7 +3,7 @@ use Prim.Native.Nat.{ℕ, ◌+◌, ◌-◌, ◌*◌, ◌/◌, ◌%◌, ◌≤◌
 use mathlib.Core.Bool.{Bool, cond}
 use mathlib.Core.List.{List, ◌++◌}
 use mathlib.Core.Path.{◌≡◌, refl, sym, ap, ◌∙◌}
-use native.Mathlib.Nat.{add-mul, one-mul, mul_comm, mul_assoc, mul-le-mul_right, div-lt_iff_lt-mul, mul-add-div_right, mul-add-mod_self_right}
+use native.Mathlib.Nat.{add-mul, zero-mul, one-mul, mul_comm, mul_assoc, mul-le-mul_right, div-lt_iff_lt-mul, mul-add-div_right, mul-add-mod_self_right}
 use native.Mathlib.Omega.{arith}
 use borrow.Author.Tests.{lt-ltb, le-ltb}
 use lib.Arith.{digits_div, digits_mod}
@@ -16,7 +16,7 @@ use Rattle.pointwise.proofs.Parts.{before-in, before-out, between_in, each-befor
 use Rattle.row_black.specs.declared.Field.{Field}
 use Rattle.row_black.specs.declared.Pattern.{Pattern}
 use Rattle.row_black.specs.Black.{Levels, total, levelled, levelled_at}
-use Rattle.row_black.specs.Rows.{row_rule, RowLent}
+use Rattle.row_black.specs.Rows.{row_rule, Placed, RowLent}
 use Rattle.row_black.proofs.Refusals.{Goes, row_fits}
 
 -- a row's samples, and where row y starts
@@ -44,8 +44,13 @@ pub record Rows {A : Type 0} (none : A) (to_float : A → Float) (f : Field) (l 
   pub here : at ≡ y * wide f
 
 module _ {A : Type 0} {none : A} {to_float : A → Float} {f : Field} {l : Levels} {s : List A} {old : List Float} where
-  pub rows_start : Rows none to_float f l s old old 0 0
-  rows_start = record { done = sym (each-before-zero (levelled_at none to_float f l s) old); same = refl; here = omega arith }
+  pub rows_start : Rows none to_float f l s old old 0 (0 * wide f)
+  rows_start =
+      record {
+        done = rw zero-mul (sym (each-before-zero (levelled_at none to_float f l s) old));
+        same = refl;
+        here = refl;
+      }
 
   module _ {now : List Float} {y at : ℕ} (r : Rows none to_float f l s old now y at) where
     -- a row of the frame lies in it
@@ -98,15 +103,16 @@ module _ {A : Type 0} {none : A} {to_float : A → Float} {f : Field} {l : Level
     pub rows-turn : {row : List Float} → y < f.height → total f ≤ length old
         → row ≡ each (λ j v. row_rule none to_float (take (at + wide f - at) (drop at s)) l f.planes f.x0 (f.y0 + y) j)
         (take (at + wide f - at) (drop at now))
-        → Rows none to_float f l s old (take at now ++ (row ++ drop (at + wide f - at) (drop at now))) (y + 1) (at + wide f)
+        → Rows none to_float f l s old (take at now ++ (row ++ drop (at + wide f - at) (drop at now))) (y + 1) ((y + 1) * wide f)
     rows-turn {row} h room e =
-        record {
+        rw (add-mul, one-mul, ← r.here)
+        (record {
           done = whole ∙ ap (each (between at (at + k) (λ i. G (i - at)))) r.done
               ∙ advance nan (levelled_at none to_float f l s) (λ i. G (i - at)) at (at + wide f) at (at + k) old (omega arith) (omega arith) (omega arith)
               (λ i v low high q. in-row h i v low high ∙ sym (between_in at (at + k) (λ i. G (i - at)) i v low (omega arith)));
           same = ap length whole ∙ length-each (between at (at + k) (λ i. G (i - at))) now ∙ r.same;
           here = omega (arith, r.here, add-mul y 1 (wide f), one-mul (wide f));
-        }
+        })
       where
         k : ℕ
         k = at + wide f - at
@@ -138,21 +144,23 @@ part_length : {A : Type 0} (at w : ℕ) (t : List A) → at + w ≤ length t →
 part_length at w t h = length-take-le (at + w - at) (drop at t) (omega (arith, length-drop at t)) ∙ omega arith
 
 module _ {A : Type 0} {f : Field} {p : Pattern} {b s : ℕ} (input : List A) (old : List Float) (g : Goes f p b s (length input) (length old)) where
+  pub row-placed : {y l c : ℕ} → l ≡ y % p.height → c ≡ f.x0 % p.width → Placed p f.planes f.x0 y l c b s
+  row-placed e h =
+      record {
+        some = g.ranges.some;
+        few = g.ranges.few;
+        column = g.ranges.column;
+        tall = g.tables.tall;
+        wide = g.tables.wide;
+        black = g.tables.black;
+        scale = g.tables.scale;
+        line = e;
+        first = h;
+      }
+
   pub row-lent : (at : ℕ) (now : List Float) → length now ≡ length old → at + wide f ≤ total f
-      → RowLent p f.planes f.x0 (length (take (at + wide f - at) (drop at now))) b s
-      × (length (take (at + wide f - at) (drop at now)) ≤ length (take (at + wide f - at) (drop at input)))
+      → RowLent (length (take (at + wide f - at) (drop at now))) (length (take (at + wide f - at) (drop at input)))
   row-lent at now same h =
       let n : length (take (at + wide f - at) (drop at now)) ≡ wide f = part_length at (wide f) now (omega (arith, g.written, same)) in
-      let m : length (take (at + wide f - at) (drop at input)) ≡ wide f = part_length at (wide f) input (omega (arith, g.read)) in (
-        record {
-          some = g.ranges.some;
-          few = g.ranges.few;
-          column = g.ranges.column;
-          short = omega (arith, n, row_fits g.ranges);
-          tall = g.tables.tall;
-          wide = g.tables.wide;
-          black = g.tables.black;
-          scale = g.tables.scale;
-        },
-        omega (arith, n, m),
-      )
+      let m : length (take (at + wide f - at) (drop at input)) ≡ wide f = part_length at (wide f) input (omega (arith, g.read)) in
+      record { short = omega (arith, n, row_fits g.ranges); read = omega (arith, n, m) }

@@ -1,16 +1,15 @@
 -- The tests of a call: products by quotients, and what a call that is not refused has. Assumes nothing.
-use Prim.Native.Nat.{ℕ, suc, ◌*◌, ◌/◌, ◌≤◌, ◌<◌}
+use Prim.Native.Nat.{ℕ, ◌*◌, ◌/◌, ◌≤◌, ◌<◌}
 use mathlib.Core.Bool.{Bool, true, false, ◌&&◌}
-use mathlib.Core.Path.{◌≡◌, refl, sym, ap, ◌∙◌}
+use mathlib.Core.Path.{◌≡◌, refl, sym, ◌∙◌}
 use native.Mathlib.Nat.{mul_assoc, mul_comm, mul-le-mul, mul-le-mul_left, mul-one, le-div_iff_mul-le}
 use native.Mathlib.Omega.{arith}
 use borrow.Author.Tests.{le-leb, lt-leb, leb-true}
 use lib.Dec.{leb}
+use Rattle.std.specs.Prelude.{Ok}
 use Rattle.pointwise.proofs.Each.{below_or}
 use Rattle.row_black.specs.declared.Field.{Field}
 use Rattle.row_black.specs.declared.Pattern.{Pattern}
-use Rattle.row_black.specs.declared.Black.{Black}
-use Rattle.row_black.specs.declared.Black.TheVariants.{Done, Range, Tables, Samples}
 use Rattle.row_black.specs.Black.{total, field_in_range, holds, tabled, sampled, answer_of}
 
 -- ---- products by quotients
@@ -121,7 +120,7 @@ pub record Goes (f : Field) (p : Pattern) (b s input output : ℕ) : Type 0 wher
   pub read : total f ≤ input
   pub written : total f ≤ output
 
-pub goes : (f : Field) (p : Pattern) (b s input output : ℕ) → answer_of f p b s input output ≡ Done → Goes f p b s input output
+pub goes : (f : Field) (p : Pattern) (b s input output : ℕ) → answer_of f p b s input output ≡ Ok tt → Goes f p b s input output
 unfolding answer_of sampled
 goes f p b s input output =
     by_cases (field_in_range f)
@@ -132,15 +131,6 @@ goes f p b s input output =
     (λ n e.
     let m = split (leb (total f) input) _ n in
     record { ranges = ranged f r; tables = has-tables p f.planes b s t; read = leb-true _ _ m.0; written = leb-true _ _ m.1 })
-    (λ n e. never Samples (rw (r, t, n) at e) refl))
-    (λ t e. never Tables (rw (r, t) at e) refl))
-    (λ r e. never Range (rw r at e) refl)
-  where
-    code : Black → ℕ
-    code Done = 0
-    code Range = 1
-    code Tables = 2
-    code Samples = 3
-
-    never : {C : Type 0} {n : ℕ} (a : Black) → a ≡ Done → code a ≡ suc n → C
-    never a e h = absurd (omega (arith, ap code e))
+    (λ n e. cc (rw (r, t, n) at e)))
+    (λ t e. cc (rw (r, t) at e)))
+    (λ r e. cc (rw r at e))

@@ -7,7 +7,7 @@ use native.Mathlib.Omega.{arith}
 use lib.Arith.{digits_lt, digits_div, digits_mod}
 use Rattle.row_black.specs.declared.Pattern.{Pattern}
 use Rattle.row_black.specs.declared.Spot.{Spot}
-use Rattle.row_black.specs.Rows.{spot_at, InTables}
+use Rattle.row_black.specs.Rows.{spot_at, Placed}
 
 -- ---- counted remainders
 
@@ -54,16 +54,13 @@ module _ (planes width x0 i : ℕ) (s : Spot) (here : s ≡ spot_at planes width
 
 -- ---- a place in a table
 
-module _ {p : Pattern} {k c b s : ℕ} (y line : ℕ) (t : InTables p k c b s) (here : line ≡ y % p.height) where
-  in-line : k * p.height + line < t.planes * p.height
-  in-line = digits_lt t.plane (omega (arith, here, mod-lt y t.tall))
+module _ {p : Pattern} {planes x y l c b s : ℕ} (t : Placed p planes x y l c b s) {k e : ℕ} (plane : k < planes) (column : e < p.width) where
+  in-line : k * p.height + l < planes * p.height
+  in-line = digits_lt plane (omega (arith, t.line, mod-lt y t.tall))
 
-  pub in_table : (k * p.height + line) * p.width + c < t.planes * p.height * p.width
-  in_table = digits_lt in-line t.column
+  pub in_table : (k * p.height + l) * p.width + e < planes * p.height * p.width
+  in_table = digits_lt in-line column
 
   -- the products on the way to it are no larger
-  pub line-below : k * p.height + line < t.planes * p.height * p.width
-  line-below = omega (arith, in_table, mul-le-mul_right {m = 1} {n = p.width} (k * p.height + line) t-wide, one-mul (k * p.height + line))
-    where
-      t-wide : 1 ≤ p.width
-      t-wide = omega (arith, t.column)
+  pub line-below : k * p.height + l < planes * p.height * p.width
+  line-below = omega (arith, in_table, mul-le-mul_right {m = 1} {n = p.width} (k * p.height + l) t.wide, one-mul (k * p.height + l))

@@ -8,15 +8,15 @@ use native.Mathlib.Omega.{arith}
 use borrow.Author.Tests.{le-leb, lt-ltb}
 use lib.Arith.{digits_lt, digits_div, digits_mod}
 use lib.Dec.{ltb}
+use Rattle.std.specs.Prelude.{Ok, Err, is_ok}
 use lib.Ieee.{Float, nan}
 use lib.ListN.{length, get_or, get_or-eq_default}
 use Rattle.pointwise.specs.Points.{each}
 use Rattle.pointwise.proofs.Each.{below_or, length-each, get_or-each}
 use Rattle.row_black.specs.declared.Field.{Field}
 use Rattle.row_black.specs.declared.Pattern.{Pattern}
-use Rattle.row_black.specs.declared.Black.{Black}
-use Rattle.row_black.specs.declared.Black.TheVariants.{Done, Range, Tables, Samples}
-use Rattle.row_black.specs.Black.{Levels, levelled, total, levelled_at, field_in_range, tabled, sampled, answer_of, is_done, black_out}
+use Rattle.row_black.specs.declared.Refused.TheVariants.{Range, Tables, Samples}
+use Rattle.row_black.specs.Black.{Levels, levelled, total, levelled_at, field_in_range, tabled, sampled, Answer, answer_of, black_out}
 use Rattle.row_black.specs.Promises.{Determined, When, ExactlyWhen, Kept, Keeps, place_of, Pointwise, tile_of, Tiles}
 use Rattle.row_black.proofs.Refusals.{by_cases, goes}
 use Rattle.row_black.proofs.Frames.{behind}
@@ -30,15 +30,15 @@ determined o r r' out out' a b = (a.answered ∙ sym b.answered, a.left ∙ sym 
 
 module _ (f : Field) (p : Pattern) (b s input output : ℕ) where
   -- the tests give the answer
-  gives : (a : Black) → When f p b s input output a → answer_of f p b s input output ≡ a
+  gives : (a : Answer) → When f p b s input output a → answer_of f p b s input output ≡ a
   unfolding answer_of
-  gives Done (r, t, n) = rw (r, t, n) refl
-  gives Range r = rw r refl
-  gives Tables (r, t) = rw (r, t) refl
-  gives Samples (r, t, n) = rw (r, t, n) refl
+  gives (Ok u) (r, t, n) = rw (r, t, n) refl
+  gives (Err Range) r = rw r refl
+  gives (Err Tables) (r, t) = rw (r, t) refl
+  gives (Err Samples) (r, t, n) = rw (r, t, n) refl
 
   -- and every answer has its tests
-  holds_of : (a : Black) → When f p b s input output a → When f p b s input output (answer_of f p b s input output)
+  holds_of : (a : Answer) → When f p b s input output a → When f p b s input output (answer_of f p b s input output)
   holds_of a w = subst (When f p b s input output) (sym (gives a w)) w
 
   tested : When f p b s input output (answer_of f p b s input output)
@@ -46,9 +46,9 @@ module _ (f : Field) (p : Pattern) (b s input output : ℕ) where
       by_cases (field_in_range f)
       (λ r.
       by_cases (tabled p f.planes b s)
-      (λ t. by_cases (sampled f input output) (λ n. holds_of Done (r, t, n)) (λ n. holds_of Samples (r, t, n)))
-      (λ t. holds_of Tables (r, t)))
-      (λ r. holds_of Range r)
+      (λ t. by_cases (sampled f input output) (λ n. holds_of (Ok tt) (r, t, n)) (λ n. holds_of (Err Samples) (r, t, n)))
+      (λ t. holds_of (Err Tables) (r, t)))
+      (λ r. holds_of (Err Range) r)
 
 pub exactly-when : ExactlyWhen
 exactly-when f p b s input output a =
@@ -61,20 +61,20 @@ module _ {A : Type 0} (none : A) (to_float : A → Float) (f : Field) (l : Level
   new = each (levelled_at none to_float f l s) out
 
   -- the output is the new one, or the old one
-  output-done : (black_out none to_float f l s out).answer ≡ Done → (black_out none to_float f l s out).output ≡ new
+  output-done : (black_out none to_float f l s out).answer ≡ Ok tt → (black_out none to_float f l s out).output ≡ new
   unfolding black_out new
-  output-done e = ap (λ (a : Black). cond (is_done a) new out) e
+  output-done e = ap (λ (a : Answer). cond (is_ok a) new out) e
 
-  output-refused : is_done (black_out none to_float f l s out).answer ≡ false → (black_out none to_float f l s out).output ≡ out
+  output-refused : is_ok (black_out none to_float f l s out).answer ≡ false → (black_out none to_float f l s out).output ≡ out
   unfolding black_out new
   output-refused e = ap (λ (b : Bool). cond b new out) e
 
   -- what holds of both holds of the output
   either : (P : List Float → Type 0) → P new → P out → P (black_out none to_float f l s out).output
   unfolding black_out new
-  either P n o = by_cases (is_done a) (λ e. subst (λ (b : Bool). P (cond b new out)) (sym e) n) (λ e. subst (λ (b : Bool). P (cond b new out)) (sym e) o)
+  either P n o = by_cases (is_ok a) (λ e. subst (λ (b : Bool). P (cond b new out)) (sym e) n) (λ e. subst (λ (b : Bool). P (cond b new out)) (sym e) o)
     where
-      a : Black
+      a : Answer
       a = answer_of f l.pattern (length l.blacks) (length l.scales) (length s) (length out)
 
   new-behind : (j : ℕ) → total f ≤ j → get_or new j nan ≡ get_or out j nan
@@ -133,7 +133,7 @@ module _ {A : Type 0} (none : A) (to_float : A → Float) (f : Field) (l : Level
       → get_or (black_out none to_float f l s out).output j nan ≡ get_or (black_out none to_float f l s' out).output j nan
   unfolding black_out new
   itself-at s s' j h h' e =
-      go (is_done (black_out none to_float f l s out).answer) (is_done (black_out none to_float f l s' out).answer) (ap is_done (same_answer s s' h h'))
+      go (is_ok (black_out none to_float f l s out).answer) (is_ok (black_out none to_float f l s' out).answer) (ap is_ok (same_answer s s' h h'))
     where
       go : (a a' : Bool) → a ≡ a'
           → get_or (cond a (new none to_float f l s out) out) j nan ≡ get_or (cond a' (new none to_float f l s' out) out) j nan
@@ -158,11 +158,11 @@ module _ {A : Type 0} (none : A) (to_float : A → Float) (f : Field) (l : Level
         digits_mod y {m = f.width} {r = x} hx,
       ) refl
 
-  written : (s : List A) → (black_out none to_float f l s out).answer ≡ Done → total f ≤ length out
+  written : (s : List A) → (black_out none to_float f l s out).answer ≡ Ok tt → total f ≤ length out
   unfolding black_out
   written s e = (goes f l.pattern (length l.blacks) (length l.scales) (length s) (length out) e).written
 
-  position_at : (s : List A) (y x k : ℕ) → (black_out none to_float f l s out).answer ≡ Done → y < f.height → x < f.width → k < f.planes
+  position_at : (s : List A) (y x k : ℕ) → (black_out none to_float f l s out).answer ≡ Ok tt → y < f.height → x < f.width → k < f.planes
       → get_or (black_out none to_float f l s out).output (place_of f y x k) nan
       ≡ levelled l (f.y0 + y) (f.x0 + x) k (to_float (get_or s (place_of f y x k) none))
   unfolding new

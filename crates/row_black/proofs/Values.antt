@@ -1,11 +1,12 @@
 -- One sample's value, and a delta that is there, missing, or in an empty list. Assumes nothing.
-use Prim.Native.Nat.{ℕ, zero, suc, ◌≤◌, ◌<◌}
+use Prim.Native.Nat.{ℕ, ◌≤◌, ◌<◌}
 use mathlib.Core.Bool.{Bool, true, false, cond}
 use mathlib.Core.List.{List, [], ◌∷◌}
 use mathlib.Core.Path.{◌≡◌, refl, sym, ap, ◌∙◌}
 use native.Mathlib.Omega.{arith}
 use lib.Ieee.{Float, nan, binary32, add, sub, mul, lt, of_bits}
 use lib.ListN.{length, get_or, get_or-eq_default}
+use Rattle.std.proofs.lemmas.List.{get_or_default}
 use Rattle.dng.specs.Value.{nought}
 use Rattle.row_black.specs.Black.{with_delta, levelled_by}
 
@@ -29,16 +30,10 @@ unfolding with_delta
 delta-none [] i b e = refl
 delta-none (d ∷ ds) i b e = absurd (omega arith)
 
--- what stands inside a list does not go by what is given past its end
-default : (l : List Float) (i : ℕ) (d e : Float) → i < length l → get_or l i d ≡ get_or l i e
-default [] i d e h = absurd (omega arith)
-default (x ∷ xs) zero d e h = refl
-default (x ∷ xs) (suc i) d e h = default xs i d e (omega arith)
-
 pub delta-here : (ds : List Float) (i : ℕ) (b : Float) → i < length ds → add binary32 b (get_or ds i nan) ≡ with_delta ds i b
 unfolding with_delta
 delta-here [] i b h = absurd (omega arith)
-delta-here (d ∷ ds) i b h = ap (add binary32 b) (default (d ∷ ds) i nan nought h)
+delta-here (d ∷ ds) i b h = ap (add binary32 b) (get_or_default (d ∷ ds) i nan nought h)
 
 pub delta-missing : (ds : List Float) (i : ℕ) (b : Float) → (length ds ≡ 0 → ⊥) → length ds ≤ i → add binary32 b nought ≡ with_delta ds i b
 unfolding with_delta

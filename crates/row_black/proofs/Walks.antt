@@ -7,6 +7,7 @@ use native.Mathlib.Omega.{arith}
 use lib.Dec.{eqb}
 use lib.Ieee.{Float}
 use lib.ListN.{length, get_or, set}
+use Rattle.std.proofs.lemmas.List.{get_or_default}
 use Rattle.pointwise.specs.Points.{each}
 use Rattle.row_black.specs.declared.Level.{Level}
 use Rattle.row_black.specs.Black.{with_delta, levelled_by}
@@ -53,10 +54,12 @@ module _ {from step pitch x : ℕ} {f : ℕ → Float} {old : List Float} (k : S
     pub walk_end : length old ≤ j → now ≡ each (only (λ i. eqb (i % step) from) f) old
     walk_end h = strode-end k.first w.strode h
 
--- what a sample of the walk becomes
-pub walk-value : {A : Type 0} (none : A) (to_float : A → Float) (s : List A) (a : Level) (columns : List Float) (x pitch step j c : ℕ) {v b u : Float}
-    → c ≡ x + j / step * pitch → v ≡ levelled_by b a.scale u → b ≡ with_delta columns c a.black → u ≡ to_float (get_or s j none)
-    → v ≡ step_rule none to_float s a columns x pitch step j
+-- what a sample of the walk becomes: y is the sample, and u that as a float
+pub walk-value : {A : Type 0} (none : A) (to_float : A → Float) (s : List A) (a : Level) (columns : List Float) (x pitch step j c : ℕ) {y : A} {v b u : Float}
+    → c ≡ x + j / step * pitch → j < length s → v ≡ levelled_by b a.scale u → b ≡ with_delta columns c a.black
+    → y ≡ get_or s j y → u ≡ to_float y → v ≡ step_rule none to_float s a columns x pitch step j
 unfolding step_rule
-walk-value none to_float s a columns x pitch step j c e q r t =
-    q ∙ ap₂ (λ (b u : Float). levelled_by b a.scale u) (r ∙ ap (λ (i : ℕ). with_delta columns i a.black) e) t
+walk-value none to_float s a columns x pitch step j c {y} e h q r i t =
+    q
+    ∙ ap₂ (λ (b u : Float). levelled_by b a.scale u) (r ∙ ap (λ (i : ℕ). with_delta columns i a.black) e)
+    (t ∙ ap to_float (i ∙ get_or_default s j y none h))

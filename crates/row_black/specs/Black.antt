@@ -1,14 +1,15 @@
 -- Black level before list 2 (document 02, M-109): what a sample becomes, when a call is refused, what each answer
 -- leaves. Pattern and deltas go by image positions. Every operation is rounded once, in the order written.
-use Rattle.std.specs.Prelude.{ℕ, ◌+◌, ◌*◌, ◌/◌, ◌%◌, Bool, true, false, ◌&&◌, cond, List, [], ◌∷◌, ◌≡◌, leb, ltb, Float, length, get_or}
+use Rattle.std.specs.Prelude.{ℕ, ◌+◌, ◌*◌, ◌/◌, ◌%◌, Bool, ◌&&◌, cond, List, [], ◌∷◌, ◌≡◌, leb, ltb, Float, length, get_or, Result, Ok, Err, is_ok}
 use Rattle.std.specs.Float.{nan, binary32}
 use Rattle.std.specs.Float.Ieee.{add, sub, mul, lt}
 use Rattle.pointwise.specs.Points.{each}
 use Rattle.dng.specs.Value.{nought}
 use Rattle.row_black.specs.declared.Field.{Field}
 use Rattle.row_black.specs.declared.Pattern.{Pattern}
-use Rattle.row_black.specs.declared.Black.{Black}
-use Rattle.row_black.specs.declared.Black.TheVariants.{Done, Range, Tables, Samples}
+use Rattle.row_black.specs.declared.Lent.{Lent}
+use Rattle.row_black.specs.declared.Refused.{Refused}
+use Rattle.row_black.specs.declared.Refused.TheVariants.{Range, Tables, Samples}
 
 -- ---- a sample
 
@@ -22,6 +23,9 @@ pub record Levels : Type 0 where
 
 abbrev pub levels : Pattern → (blacks scales rows columns : List Float) → Levels
 levels p b s r c = record { pattern = p; blacks = b; scales = s; rows = r; columns = c }
+
+abbrev pub levels_in : Lent → Levels
+levels_in l = levels l.pattern l.blacks.now l.scales.now l.rows.now l.columns.now
 
 -- the entry of a table for plane k, in the pattern's column c and the line of image row y: plane after plane, each row
 -- after row
@@ -91,35 +95,33 @@ tabled p planes b s = leb 1 p.height && (leb 1 p.width && (holds p planes b && h
 unfoldable pub sampled : Field → (input output : ℕ) → Bool
 sampled f input output = leb (total f) input && leb (total f) output
 
-unfoldable pub answer_of : Field → Pattern → (b s input output : ℕ) → Black
+abbrev pub Answer : Type 0
+Answer = Result (Unit {0}) Refused
+
+unfoldable pub answer_of : Field → Pattern → (b s input output : ℕ) → Answer
 answer_of f p b s input output =
-    cond (field_in_range f) (cond (tabled p f.planes b s) (cond (sampled f input output) Done Samples) Tables) Range
+    cond (field_in_range f)
+    (cond (tabled p f.planes b s) (cond (sampled f input output) (Ok tt) (Err Samples)) (Err Tables)) (Err Range)
 
 -- document 02's number for each answer
-abbrev pub number_of : Black → ℕ
-number_of Done = 0
-number_of Range = 1
-number_of Tables = 60
-number_of Samples = 61
-
-abbrev pub is_done : Black → Bool
-is_done Done = true
-is_done Range = false
-is_done Tables = false
-is_done Samples = false
+abbrev pub number_of : Answer → ℕ
+number_of (Ok u) = 0
+number_of (Err Range) = 1
+number_of (Err Tables) = 60
+number_of (Err Samples) = 61
 
 -- ---- a call, over any sample kind
 
 pub record BlackOut : Type 0 where
-  pub answer : Black
+  pub answer : Answer
   pub output : List Float
 
 unfoldable pub black_out : {A : Type 0} → (none : A) → (A → Float) → Field → Levels → List A → List Float → BlackOut
 black_out none to_float f l s out =
     let a = answer_of f l.pattern (length l.blacks) (length l.scales) (length s) (length out) in
-    record { answer = a; output = cond (is_done a) (each (levelled_at none to_float f l s) out) out }
+    record { answer = a; output = cond (is_ok a) (each (levelled_at none to_float f l s) out) out }
 
 -- what a call promises of its answer r and of the output that it leaves
-pub record Levelled (o : BlackOut) (r : Black) (out : List Float) : Type 0 where
+pub record Levelled (o : BlackOut) (r : Answer) (out : List Float) : Type 0 where
   pub answered : r ≡ o.answer
   pub left : out ≡ o.output

@@ -1,33 +1,32 @@
 -- What a caller may conclude from the contract of a call (`Levelled`), over any sample kind and any number of planes.
 -- Document 02, M-109; document 01, 'How a promise is judged'. proofs/Theorems proves each under its name in lower case:
 --     1 Determined   2 ExactlyWhen   3 Keeps   4 Pointwise   5 Tiles
-use Rattle.std.specs.Prelude.{ℕ, ◌+◌, ◌*◌, ◌≤◌, ◌<◌, true, false, List, ◌↔◌, ◌≡◌, Float, length, get_or}
+use Rattle.std.specs.Prelude.{ℕ, ◌+◌, ◌*◌, ◌≤◌, ◌<◌, true, false, List, ◌↔◌, ◌≡◌, Float, length, get_or, Ok, Err, is_ok}
 use Rattle.std.specs.Float.{nan}
 use Rattle.row_black.specs.declared.Field.{Field}
 use Rattle.row_black.specs.declared.Pattern.{Pattern}
-use Rattle.row_black.specs.declared.Black.{Black}
-use Rattle.row_black.specs.declared.Black.TheVariants.{Done, Range, Tables, Samples}
-use Rattle.row_black.specs.Black.{Levels, levelled, total, field_in_range, tabled, sampled, answer_of, is_done, BlackOut, black_out, Levelled}
+use Rattle.row_black.specs.declared.Refused.TheVariants.{Range, Tables, Samples}
+use Rattle.row_black.specs.Black.{Levels, levelled, total, field_in_range, tabled, sampled, Answer, answer_of, BlackOut, black_out, Levelled}
 
 -- ---- 1. two results that meet the contract are equal
 
 abbrev pub Determined : Type 0
 Determined =
-    (o : BlackOut) (r r' : Black) (out out' : List Float) → Levelled o r out → Levelled o r' out'
+    (o : BlackOut) (r r' : Answer) (out out' : List Float) → Levelled o r out → Levelled o r' out'
     → (r ≡ r') × (out ≡ out')
 
 -- ---- 2. each answer exactly when: 1, 60, 61, in that order
 
 module _ (f : Field) (p : Pattern) (b s input output : ℕ) where
-  abbrev pub When : Black → Type 0
-  When Range = field_in_range f ≡ false
-  When Tables = (field_in_range f ≡ true) × (tabled p f.planes b s ≡ false)
-  When Samples = (field_in_range f ≡ true) × (tabled p f.planes b s ≡ true) × (sampled f input output ≡ false)
-  When Done = (field_in_range f ≡ true) × (tabled p f.planes b s ≡ true) × (sampled f input output ≡ true)
+  abbrev pub When : Answer → Type 0
+  When (Err Range) = field_in_range f ≡ false
+  When (Err Tables) = (field_in_range f ≡ true) × (tabled p f.planes b s ≡ false)
+  When (Err Samples) = (field_in_range f ≡ true) × (tabled p f.planes b s ≡ true) × (sampled f input output ≡ false)
+  When (Ok u) = (field_in_range f ≡ true) × (tabled p f.planes b s ≡ true) × (sampled f input output ≡ true)
 
 abbrev pub ExactlyWhen : Type 0
 ExactlyWhen =
-    (f : Field) (p : Pattern) (b s input output : ℕ) (a : Black)
+    (f : Field) (p : Pattern) (b s input output : ℕ) (a : Answer)
     → (answer_of f p b s input output ≡ a) ↔ When f p b s input output a
 
 -- ---- the output of a call, and where the sample of row y, column x and plane k of a frame stands
@@ -36,7 +35,7 @@ module _ {A : Type 0} (none : A) (to_float : A → Float) where
   abbrev pub output_of : Field → Levels → List A → List Float → List Float
   output_of f l s out = (black_out none to_float f l s out).output
 
-  abbrev pub answer_to : Field → Levels → List A → List Float → Black
+  abbrev pub answer_to : Field → Levels → List A → List Float → Answer
   answer_to f l s out = (black_out none to_float f l s out).answer
 
 abbrev pub place_of : Field → (y x k : ℕ) → ℕ
@@ -46,7 +45,7 @@ module _ {A : Type 0} (none : A) (to_float : A → Float) (f : Field) (l : Level
   -- ---- 3. what a call leaves alone
   pub record Kept : Type 0 where
     -- on a refusal, everything
-    pub refused : is_done (answer_to none to_float f l s out) ≡ false → output_of none to_float f l s out ≡ out
+    pub refused : is_ok (answer_to none to_float f l s out) ≡ false → output_of none to_float f l s out ≡ out
     -- on every answer, what stands behind the frame
     pub behind : (j : ℕ) → total f ≤ j → get_or (output_of none to_float f l s out) j nan ≡ get_or out j nan
     pub long : length (output_of none to_float f l s out) ≡ length out
@@ -57,7 +56,7 @@ module _ {A : Type 0} (none : A) (to_float : A → Float) (f : Field) (l : Level
     pub itself : (s' : List A) (j : ℕ) → total f ≤ length s → total f ≤ length s' → get_or s j none ≡ get_or s' j none
         → get_or (output_of none to_float f l s out) j nan ≡ get_or (output_of none to_float f l s' out) j nan
     -- and what stands there is the rule of the image row, the image column and the plane
-    pub position : (y x k : ℕ) → answer_to none to_float f l s out ≡ Done → y < f.height → x < f.width → k < f.planes
+    pub position : (y x k : ℕ) → answer_to none to_float f l s out ≡ Ok tt → y < f.height → x < f.width → k < f.planes
         → get_or (output_of none to_float f l s out) (place_of f y x k) nan
         ≡ levelled l (f.y0 + y) (f.x0 + x) k (to_float (get_or s (place_of f y x k) none))
 
@@ -83,8 +82,8 @@ module _ {A : Type 0} (none : A) (to_float : A → Float) (f : Field) (l : Level
   pub record TiledIf : Type 0 where
     pub columns : x + w ≤ f.width
     pub rows : y + h ≤ f.height
-    pub frame : answer_to none to_float f l s out ≡ Done
-    pub part : answer_to none to_float (tile_of f x y w h) l t tile ≡ Done
+    pub frame : answer_to none to_float f l s out ≡ Ok tt
+    pub part : answer_to none to_float (tile_of f x y w h) l t tile ≡ Ok tt
     pub input : (r c k : ℕ) → r < h → c < w → k < f.planes
         → get_or t (place_of (tile_of f x y w h) r c k) none ≡ get_or s (place_of f (y + r) (x + c) k) none
 

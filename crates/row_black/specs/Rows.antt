@@ -1,6 +1,6 @@
 -- A row by the samples that share an entry of the pattern: what the functions inside promise of a row, and what they
 -- may rely on.
-use Rattle.std.specs.Prelude.{ℕ, ◌+◌, ◌*◌, ◌/◌, ◌%◌, ◌≤◌, ◌<◌, Bool, cond, List, eqb, Float, get_or}
+use Rattle.std.specs.Prelude.{ℕ, ◌+◌, ◌*◌, ◌/◌, ◌%◌, ◌≤◌, ◌<◌, ◌≡◌, Bool, cond, List, eqb, Float, get_or}
 use Rattle.std.specs.Float.{nan, binary32}
 use Rattle.std.specs.Float.Ieee.{add}
 use Rattle.row_black.specs.declared.Level.{Level}
@@ -42,6 +42,12 @@ module _ {A : Type 0} (none : A) (to_float : A → Float) (s : List A) where
   pair_rule plus even odd j =
       levelled_by (plus j (pair_of even odd j).black) (pair_of even odd j).scale (to_float (get_or s j none))
 
+  -- v at a place, whose black is one that `black` gives for its level's
+  pub record PairAt (black : ℕ → Float → Float → Type 0) (even odd : Level) (j : ℕ) (v : Float) : Type 0 where
+    pub used : Float
+    pub given : black j (pair_of even odd j).black used
+    pub value : v ≡ levelled_by used (pair_of even odd j).scale (to_float (get_or s j none))
+
   -- one level for places `step` apart, whose columns are `pitch` apart from x on
   unfoldable pub step_rule : Level → List Float → (x pitch step : ℕ) → ℕ → Float
   step_rule a columns x pitch step j =
@@ -51,25 +57,22 @@ module _ {A : Type 0} (none : A) (to_float : A → Float) (s : List A) where
   unfoldable pub row_rule : Levels → (planes x0 y : ℕ) → ℕ → Float
   row_rule l planes x0 y j = levelled l y (x0 + j / planes) (j % planes) (to_float (get_or s j none))
 
--- plane k and the pattern's column c lie in tables of b and s entries
-pub record InTables (p : Pattern) (k c b s : ℕ) : Type 0 where
-  pub planes : ℕ
-  pub plane : k < planes
-  pub column : c < p.width
-  pub tall : 1 ≤ p.height
-  pub black : planes * p.height * p.width ≤ b
-  pub scale : planes * p.height * p.width ≤ s
-
--- what a row of n samples may rely on: the ranges and the tables have been tested
-pub record RowLent (p : Pattern) (planes x0 n b s : ℕ) : Type 0 where
+-- a row stands at its place, and the tables have every plane of it: the ranges and the tables have been tested
+pub record Placed (p : Pattern) (planes x y l c b s : ℕ) : Type 0 where
   pub some : 1 ≤ planes
   pub few : planes ≤ 8
-  pub column : x0 ≤ 16777216
-  pub short : n ≤ 524288
+  pub column : x ≤ 16777216
   pub tall : 1 ≤ p.height
   pub wide : 1 ≤ p.width
   pub black : planes * p.height * p.width ≤ b
   pub scale : planes * p.height * p.width ≤ s
+  pub line : l ≡ y % p.height
+  pub first : c ≡ x % p.width
+
+-- what a row of n samples is lent: input of m
+pub record RowLent (n m : ℕ) : Type 0 where
+  pub short : n ≤ 524288
+  pub read : n ≤ m
 
 -- what a walk over every step-th place of a row of n samples may rely on
 pub record Stepped (from step pitch x n : ℕ) : Type 0 where

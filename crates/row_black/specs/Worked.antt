@@ -1,5 +1,5 @@
 -- Worked values of the definitions, each by computing.
-use Rattle.std.specs.Prelude.{ℕ, true, false, List, [], ◌∷◌, ◌≡◌, refl, Float}
+use Rattle.std.specs.Prelude.{ℕ, true, false, List, [], ◌∷◌, ◌≡◌, refl, Float, Ok, Err}
 use Rattle.std.specs.Float.{nan, inf, binary32}
 use Rattle.std.specs.Float.Ieee.{of_bits, of_int, round, add, sub, mul, lt}
 use Rattle.pointwise.specs.Points.{each}
@@ -7,7 +7,7 @@ use Rattle.num_convert.specs.Convert.{whole_in}
 use Rattle.dng.specs.Value.{nought}
 use Rattle.row_black.specs.declared.Field.{Field}
 use Rattle.row_black.specs.declared.Pattern.{Pattern}
-use Rattle.row_black.specs.declared.Black.TheVariants.{Done, Range, Tables, Samples}
+use Rattle.row_black.specs.declared.Refused.TheVariants.{Range, Tables, Samples}
 use Rattle.row_black.specs.Black.{Levels, levels, with_delta, black_at, levelled_by, levelled, levelled_at, field_in_range, samples_in, tabled, sampled, answer_of, number_of, BlackOut, black_out}
 
 abbrev w : ℕ → Float
@@ -139,21 +139,21 @@ abbrev called : (input : List Float) → BlackOut
 called input =
     black_out nan (λ x. x) (field 1 1 1 0 0) (levels (size 1 1) (nought ∷ []) (nought ∷ []) [] []) input (inf true ∷ [])
 
-pub done : called (nan ∷ []) ≡ record { answer = Done; output = nought ∷ [] }
+pub done : called (nan ∷ []) ≡ record { answer = Ok tt; output = nought ∷ [] }
 unfolding black_out answer_of field_in_range tabled sampled each levelled_at levelled levelled_by black_at with_delta sub mul lt
 done = refl
 
-pub refused : called [] ≡ record { answer = Samples; output = inf true ∷ [] }
+pub refused : called [] ≡ record { answer = Err Samples; output = inf true ∷ [] }
 unfolding black_out answer_of field_in_range tabled sampled
 refused = refl
 
 -- ---- answers
 
 pub record Numbers : Type 0 where
-  pub done : number_of Done ≡ 0
-  pub range : number_of Range ≡ 1
-  pub tables : number_of Tables ≡ 60
-  pub samples : number_of Samples ≡ 61
+  pub done : number_of (Ok tt) ≡ 0
+  pub range : number_of (Err Range) ≡ 1
+  pub tables : number_of (Err Tables) ≡ 60
+  pub samples : number_of (Err Samples) ≡ 61
   -- 2·3·2 samples, and none where a number is out of range
   pub twelve : samples_in (field 2 3 2 5 7) ≡ 12
   pub none : samples_in (field 2 3 9 5 7) ≡ 0
@@ -172,20 +172,20 @@ pub record Answers : Type 0 where
   pub x0-over : field_in_range (field 0 0 1 16777217 0) ≡ false
   pub y0-over : field_in_range (field 0 0 1 0 16777217) ≡ false
   -- 1 before 60 before 61
-  pub one-first : answer_of (field 1 1 9 0 0) (size 0 0) 0 0 0 0 ≡ Range
-  pub sixty-next : answer_of (field 1 1 1 0 0) (size 0 1) 1 1 0 0 ≡ Tables
-  pub sixty-one-last : answer_of (field 1 1 1 0 0) (size 1 1) 1 1 0 0 ≡ Samples
+  pub one-first : answer_of (field 1 1 9 0 0) (size 0 0) 0 0 0 0 ≡ Err Range
+  pub sixty-next : answer_of (field 1 1 1 0 0) (size 0 1) 1 1 0 0 ≡ Err Tables
+  pub sixty-one-last : answer_of (field 1 1 1 0 0) (size 1 1) 1 1 0 0 ≡ Err Samples
   -- 60: a width of 0, a table one entry short; also for a frame of no pixels
-  pub no-columns : answer_of (field 0 0 1 0 0) (size 1 0) 9 9 0 0 ≡ Tables
-  pub black-short : answer_of (field 0 0 2 0 0) (size 2 3) 11 12 0 0 ≡ Tables
-  pub scale-short : answer_of (field 0 0 2 0 0) (size 2 3) 12 11 0 0 ≡ Tables
-  pub tables-exact : answer_of (field 0 0 2 0 0) (size 2 3) 12 12 0 0 ≡ Done
+  pub no-columns : answer_of (field 0 0 1 0 0) (size 1 0) 9 9 0 0 ≡ Err Tables
+  pub black-short : answer_of (field 0 0 2 0 0) (size 2 3) 11 12 0 0 ≡ Err Tables
+  pub scale-short : answer_of (field 0 0 2 0 0) (size 2 3) 12 11 0 0 ≡ Err Tables
+  pub tables-exact : answer_of (field 0 0 2 0 0) (size 2 3) 12 12 0 0 ≡ Ok tt
   -- 2^31 lines and columns and 4 planes, no tables: the product is 2^64
-  pub no_wrap : answer_of (field 0 0 4 0 0) (size 2147483648 2147483648) 0 0 0 0 ≡ Tables
+  pub no_wrap : answer_of (field 0 0 4 0 0) (size 2147483648 2147483648) 0 0 0 0 ≡ Err Tables
   -- 61: input or output one short; both may be longer
-  pub input-short : answer_of (field 2 3 2 0 0) (size 1 1) 2 2 11 12 ≡ Samples
-  pub output-short : answer_of (field 2 3 2 0 0) (size 1 1) 2 2 12 11 ≡ Samples
-  pub longer : answer_of (field 2 3 2 0 0) (size 1 1) 9 9 13 14 ≡ Done
+  pub input-short : answer_of (field 2 3 2 0 0) (size 1 1) 2 2 11 12 ≡ Err Samples
+  pub output-short : answer_of (field 2 3 2 0 0) (size 1 1) 2 2 12 11 ≡ Err Samples
+  pub longer : answer_of (field 2 3 2 0 0) (size 1 1) 9 9 13 14 ≡ Ok tt
 
 pub answers : Answers
 unfolding answer_of field_in_range tabled sampled

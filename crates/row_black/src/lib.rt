@@ -4,12 +4,11 @@
 // many samples apart as a row of the pattern has with all its planes.
 #![tactic(auto)]
 
-ghost use Rattle.std.specs.Prelude.{◌≡◌, true, ◌&&◌, ℕ, ◌+◌, ◌*◌, ◌/◌, ◌%◌, ◌≤◌, ◌<◌, min, eqb, leb, Float, length};
-ghost use Rattle.std.specs.Float.{nan, binary32};
+ghost use Rattle.std.specs.Prelude.{◌≡◌, true, ◌&&◌, ℕ, ◌+◌, ◌*◌, ◌/◌, ◌%◌, ◌≤◌, ◌<◌, eqb, leb, Float, length, get_or};
+ghost use Rattle.std.specs.Float.{nan};
 ghost use Rattle.pointwise.specs.Points.{each};
-ghost use Rattle.num_convert.specs.Convert.{whole_in};
 ghost use Rattle.row_black.specs.Black.{
-  levels,
+  levels_in,
   with_delta,
   levelled_by,
   levelled_at,
@@ -21,7 +20,6 @@ ghost use Rattle.row_black.specs.Black.{
   sampled,
   answer_of,
   number_of,
-  is_done,
   black_out,
   Levelled,
 };
@@ -29,18 +27,18 @@ ghost use Rattle.row_black.specs.Rows.{
   level_in,
   settled_at,
   spot_at,
-  no_delta,
   own_delta,
   only,
-  pair_rule,
+  PairAt,
   step_rule,
   row_rule,
-  InTables,
+  Placed,
   RowLent,
   Stepped,
 };
 
 use dng::Window;
+use sample::Sample;
 
 // The frame: `width` by `height` pixels of `planes` samples, rows without gaps, its corner at (x0, y0) of the image.
 #[repr(C)]
@@ -61,13 +59,35 @@ pub struct Pattern {
     pub width: usize,
 }
 
-// What a call answers. The paper's number of each case: `number_of` in specs/Black.
+// What is lent besides the samples: the pattern's size, its tables of black and of scale, and the deltas of the image's
+// rows and columns.
 #[derive(Clone, Copy)]
-pub enum Black {
-    Done,
+pub struct Lent<'a> {
+    pub pattern: Pattern,
+    pub blacks: &'a [f32],
+    pub scales: &'a [f32],
+    pub rows: &'a [f32],
+    pub columns: &'a [f32],
+}
+
+// Why a call is refused. The paper's number of each case: `number_of` in specs/Black.
+#[derive(Clone, Copy)]
+pub enum Refused {
     Range,
     Tables,
     Samples,
+}
+
+// The image row y from image column x on, with the pattern's line and column there.
+#[derive(Clone, Copy)]
+struct Row<'a> {
+    lent: Lent<'a>,
+    planes: usize,
+    x: usize,
+    y: usize,
+    line: usize,
+    first: usize,
+    ghost placed: { Placed lent.pattern planes x y line first (length lent.blacks.now) (length lent.scales.now) },
 }
 
 // Where a sample of a row stands: its plane, its image column, and the pattern's column.
@@ -83,12 +103,6 @@ pub struct Spot {
 pub struct Level {
     pub black: f32,
     pub scale: f32,
-}
-
-fn smaller(a: usize, b: usize) -> usize
-    ensures { result ≡ min a b }
-{
-    if a < b { a } else { b }
 }
 
 // ---- a sample
@@ -114,24 +128,20 @@ fn with_delta(deltas: &[f32], i: usize, b: f32) -> f32
     }
 }
 
-// The level of plane k in the pattern's line and column c, before the column's delta. The line is that of image row y.
-fn level_at(
-    p: Pattern,
-    k: usize,
-    y: usize,
-    line: usize,
-    c: usize,
-    blacks: &[f32],
-    scales: &[f32],
-    rows: &[f32],
-) -> Level
-    requires { InTables p k c (length blacks.now) (length scales.now) × (line ≡ y % p.height) }
-    ensures { result ≡ level_in p blacks.now scales.now rows.now y c k }
-{
-    let at = (k * p.height + line) * p.width + c;
-    Level {
-        black: with_delta(rows, y, blacks[at]),
-        scale: scales[at],
+impl Row<'_> {
+    // The level of plane k in the pattern's column c, before the column's delta.
+    fn level_at(&self, k: usize, c: usize) -> Level
+        requires { (k < self.now.planes) × (c < self.now.lent.pattern.width) }
+        ensures { result
+            ≡ level_in self.now.lent.pattern self.now.lent.blacks.now self.now.lent.scales.now
+            self.now.lent.rows.now self.now.y c k }
+    {
+        let p = self.lent.pattern;
+        let at = (k * p.height + self.line) * p.width + c;
+        Level {
+            black: with_delta(self.lent.rows, self.y, self.lent.blacks[at]),
+            scale: self.lent.scales[at],
+        }
     }
 }
 
@@ -181,60 +191,42 @@ fn is_paired(p: Pattern, planes: usize) -> bool
     (planes == 1) & (p.width <= 2)
 }
 
-// ---- a row of f32 samples
+// ---- a row of samples
 
-// A loop with no branch and two levels that stay: vector code.
-fn pairs_f32(input: &[f32], out: &mut [f32], even: Level, odd: Level)
-    requires { length out.old ≤ length input.now }
-    ensures { out.new
-        ≡ each
-        (λ j v. pair_rule nan (λ x. x) input.now no_delta even odd j)
-        out.old }
+// By two levels, that of even places and that of odd ones; `black` is the black of a place. A loop with no branch: vector
+// code, which zipped `chunks_exact` are not.
+fn pairs<S: Sample, F: Fn(usize, f32) -> f32>(
+    input: &[S],
+    out: &mut [f32],
+    even: Level,
+    odd: Level,
+    black: F,
+)
+    requires long { length out.old ≤ length input.now }
+    requires callable { (j : ℕ) → j < length out.old → F.pre black j even.black × F.pre black j odd.black }
+    ensures { (j : ℕ)
+        → j < length out.old
+        → PairAt S.none S.to_float input.now (F.post black) even odd j (get_or out.new j nan) }
 {
     let n = out.len();
-    let end = n - n % 2;
-    let mut j = 0;
-    while j < end {
-        let v = take_black(input[j], even.black, even.scale);
-        let w = take_black(input[j + 1], odd.black, odd.scale);
+    for k in 0..n / 2 {
+        let j = 2 * k;
+        let v = take_black(input[j].to_f32(), black(j, even.black), even.scale);
+        let w = take_black(input[j + 1].to_f32(), black(j + 1, odd.black), odd.scale);
         out[j] = v;
         out[j + 1] = w;
-        j += 2;
     }
-    if end == n {
+    if n % 2 == 0 {
         return;
     }
-    out[end] = take_black(input[end], even.black, even.scale);
-}
-
-// The same with a delta for each sample.
-fn delta_pairs_f32(input: &[f32], out: &mut [f32], deltas: &[f32], even: Level, odd: Level)
-    requires { (length out.old ≤ length input.now) × (length out.old ≤ length deltas.now) }
-    ensures { out.new
-        ≡ each
-        (λ j v. pair_rule nan (λ x. x) input.now (own_delta deltas.now) even odd j)
-        out.old }
-{
-    let n = out.len();
-    let end = n - n % 2;
-    let mut j = 0;
-    while j < end {
-        let v = take_black(input[j], even.black + deltas[j], even.scale);
-        let w = take_black(input[j + 1], odd.black + deltas[j + 1], odd.scale);
-        out[j] = v;
-        out[j + 1] = w;
-        j += 2;
-    }
-    if end == n {
-        return;
-    }
-    out[end] = take_black(input[end], even.black + deltas[end], even.scale);
+    let end = n - 1;
+    out[end] = take_black(input[end].to_f32(), black(end, even.black), even.scale);
 }
 
 // The samples from `from` on that lie `step` apart, one level for all; their columns lie `pitch` apart, from image
-// column x on.
-fn strides_f32(
-    input: &[f32],
+// column x on. With `step_by` a sample costs three instructions more, and the column is counted all the same.
+fn strides<S: Sample>(
+    input: &[S],
     out: &mut [f32],
     from: usize,
     step: usize,
@@ -247,377 +239,110 @@ fn strides_f32(
     ensures { out.new
         ≡ each
         (only (λ j. eqb (j % step) from)
-        (step_rule nan (λ x. x) input.now a columns.now x pitch step))
+        (step_rule S.none S.to_float input.now a columns.now x pitch step))
         out.old }
 {
     let n = out.len();
     let mut j = from;
     let mut c = x;
+    // not `step_by`, which takes three instructions more a sample
     while j < n {
-        out[j] = take_black(input[j], with_delta(columns, c, a.black), a.scale);
+        out[j] = take_black(input[j].to_f32(), with_delta(columns, c, a.black), a.scale);
         j += step;
         c += pitch;
     }
 }
 
-// One after another, from each place of the first period of the row, or from each sample of a row that is shorter.
-fn all_strides_f32(
-    input: &[f32],
-    out: &mut [f32],
-    p: Pattern,
-    planes: usize,
-    x0: usize,
-    y: usize,
-    first: usize,
-    line: usize,
-    blacks: &[f32],
-    scales: &[f32],
-    rows: &[f32],
-    columns: &[f32],
-)
-    requires { RowLent p planes x0 (length out.old) (length blacks.now) (length scales.now)
-        × (length out.old ≤ length input.now) × (first ≡ x0 % p.width) × (line ≡ y % p.height) }
+// One after another, from each place of the first period of the row, or from each sample of a row that is shorter. The
+// row comes by value: behind a reference its lists are tested again for each walk.
+fn all_strides<S: Sample>(input: &[S], out: &mut [f32], row: Row)
+    requires { RowLent (length out.old) (length input.now) }
     ensures { out.new
         ≡ each
-        (λ j v. row_rule nan (λ x. x) input.now
-        (levels p blacks.now scales.now rows.now columns.now) planes x0 y j)
+        (λ j v. row_rule S.none S.to_float input.now
+        (levels_in row.entry.lent) row.entry.planes row.entry.x row.entry.y j)
         out.old }
 {
     let n = out.len();
-    let step = smaller(p.width * planes, n);
-    let pitch = smaller(p.width, n);
+    let width = row.lent.pattern.width;
+    let step = (width * row.planes).min(n);
+    let pitch = width.min(n);
     let mut s = Spot {
         plane: 0,
-        column: x0,
-        entry: first,
+        column: row.x,
+        entry: row.first,
     };
-    let mut i = 0;
-    while i < step {
-        let a = level_at(p, s.plane, y, line, s.entry, blacks, scales, rows);
-        strides_f32(input, out, i, step, a, columns, s.column, pitch);
-        s = next(s, planes, p.width);
-        i += 1;
+    for i in 0..step {
+        let a = row.level_at(s.plane, s.entry);
+        strides(input, out, i, step, a, row.lent.columns, s.column, pitch);
+        s = next(s, row.planes, width);
     }
 }
 
-// One row, the image row y from image column x0 on; `line` and `first` are the pattern's line and column there. Pairs
-// serve where every column has a delta of its own, or none.
-fn row_f32(
-    input: &[f32],
-    out: &mut [f32],
-    p: Pattern,
-    planes: usize,
-    x0: usize,
-    y: usize,
-    first: usize,
-    line: usize,
-    blacks: &[f32],
-    scales: &[f32],
-    rows: &[f32],
-    columns: &[f32],
-)
-    requires { RowLent p planes x0 (length out.old) (length blacks.now) (length scales.now)
-        × (length out.old ≤ length input.now) × (first ≡ x0 % p.width) × (line ≡ y % p.height) }
+// One row. Pairs serve where every column has a delta of its own, or none.
+fn one_row<S: Sample>(input: &[S], out: &mut [f32], row: Row)
+    requires { RowLent (length out.old) (length input.now) }
     ensures { out.new
         ≡ each
-        (λ j v. row_rule nan (λ x. x) input.now
-        (levels p blacks.now scales.now rows.now columns.now) planes x0 y j)
+        (λ j v. row_rule S.none S.to_float input.now
+        (levels_in row.entry.lent) row.entry.planes row.entry.x row.entry.y j)
         out.old }
 {
-    if is_paired(p, planes) {
-        let even = level_at(p, 0, y, line, first, blacks, scales, rows);
-        let odd = level_at(p, 0, y, line, after(first, p.width), blacks, scales, rows);
-        if columns.len() <= x0 {
-            pairs_f32(
-                input,
-                out,
-                settled(even, columns, x0),
-                settled(odd, columns, x0 + 1),
+    let p = row.lent.pattern;
+    let columns = row.lent.columns;
+    if is_paired(p, row.planes) {
+        let even = row.level_at(0, row.first);
+        let odd = row.level_at(0, after(row.first, p.width));
+        if columns.len() <= row.x {
+            let (even, odd) = (
+                settled(even, columns, row.x),
+                settled(odd, columns, row.x + 1),
             );
+            pairs(input, out, even, odd, |_, b| b);
             return;
         }
-        let end = x0 + out.len();
+        let end = row.x + out.len();
         if end <= columns.len() {
-            delta_pairs_f32(input, out, &columns[x0..end], even, odd);
+            let deltas = &columns[row.x..end];
+            let black = |j: usize, b: f32| -> f32
+                requires { j < length deltas.now }
+                ensures { result ≡ own_delta deltas.entry.now j b }
+            { b + deltas[j] };
+            pairs(input, out, even, odd, black);
             return;
         }
     }
-    all_strides_f32(
-        input, out, p, planes, x0, y, first, line, blacks, scales, rows, columns,
-    );
+    all_strides(input, out, row);
 }
 
 // Row by row, each lent from its own start. The pattern's line is counted, not divided for.
-fn rows_f32(
-    input: &[f32],
-    out: &mut [f32],
-    f: Field,
-    p: Pattern,
-    blacks: &[f32],
-    scales: &[f32],
-    rows: &[f32],
-    columns: &[f32],
-)
-    requires { answer_of f p (length blacks.now) (length scales.now) (length input.now) (length out.old) ≡ Black.Done }
+fn all_rows<S: Sample>(input: &[S], out: &mut [f32], f: Field, lent: Lent)
+    requires { answer_of f lent.pattern (length lent.blacks.now) (length lent.scales.now) (length input.now)
+        (length out.old)
+        ≡ Ok tt }
     ensures { out.new
         ≡ each
-        (levelled_at nan (λ x. x) f
-        (levels p blacks.now scales.now rows.now columns.now)
+        (levelled_at S.none S.to_float f
+        (levels_in lent.entry)
         input.now)
         out.old }
 {
     let n = f.width * f.planes;
-    let first = f.x0 % p.width;
-    let mut line = f.y0 % p.height;
-    let mut y = 0;
-    let mut at = 0;
-    while y < f.height {
+    let first = f.x0 % lent.pattern.width;
+    let mut line = f.y0 % lent.pattern.height;
+    for y in 0..f.height {
+        let at = y * n;
         let end = at + n;
-        row_f32(
-            &input[at..end],
-            &mut out[at..end],
-            p,
-            f.planes,
-            f.x0,
-            f.y0 + y,
-            first,
+        let row = Row {
+            lent,
+            planes: f.planes,
+            x: f.x0,
+            y: f.y0 + y,
             line,
-            blacks,
-            scales,
-            rows,
-            columns,
-        );
-        at = end;
-        line = after(line, p.height);
-        y += 1;
-    }
-}
-
-// ---- a row of u16 samples
-
-// A loop with no branch and two levels that stay: vector code.
-fn pairs_u16(input: &[u16], out: &mut [f32], even: Level, odd: Level)
-    requires { length out.old ≤ length input.now }
-    ensures { out.new
-        ≡ each
-        (λ j v. pair_rule 0 (whole_in binary32) input.now no_delta even odd j)
-        out.old }
-{
-    let n = out.len();
-    let end = n - n % 2;
-    let mut j = 0;
-    while j < end {
-        let v = take_black(num_convert::f32_of_u16(input[j]), even.black, even.scale);
-        let w = take_black(num_convert::f32_of_u16(input[j + 1]), odd.black, odd.scale);
-        out[j] = v;
-        out[j + 1] = w;
-        j += 2;
-    }
-    if end == n {
-        return;
-    }
-    out[end] = take_black(num_convert::f32_of_u16(input[end]), even.black, even.scale);
-}
-
-// The same with a delta for each sample.
-fn delta_pairs_u16(input: &[u16], out: &mut [f32], deltas: &[f32], even: Level, odd: Level)
-    requires { (length out.old ≤ length input.now) × (length out.old ≤ length deltas.now) }
-    ensures { out.new
-        ≡ each
-        (λ j v. pair_rule 0 (whole_in binary32) input.now (own_delta deltas.now) even odd j)
-        out.old }
-{
-    let n = out.len();
-    let end = n - n % 2;
-    let mut j = 0;
-    while j < end {
-        let v = take_black(
-            num_convert::f32_of_u16(input[j]),
-            even.black + deltas[j],
-            even.scale,
-        );
-        let w = take_black(
-            num_convert::f32_of_u16(input[j + 1]),
-            odd.black + deltas[j + 1],
-            odd.scale,
-        );
-        out[j] = v;
-        out[j + 1] = w;
-        j += 2;
-    }
-    if end == n {
-        return;
-    }
-    out[end] = take_black(
-        num_convert::f32_of_u16(input[end]),
-        even.black + deltas[end],
-        even.scale,
-    );
-}
-
-// The samples from `from` on that lie `step` apart, one level for all; their columns lie `pitch` apart, from image
-// column x on.
-fn strides_u16(
-    input: &[u16],
-    out: &mut [f32],
-    from: usize,
-    step: usize,
-    a: Level,
-    columns: &[f32],
-    x: usize,
-    pitch: usize,
-)
-    requires { Stepped from step pitch x (length out.old) × (length out.old ≤ length input.now) }
-    ensures { out.new
-        ≡ each
-        (only (λ j. eqb (j % step) from)
-        (step_rule 0 (whole_in binary32) input.now a columns.now x pitch step))
-        out.old }
-{
-    let n = out.len();
-    let mut j = from;
-    let mut c = x;
-    while j < n {
-        out[j] = take_black(
-            num_convert::f32_of_u16(input[j]),
-            with_delta(columns, c, a.black),
-            a.scale,
-        );
-        j += step;
-        c += pitch;
-    }
-}
-
-// One after another, from each place of the first period of the row, or from each sample of a row that is shorter.
-fn all_strides_u16(
-    input: &[u16],
-    out: &mut [f32],
-    p: Pattern,
-    planes: usize,
-    x0: usize,
-    y: usize,
-    first: usize,
-    line: usize,
-    blacks: &[f32],
-    scales: &[f32],
-    rows: &[f32],
-    columns: &[f32],
-)
-    requires { RowLent p planes x0 (length out.old) (length blacks.now) (length scales.now)
-        × (length out.old ≤ length input.now) × (first ≡ x0 % p.width) × (line ≡ y % p.height) }
-    ensures { out.new
-        ≡ each
-        (λ j v. row_rule 0 (whole_in binary32) input.now
-        (levels p blacks.now scales.now rows.now columns.now) planes x0 y j)
-        out.old }
-{
-    let n = out.len();
-    let step = smaller(p.width * planes, n);
-    let pitch = smaller(p.width, n);
-    let mut s = Spot {
-        plane: 0,
-        column: x0,
-        entry: first,
-    };
-    let mut i = 0;
-    while i < step {
-        let a = level_at(p, s.plane, y, line, s.entry, blacks, scales, rows);
-        strides_u16(input, out, i, step, a, columns, s.column, pitch);
-        s = next(s, planes, p.width);
-        i += 1;
-    }
-}
-
-// One row, the image row y from image column x0 on; `line` and `first` are the pattern's line and column there. Pairs
-// serve where every column has a delta of its own, or none.
-fn row_u16(
-    input: &[u16],
-    out: &mut [f32],
-    p: Pattern,
-    planes: usize,
-    x0: usize,
-    y: usize,
-    first: usize,
-    line: usize,
-    blacks: &[f32],
-    scales: &[f32],
-    rows: &[f32],
-    columns: &[f32],
-)
-    requires { RowLent p planes x0 (length out.old) (length blacks.now) (length scales.now)
-        × (length out.old ≤ length input.now) × (first ≡ x0 % p.width) × (line ≡ y % p.height) }
-    ensures { out.new
-        ≡ each
-        (λ j v. row_rule 0 (whole_in binary32) input.now
-        (levels p blacks.now scales.now rows.now columns.now) planes x0 y j)
-        out.old }
-{
-    if is_paired(p, planes) {
-        let even = level_at(p, 0, y, line, first, blacks, scales, rows);
-        let odd = level_at(p, 0, y, line, after(first, p.width), blacks, scales, rows);
-        if columns.len() <= x0 {
-            pairs_u16(
-                input,
-                out,
-                settled(even, columns, x0),
-                settled(odd, columns, x0 + 1),
-            );
-            return;
-        }
-        let end = x0 + out.len();
-        if end <= columns.len() {
-            delta_pairs_u16(input, out, &columns[x0..end], even, odd);
-            return;
-        }
-    }
-    all_strides_u16(
-        input, out, p, planes, x0, y, first, line, blacks, scales, rows, columns,
-    );
-}
-
-// Row by row, each lent from its own start. The pattern's line is counted, not divided for.
-fn rows_u16(
-    input: &[u16],
-    out: &mut [f32],
-    f: Field,
-    p: Pattern,
-    blacks: &[f32],
-    scales: &[f32],
-    rows: &[f32],
-    columns: &[f32],
-)
-    requires { answer_of f p (length blacks.now) (length scales.now) (length input.now) (length out.old) ≡ Black.Done }
-    ensures { out.new
-        ≡ each
-        (levelled_at 0 (whole_in binary32) f
-        (levels p blacks.now scales.now rows.now columns.now)
-        input.now)
-        out.old }
-{
-    let n = f.width * f.planes;
-    let first = f.x0 % p.width;
-    let mut line = f.y0 % p.height;
-    let mut y = 0;
-    let mut at = 0;
-    while y < f.height {
-        let end = at + n;
-        row_u16(
-            &input[at..end],
-            &mut out[at..end],
-            p,
-            f.planes,
-            f.x0,
-            f.y0 + y,
             first,
-            line,
-            blacks,
-            scales,
-            rows,
-            columns,
-        );
-        at = end;
-        line = after(line, p.height);
-        y += 1;
+        };
+        one_row(&input[at..end], &mut out[at..end], row);
+        line = after(line, lent.pattern.height);
     }
 }
 
@@ -688,93 +413,45 @@ pub fn answer(
     scales: usize,
     input: usize,
     output: usize,
-) -> Black
+) -> Result<(), Refused>
     ensures { result ≡ answer_of f p blacks scales input output }
 {
-    if in_range(f) {
-        if has_tables(p, f.planes, blacks, scales) {
-            if has_samples(f, input, output) {
-                Black::Done
-            } else {
-                Black::Samples
-            }
-        } else {
-            Black::Tables
-        }
-    } else {
-        Black::Range
+    if !in_range(f) {
+        return Err(Refused::Range);
     }
-}
-
-pub fn is_done(a: Black) -> bool
-    ensures { result ≡ is_done a }
-{
-    match a {
-        Black::Done => true,
-        Black::Range => false,
-        Black::Tables => false,
-        Black::Samples => false,
+    if !has_tables(p, f.planes, blacks, scales) {
+        return Err(Refused::Tables);
     }
+    if !has_samples(f, input, output) {
+        return Err(Refused::Samples);
+    }
+    Ok(())
 }
 
 // Document 02's number of an answer.
-pub fn number(a: Black) -> u32
+pub fn number(a: Result<(), Refused>) -> u32
     ensures { result ≡ number_of a }
 {
     match a {
-        Black::Done => 0,
-        Black::Range => 1,
-        Black::Tables => 60,
-        Black::Samples => 61,
+        Ok(()) => 0,
+        Err(Refused::Range) => 1,
+        Err(Refused::Tables) => 60,
+        Err(Refused::Samples) => 61,
     }
 }
 
 // ---- a frame
 
-// Takes the black from f32 samples, for every field, pattern, table and buffer.
-pub fn black_f32(
-    input: &[f32],
-    out: &mut [f32],
-    f: Field,
-    p: Pattern,
-    blacks: &[f32],
-    scales: &[f32],
-    rows: &[f32],
-    columns: &[f32],
-) -> Black
+// Takes the black from samples, for every field, pattern, table and buffer.
+pub fn black<S: Sample>(input: &[S], out: &mut [f32], f: Field, lent: Lent) -> Result<(), Refused>
     ensures { Levelled
-        (black_out nan (λ x. x) f
-        (levels p blacks.now scales.now rows.now columns.now)
+        (black_out S.none S.to_float f
+        (levels_in lent.entry)
         input.now out.old)
         result out.new }
 {
-    let a = answer(f, p, blacks.len(), scales.len(), input.len(), out.len());
-    if is_done(a) {
-        rows_f32(input, out, f, p, blacks, scales, rows, columns);
-    }
-    a
-}
-
-// The same from u16 samples, widened.
-pub fn black_u16(
-    input: &[u16],
-    out: &mut [f32],
-    f: Field,
-    p: Pattern,
-    blacks: &[f32],
-    scales: &[f32],
-    rows: &[f32],
-    columns: &[f32],
-) -> Black
-    ensures { Levelled
-        (black_out 0 (whole_in binary32) f
-        (levels p blacks.now scales.now rows.now columns.now)
-        input.now out.old)
-        result out.new }
-{
-    let a = answer(f, p, blacks.len(), scales.len(), input.len(), out.len());
-    if is_done(a) {
-        rows_u16(input, out, f, p, blacks, scales, rows, columns);
-    }
-    a
+    let (blacks, scales) = (lent.blacks.len(), lent.scales.len());
+    answer(f, lent.pattern, blacks, scales, input.len(), out.len())?;
+    all_rows(input, out, f, lent);
+    Ok(())
 }

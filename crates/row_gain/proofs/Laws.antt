@@ -1,16 +1,19 @@
 -- A position held to 0..n−1 lies between two points of the map. Assumes nothing.
 use Prim.Native.Nat.{ℕ, zero-le, ◌-◌, ◌≤◌, ◌<◌, ◌^◌}
-use mathlib.Core.Path.{◌≡◌, refl, subst, ◌∙◌}
+use mathlib.Core.Path.{◌≡◌, refl, subst}
 use mathlib.Core.Bool.{Bool, true, false}
 use native.Mathlib.Omega.{arith}
 use native.Mathlib.Nat.{le_of_eq}
 use lib.Ieee.{Float, binary64, lt, to_unsigned}
-use Rattle.num_round.specs.Whole.{floor_of, FloorIs}
+use Rattle.num_round.specs.Whole.{floor_of}
 use Rattle.num_round.proofs.Laws.{floor-le, floor-at-whole}
 use Rattle.num_convert.specs.Convert.{whole_in, held_to}
 use Rattle.dng.specs.Value.{nought, position, lower, upper}
 use Rattle.row_gain.specs.declared.Ruler.{Ruler}
-use Rattle.row_gain.specs.Strip.{RulerIs, place_on}
+use Rattle.row_gain.specs.declared.Axis.{Axis}
+use Rattle.row_gain.specs.declared.Column.{Column}
+use Rattle.row_gain.specs.Gain.{AxisIs, OnMap}
+use Rattle.row_gain.specs.Strip.{RulerIs, ColumnIs, place_on}
 
 -- either way
 by_bool : {C : Type 0} (b : Bool) → (b ≡ true → C) → (b ≡ false → C) → C
@@ -38,17 +41,24 @@ lower-le at full origin spacing n h =
 pub upper-le : (n : ℕ) (f : Float) → upper n f ≤ n - 1
 upper-le n f = omega arith
 
+pub on-map : (at full : ℕ) (origin spacing : Float) (n : ℕ) {v : Axis} → AxisIs (position at full origin spacing n) n v → n ≤ 2 ^ 32
+    → OnMap v n
+on-map at full origin spacing n a h =
+    record { lower_in = omega (arith, a.lower-is, lower-le at full origin spacing n h); upper_in = omega (arith, a.upper_is) }
+
+-- a place on a ruler that ends at n is at most n
+pub place-le : (r : Ruler) (n at : ℕ) → r.last ≡ whole_in binary64 n → n < 2 ^ 32 → lower (place_on r at) ≤ n
+unfolding place_on
+place-le r n at e h =
+    by_bool (lt nought r.spacing) (λ q. rw (q, e) (held-le _ n h)) (λ q. rw q (none n))
+
 -- what is measured by the ruler of an axis is the position on it
 pub place_is : (full : ℕ) (origin spacing : Float) (n : ℕ) (r : Ruler) → RulerIs full origin spacing n r → (at : ℕ)
     → place_on r at ≡ position at full origin spacing n
 unfolding place_on position
 place_is full origin spacing n r is at = rw (is.full_is, is.origin-is, is.spacing-is, is.last-is)
 
--- and so are its whole part and the rest
-pub floor-on : (full : ℕ) (origin spacing : Float) (n : ℕ) (r : Ruler) → RulerIs full origin spacing n r → (at : ℕ) (f : Float)
-    → f ≡ place_on r at → (i : ℕ) (t : Float) → FloorIs f i t → FloorIs (position at full origin spacing n) i t
-floor-on full origin spacing n r is at f e i t fl = subst (λ (g : Float). FloorIs g i t) (e ∙ place_is full origin spacing n r is at) fl
-
-pub index-le : (at full : ℕ) (origin spacing : Float) (n i : ℕ) (t : Float) → FloorIs (position at full origin spacing n) i t → n ≤ 2 ^ 32
-    → i ≤ n - 1
-index-le at full origin spacing n i t f h = omega (arith, f.index_is, lower-le at full origin spacing n h)
+-- and so are the point and the share
+pub column-on : {full : ℕ} {origin spacing : Float} {n : ℕ} {r : Ruler} → RulerIs full origin spacing n r → (at : ℕ) {c : Column}
+    → ColumnIs (place_on r at) c → ColumnIs (position at full origin spacing n) c
+column-on {full} {origin} {spacing} {n} {r} is at {c} on = subst (λ (f : Float). ColumnIs f c) (place_is full origin spacing n r is at) on

@@ -3,10 +3,10 @@ use Prim.Native.Nat.{ℕ, ◌+◌, ◌-◌, ◌*◌, ◌/◌, ◌%◌, ◌≤◌
 use mathlib.Core.Path.{◌≡◌, sym, ap, ap₂, subst, ◌∙◌}
 use mathlib.Core.Bool.{cond}
 use mathlib.Core.List.{List}
-use native.Mathlib.Nat.{mul_assoc, mul-le-mul_right}
+use native.Mathlib.Nat.{mul_assoc, mul-le-mul_left, mul-le-mul_right}
 use native.Mathlib.Omega.{arith}
 use lib.ListN.{get_or}
-use lib.Ieee.{Float, nan, binary32, add, mul, sub}
+use lib.Ieee.{Float, nan, binary32, binary64, add, mul, sub}
 use Rattle.pointwise.specs.Select.{selects, in_row}
 use Rattle.pointwise.proofs.Each.{below_or, each-agree}
 use Rattle.pointwise.proofs.Select.{on-plane, on_below, on-above}
@@ -16,33 +16,40 @@ use Rattle.dng.specs.declared.Grid.{Grid}
 use Rattle.dng.specs.declared.Region.{Region}
 use Rattle.dng.specs.Value.{Frame, mix, position, lower, upper, share, line_at, gain_of, gained}
 use Rattle.row_gain.specs.declared.Axis.{Axis}
+use Rattle.row_gain.specs.declared.Map.{Map}
+use Rattle.row_gain.specs.declared.Column.{Column}
+use Rattle.row_gain.specs.declared.Ruler.{Ruler}
 use Rattle.row_gain.specs.declared.Strip.{Strip}
 use Rattle.row_gain.specs.declared.Pair.{Pair}
 use Rattle.row_gain.specs.Blocks.{within, Filled}
-use Rattle.row_gain.specs.Gain.{AxisIs, Sized, times_gain}
-use Rattle.row_gain.specs.Strip.{Beside, StripIs, StripAt, Reaches, PairIs, line_of, along_strip}
+use Rattle.num_convert.specs.Convert.{whole_in}
+use Rattle.row_gain.specs.Gain.{AxisIs, OnMap, Sized, MapSized, times_gain, map_gain, map_position}
+use Rattle.row_gain.specs.Strip.{RulerIs, ColumnIs, place_on, Beside, StripIs, StripAt, Reaches, PairIs, line_of, along_strip}
+use Rattle.row_gain.proofs.Laws.{place_is}
 use Rattle.row_gain.proofs.Blocks.{within_in, within-agree}
 
 -- a value raised by the pair of its own map column is what `along_strip` says
-pub raised_is : (b : List ℕ) (s : Strip) (full : ℕ) (origin spacing : Float) (n x p : ℕ) (q : Pair) (t v : Float) → PairIs b s q
-    → s.last ≡ n - 1 → q.h ≡ lower (position x full origin spacing n) → t ≡ share (position x full origin spacing n)
-    → mul binary32 v (add binary32 q.a (mul binary32 q.d t)) ≡ along_strip b s full origin spacing n x p v
+pub raised_is : (b : List ℕ) (s : Strip) (x p : ℕ) {q : Pair} {c : Column} (v : Float) → PairIs b s q → ColumnIs (place_on s.along x) c
+    → q.h ≡ c.lower → mul binary32 v (add binary32 q.a (mul binary32 q.d c.share)) ≡ along_strip b s x p v
 unfolding along_strip mix
-raised_is b s full origin spacing n x p q t v is l h e =
+raised_is b s x p {q} {c} v is on h =
     let line : q.a ≡ line_of b s q.h = is.line in
     let rise : q.d ≡ sub binary32 (line_of b s (min (q.h + 1) s.last)) (line_of b s q.h) = is.rise in
+    let low : q.h ≡ lower (place_on s.along x) = h ∙ on.lower-is in
+    let part : c.share ≡ share (place_on s.along x) = on.share-is in
     cc
 
--- and so, in a block, where the map column and the share come from the tables
-pub block-value : (b : List ℕ) (s : Strip) (a pitch full : ℕ) (origin spacing : Float) (n w : ℕ) (hs : List ℕ) (ts : List Float) (x j p : ℕ)
-    (q : Pair) (t v : Float) → PairIs b s q → s.last ≡ n - 1 → Filled a pitch full origin spacing n w hs ts → 1 ≤ pitch → j < w
-    → x ≡ a + j * pitch → q.h ≡ get_or hs j 0 → t ≡ get_or ts j nan
-    → mul binary32 v (add binary32 q.a (mul binary32 q.d t)) ≡ within a (a + w * pitch) (along_strip b s full origin spacing n) x p v
-block-value b s a pitch full origin spacing n w hs ts x j p q t v is l f some h at i e =
+-- and so, in a block, where the map column and the share come from the table
+pub block-value : (b : List ℕ) (s : Strip) (a pitch w : ℕ) {cs : List Column} (x j p : ℕ) {q : Pair} (v : Float) → PairIs b s q
+    → Filled (place_on s.along) a pitch w cs → 1 ≤ pitch → j < w → x ≡ a + j * pitch
+    → let c = get_or cs j (record { lower = 0; share = nan }) in
+    q.h ≡ c.lower
+    → mul binary32 v (add binary32 q.a (mul binary32 q.d c.share)) ≡ within a (a + w * pitch) (along_strip b s) x p v
+block-value b s a pitch w {cs} x j p v is f some h at i =
     let more : (j + 1) * pitch ≤ w * pitch = mul-le-mul_right pitch (omega arith) in
-    raised_is b s full origin spacing n (a + j * pitch) p q t v is l (i ∙ f.lowers j h) (e ∙ f.shares j h)
-    ∙ ap (λ (y : ℕ). along_strip b s full origin spacing n y p v) (sym at)
-    ∙ sym (within_in a (a + w * pitch) (along_strip b s full origin spacing n) x p v (omega arith) (omega arith))
+    raised_is b s (a + j * pitch) p v is (f.columns j h) i
+    ∙ ap (λ (y : ℕ). along_strip b s y p v) (sym at)
+    ∙ sym (within_in a (a + w * pitch) (along_strip b s) x p v (omega arith) (omega arith))
 
 -- ---- a strip is two rows of the map
 
@@ -52,7 +59,7 @@ place v ph h mp m near step e f =
     rw (e, f) (omega arith)
 
 -- the gain of a map column on the strip is the one of the definitions
-pub line-is : (b : List ℕ) (v : Axis) (pv ph mp m : ℕ) (fv : Float) (s : Strip) (h : ℕ) → AxisIs fv pv v → StripIs v ph mp m s
+pub line-is : (b : List ℕ) (v : Axis) (pv ph mp m : ℕ) (fv : Float) {along : Ruler} (s : Strip) (h : ℕ) → AxisIs fv pv v → StripIs v ph mp m along s
     → line_of b s h ≡ line_at b pv ph mp m fv h
 unfolding line_of line_at
 line-is b v pv ph mp m fv s h a is =
@@ -61,24 +68,26 @@ line-is b v pv ph mp m fv s h a is =
     cc
 
 -- so that along the strip of its position a row is changed as the definitions say
-pub along-is : (b : List ℕ) (g : Grid) (pv ph mp m full : ℕ) (fv : Float) (s : Strip) → StripAt pv ph mp m fv s → (x k : ℕ) (v : Float)
-    → along_strip b s full g.origin_h g.spacing_h ph x k v ≡ times_gain b g pv ph mp m full fv x k v
+pub along-is : (b : List ℕ) (map : Map) (m full : ℕ) (v : Axis) (s : Strip) (fv : Float) → StripAt map m full v s → AxisIs fv map.points_v v
+    → (x k : ℕ) (u : Float) → along_strip b s x k u ≡ map_gain b map m full fv x k u
 unfolding along_strip times_gain gain_of
-along-is b g pv ph mp m full fv s is x k v =
-    let f : Float = position x full g.origin_h g.spacing_h ph in
-    ap₂ (λ (i j : Float). mul binary32 v (mix i j (share f))) (is.lines b (lower f)) (is.lines b (upper ph f))
+along-is b map m full v s fv is a x k u =
+    let f : Float = map_position map full x in
+    ap (λ (z : Float). mul binary32 u (mix (line_of b s (lower z)) (line_of b s (min (lower z + 1) s.last)) (share z)))
+    (place_is _ _ _ _ s.along is.along-is x)
+    ∙ ap (λ (n : ℕ). mul binary32 u (mix (line_of b s (lower f)) (line_of b s (min (lower f + 1) n)) (share f))) is.last-is
+    ∙ (ap₂ (λ (i j : Float). mul binary32 u (mix i j (share f))) (is.lines fv a b (lower f)) (is.lines fv a b (upper map.points_h f)))
 
 -- ---- no position wraps
 
--- the two map rows of a position are rows of the map
-pub beside : (v : Axis) (pv ph mp m n : ℕ) (fv : Float) → n ≡ max mp 1 → Sized pv ph mp m → AxisIs fv pv v → lower fv ≤ pv - 1
-    → Beside v ph n m
-beside v pv ph mp m n fv e z a l =
+-- two map rows of the map are so far
+pub beside : (v : Axis) (pv ph mp m n : ℕ) → n ≡ max mp 1 → Sized pv ph mp m → OnMap v pv → Beside v ph n m
+beside v pv ph mp m n e z a =
     record {
       some = columns;
       plane = omega (arith, z.plane);
-      lower_in = omega (arith, few, mul-le-mul_right {m = v.lower + 1} {n = pv} (ph * n) (omega (arith, rows, a.lower-is)));
-      upper_in = omega (arith, few, mul-le-mul_right {m = v.upper + 1} {n = pv} (ph * n) (omega (arith, rows, a.upper_is)));
+      lower_in = omega (arith, few, mul-le-mul_right {m = v.lower + 1} {n = pv} (ph * n) (omega (arith, rows, a.lower_in)));
+      upper_in = omega (arith, few, mul-le-mul_right {m = v.upper + 1} {n = pv} (ph * n) (omega (arith, rows, a.upper_in)));
     }
   where
     all : pv * ph * max mp 1 ≡ pv * (ph * n)
@@ -108,23 +117,34 @@ reach i ph mp m near last step some plane few e f l =
     rw (e, f, l)
     (omega arith)
 
-pub reaches : (v : Axis) (ph mp m : ℕ) (s : Strip) → Beside v ph mp m → StripIs v ph mp m s → Reaches s
-reaches v ph mp m s b is =
+pub reaches : (v : Axis) (ph mp m : ℕ) {full : ℕ} {origin spacing : Float} {along : Ruler} (s : Strip) → Beside v ph mp m
+    → StripIs v ph mp m along s → RulerIs full origin spacing ph along → Reaches s
+reaches v ph mp m s b is r =
+    let planes : 1 ≤ mp = omega (arith, b.plane) in
     record {
       near = reach v.lower ph mp m _ _ _ b.some b.plane b.lower_in is.near-is is.step_is is.last-is;
       far = reach v.upper ph mp m _ _ _ b.some b.plane b.upper_in is.far-is is.step_is is.last-is;
+      last32 = omega (
+        arith,
+        is.last-is,
+        b.lower_in,
+        mul-le-mul_left ph planes,
+        mul-le-mul_right {m = 1} {n = v.lower + 1} (ph * mp) (omega arith),
+      );
+      ends = ap (λ (a : Ruler). a.last) is.along-is ∙ r.last-is ∙ ap (whole_in binary64) (sym is.last-is);
     }
 
--- the strip of an axis is that of its position
-pub strip-at : (v : Axis) (pv ph mp m n : ℕ) (fv : Float) (s : Strip) → n ≡ max mp 1 → Sized pv ph mp m → AxisIs fv pv v → lower fv ≤ pv - 1
-    → StripIs v ph n m s → StripAt pv ph (max mp 1) m fv s
-strip-at v pv ph mp m n fv s e z a l is =
-    subst (λ (i : ℕ). StripAt pv ph i m fv s) e
-    (record {
-      lines = λ b h. line-is b v pv ph n m fv s h a is;
+-- the strip of an axis is that of each position which has that axis
+pub strip-at : (v : Axis) (map : Map) (m n full : ℕ) {along : Ruler} (s : Strip) → n ≡ max map.planes 1 → MapSized map m → OnMap v map.points_v
+    → RulerIs full map.grid.origin_h map.grid.spacing_h map.points_h along → StripIs v map.points_h n m along s → StripAt map m full v s
+strip-at v map m n full s e z a r is =
+    record {
+      lines = λ f on b h. line-is b v map.points_v map.points_h n m f s h on is
+          ∙ ap (λ (i : ℕ). line_at b map.points_v map.points_h i m f h) e;
       last-is = is.last-is;
-      reaches = reaches v ph n m s (beside v pv ph mp m n fv e z a l) is;
-    })
+      along-is = subst (RulerIs full map.grid.origin_h map.grid.spacing_h map.points_h) (sym is.along-is) r;
+      reaches = reaches v map.points_h n m s (beside v map.points_v map.points_h map.planes m n e z a) is r;
+    }
 
 -- ---- rules that agree on the walk's plane
 

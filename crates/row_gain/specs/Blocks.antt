@@ -1,30 +1,28 @@
--- A row done in blocks of columns, whose positions stand in two lent tables. proofs/Blocks says that all blocks, one
+-- A row done in blocks of columns, whose places stand in a lent table. proofs/Blocks says that all blocks, one
 -- after another, are the row.
 use Rattle.std.specs.Prelude.{ℕ, ◌+◌, ◌*◌, ◌≤◌, ◌<◌, min, max, ◌≡◌, List, length, get_or, Float}
 use Rattle.std.specs.Float.{nan}
 use Rattle.pointwise.specs.Points.{between}
 use Rattle.row_select.specs.declared.Walk.{Walk}
-use Rattle.dng.specs.Value.{position, lower, share}
+use Rattle.row_gain.specs.declared.Column.{Column}
+use Rattle.row_gain.specs.Strip.{ColumnIs}
 
 -- `g` at the image columns from a up to e, e left out, nothing elsewhere
 unfoldable pub within : {A : Type 0} → (a e : ℕ) → (ℕ → ℕ → A → A) → ℕ → ℕ → A → A
 within a e g x k v = between a e (λ y. g y k) x v
 
--- entry j of the tables, for each of w entries, is the lower point and the share of image column x + j * pitch
-pub record Filled (x pitch full : ℕ) (origin spacing : Float) (n w : ℕ) (hs : List ℕ) (ts : List Float) : Type 0 where
-  pub lowers : (j : ℕ) → j < w → get_or hs j 0 ≡ lower (position (x + j * pitch) full origin spacing n)
-  pub shares : (j : ℕ) → j < w → get_or ts j nan ≡ share (position (x + j * pitch) full origin spacing n)
-  pub room-h : w ≤ length hs
-  pub room-t : w ≤ length ts
+-- entry j of the columns, for each of the first w, is the place of image column x + j * pitch, which lies at `f` of it
+pub record Filled (f : ℕ → Float) (x pitch w : ℕ) (cs : List Column) : Type 0 where
+  pub columns : (j : ℕ) → j < w → ColumnIs (f (x + j * pitch)) (get_or cs j (record { lower = 0; share = nan }))
+  pub room : w ≤ length cs
 
--- two tables of nh and nt entries can be filled from x on
-pub record Fillable (x pitch end nh nt : ℕ) : Type 0 where
+-- `room` columns can be filled from x on
+pub record Fillable (x pitch end room : ℕ) : Type 0 where
   pub spaced : 1 ≤ pitch
   pub pitch32 : pitch < 4294967296
   pub start : x < 8589934592
   pub end32 : end ≤ 4294967296
-  pub few : nh ≤ 65536
-  pub same : nh ≤ nt
+  pub few : room ≤ 65536
 
 -- the w columns from x on are those before `end`, or as many as there is room for
 pub record Counted (x pitch end room w : ℕ) : Type 0 where

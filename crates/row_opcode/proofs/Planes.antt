@@ -6,7 +6,7 @@ use mathlib.Core.Bool.{Bool, true, false, cond, ◌&&◌}
 use mathlib.Core.List.{List}
 use native.Mathlib.Nat.{mod-lt, div-add-mod', mul-le-mul_right}
 use native.Mathlib.Omega.{arith}
-use borrow.Author.Tests.{eq-eqb, ne_eqb, lt-leb, le-ltb}
+use borrow.Author.Tests.{eq-eqb, lt-leb, le-ltb}
 use lib.Dec.{leb, ltb, eqb}
 use lib.ListN.{length}
 use Rattle.pointwise.specs.Points.{each}
@@ -143,12 +143,7 @@ module _ {A : Type 0} where
   unfolding walked in_row on_columns
   walked_none k l = each_none _ l (λ i v h. simp either)
 
-  -- a table with entries, and an empty one
-  pub table-some : (k : Walk) (n : ℕ) (f : A → A) (l row : List A) → 0 < n → row ≡ walked k (λ x p v. f v) l
-      → row ≡ walked k (λ x p v. cond (eqb n 0) v (f v)) l
-  table-some k n f l row h e =
-      e ∙ ap (λ (b : Bool). walked k (λ x p v. cond b v (f v)) l) (sym (ne_eqb n 0 (λ z. omega arith)))
-
+  -- an empty table
   pub table_none : (k : Walk) (n : ℕ) (f : A → A) (l : List A) → n ≤ 0 → l ≡ walked k (λ x p v. cond (eqb n 0) v (f v)) l
   table_none k n f l h =
       sym (ap (λ (b : Bool). walked k (λ x p v. cond b v (f v)) l) (eq-eqb n 0 (omega arith)) ∙ walked_none k l)
@@ -226,9 +221,6 @@ module _ {A : Type 0} where
       (u.none i h)))
 
   -- ---- rules of a row
-
-  pub row-rule : (x0 p y : ℕ) (l : List A) {f f' : Rule A} → f ≡ f' → each (on_row x0 p y (length l) f) l ≡ each (on_row x0 p y (length l) f') l
-  row-rule x0 p y l e = ap (λ (h : Rule A). each (on_row x0 p y (length l) h) l) e
 
   pub row-left : (x0 p y : ℕ) (l : List A) (f : Rule A) → Leaves f → l ≡ each (on_row x0 p y (length l) f) l
   unfolding on_row

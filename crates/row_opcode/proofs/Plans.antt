@@ -9,7 +9,6 @@ use lib.ListN.{length}
 use Rattle.pointwise.specs.Points.{each}
 use Rattle.pointwise.specs.Select.{on_columns}
 use Rattle.pointwise.proofs.Each.{each-agree}
-use Rattle.row_select.specs.declared.Start.{Start}
 use Rattle.dng.specs.declared.Radial.{Radial}
 use Rattle.dng.specs.declared.Region.{Region}
 use Rattle.dng.specs.declared.Opcode.{Opcode}
@@ -22,8 +21,9 @@ use Rattle.row_vignette.proofs.Vignetted.{vignette-unusable}
 use Rattle.row_opcode.specs.declared.Task.{Task}
 use Rattle.row_opcode.specs.declared.Task.TheVariants.{Table, Polynomial, Gain, DeltaRows, DeltaColumns, ScaleRows, ScaleColumns}
 use Rattle.row_opcode.specs.declared.Plan.{Plan}
-use Rattle.row_opcode.specs.declared.Plan.TheVariants.{Nothing, Vignette, Area}
-use Rattle.row_opcode.specs.Plans.{plan_of, plan_rule, plan_rule16, plan_fits, task_rule16, task_fits, table_size}
+use Rattle.row_opcode.specs.declared.Plan.TheVariants as Planned
+use Rattle.row_opcode.specs.Plans.{plan_of, plan_rule, plan_rule16, plan_fits, task_rule16, table_size}
+use Rattle.row_opcode.specs.declared.Area.{Area}
 use Rattle.row_opcode.specs.declared.Prepared.{Prepared}
 use Rattle.row_opcode.specs.declared.Prepared.TheVariants as Made
 use Rattle.row_opcode.specs.Ready.{Leaves, Idle, Reached, Begun, Ready}
@@ -57,18 +57,11 @@ module _ (op : Opcode) {p : Plan} (e : plan_of op ≡ p) where
   pub rule16-of : (b : List ℕ) → rule16_of op b ≡ plan_rule16 p b
   rule16-of b = (same op).rule16 b ∙ ap (λ (q : Plan). plan_rule16 q b) e
 
--- an opcode that is nothing to a row, and a vignette whose m2 cannot be used
-pub idle-nothing : (op : Opcode) (fw fh : ℕ) → plan_of op ≡ Nothing → Idle op fw fh
-idle-nothing op fw fh e =
-    record {
-      rule = λ scale b whole y x k v. ap (λ (f : Rule Float). f whole y x k v) (rule-of op e (frame_at scale fw fh) b);
-      rule16 = λ b whole y x k v. ap (λ (f : Rule ℕ). f whole y x k v) (rule16-of op e b);
-    }
-
-pub leaves16 : (op : Opcode) (q : Radial) → plan_of op ≡ Vignette q → (b : List ℕ) → Leaves (rule16_of op b)
+pub leaves16 : (op : Opcode) (q : Radial) → plan_of op ≡ Planned.Vignette q → (b : List ℕ) → Leaves (rule16_of op b)
 leaves16 op q e b whole y x k v = ap (λ (f : Rule ℕ). f whole y x k v) (rule16-of op e b)
 
-pub idle-vignette : (op : Opcode) (q : Radial) (fw fh : ℕ) → plan_of op ≡ Vignette q
+-- a vignette whose m2 cannot be used is nothing to a row
+pub idle-vignette : (op : Opcode) (q : Radial) (fw fh : ℕ) → plan_of op ≡ Planned.Vignette q
     → ((scale : Float) → usable (m2_of (frame_at scale fw fh) q) ≡ false) → Idle op fw fh
 idle-vignette op q fw fh e u =
     record {
@@ -102,18 +95,14 @@ task16-is r b (ScaleRows n) whole y x k v = empty-table r b whole y x k v
 task16-is r b (ScaleColumns n) whole y x k v = empty-table r b whole y x k v
 
 -- so a region's tables on a row are what its opcode does there
-pub row16-is : (op : Opcode) {r : Region} {t : Task} → plan_of op ≡ Area r t → (x0 p y : ℕ) (l b : List ℕ) {n : ℕ} → n ≡ table_size t
-    → each (on_row x0 p y (length l) (tables r b n)) l ≡ each (on_row x0 p y (length l) (rule16_of op b)) l
+pub row16-is : (op : Opcode) {r : Region} {t : Task} → plan_of op ≡ Planned.Area r t → (x0 p y : ℕ) (l b : List ℕ)
+    → each (on_row x0 p y (length l) (tables r b (table_size t))) l ≡ each (on_row x0 p y (length l) (rule16_of op b)) l
 unfolding on_row
-row16-is op {r} {t} plan x0 p y l b e =
-    ap (λ (n : ℕ). each (on_row x0 p y (length l) (tables r b n)) l) e
-    ∙ each-agree _ _ l
+row16-is op {r} {t} plan x0 p y l b =
+    each-agree _ _ l
     (λ i v h.
     task16-is r b t (whole_pixel p (length l) i) y (x0 + i / p) (i % p) v
     ∙ ap (λ (f : Rule ℕ). f (whole_pixel p (length l) i) y (x0 + i / p) (i % p) v) (sym (rule16-of op plan b)))
-
-pub task-fits : (op : Opcode) (r : Region) (t : Task) → plan_of op ≡ Area r t → bounded op ≡ true → task_fits t ≡ true
-task-fits op r t e h = sym (ap plan_fits e) ∙ sym (same op).fits ∙ h
 
 -- a prepared opcode taken apart
 module _ (op : Opcode) (x0 fw fh : ℕ) {p : Prepared} (ready : Ready op x0 fw fh p) where
@@ -123,5 +112,5 @@ module _ (op : Opcode) (x0 fw fh : ℕ) {p : Prepared} (ready : Ready op x0 fw f
   pub reached : {q : Radial} {m2 : Float} → p ≡ Made.Vignette q m2 → Reached op q m2 fw fh
   reached e = subst (Ready op x0 fw fh) e ready
 
-  pub begun : {r : Region} {t : Task} {s : Start} → p ≡ Made.Area r t s → Begun op r t s x0
+  pub begun : {a : Area} → p ≡ Made.Area a → Begun op a.region a.task a.start x0
   begun e = subst (Ready op x0 fw fh) e ready

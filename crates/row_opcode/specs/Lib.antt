@@ -1,3 +1,4 @@
 pub mod Plans
 pub mod Planes
 pub mod Ready
+pub mod Calls

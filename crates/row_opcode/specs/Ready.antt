@@ -33,4 +33,4 @@ pub record Begun (op : Opcode) (r : Region) (t : Task) (s : Start) (x0 : ℕ) : 
 abbrev pub Ready : Opcode → (x0 fw fh : ℕ) → Prepared → Type 0
 Ready op x0 fw fh Nothing = Idle op fw fh
 Ready op x0 fw fh (Vignette q m2) = Reached op q m2 fw fh
-Ready op x0 fw fh (Area r t s) = Begun op r t s x0
+Ready op x0 fw fh (Area a) = Begun op a.region a.task a.start x0

@@ -1,7 +1,7 @@
 // One opcode on one lent row. A run prepares an opcode once and hands it to each of its rows.
 #![tactic(auto)]
 
-ghost use Rattle.std.specs.Prelude.{◌≡◌, true, false, cond, eqb, ◌+◌, min, length, Float};
+ghost use Rattle.std.specs.Prelude.{◌≡◌, ℕ, true, false, cond, eqb, ◌+◌, min, length, Float};
 ghost use Rattle.pointwise.specs.Points.{each};
 ghost use Rattle.pointwise.specs.Select.{selects, First};
 ghost use Rattle.row_select.specs.Walks.{walked, Walks};
@@ -10,14 +10,14 @@ ghost use Rattle.dng.specs.Bounds.{bounded, RowFits};
 ghost use Rattle.dng.specs.Value.{rule_of, rule16_of, row_index, column_index, map_table, map_table16, nought, one, nth, delta, scaled, position, gained};
 ghost use Rattle.row_gain.specs.Gain.{AxisIs};
 ghost use Rattle.row_vignette.specs.Reach.{frame_at};
+ghost use Rattle.row_opcode.specs.Calls.{Takes, Does};
 ghost use Rattle.row_opcode.specs.Plans.{plan_of, task_rule, task_fits, table_size};
 ghost use Rattle.row_opcode.specs.Ready.{Ready};
 ghost use Rattle.row_opcode.specs.Planes.{WalkIs, Along, AxisFor, ValueFor, Untouched, map_plane, region_planes};
 
 use dng::{Grid, Opcode, Radial, Region};
-use row_gain::Axis;
+use row_gain::{Axis, Map};
 use row_select::{Start, Walk};
-use row_vignette::Reach;
 
 // ---- what an opcode is to a row
 
@@ -58,19 +58,20 @@ pub enum Plan {
     Area(Region, Task),
 }
 
+// A region with its task and its first column.
+#[derive(Clone, Copy)]
+pub struct Area {
+    pub region: Region,
+    pub task: Task,
+    pub start: Start,
+}
+
 // The same with what is worked out once for all rows: m2 where it is usable, and a region's first column.
 #[derive(Clone, Copy)]
 pub enum Prepared {
     Nothing,
-    Vignette {
-        radial: Radial,
-        m2: f64,
-    },
-    Area {
-        region: Region,
-        task: Task,
-        start: Start,
-    },
+    Vignette { radial: Radial, m2: f64 },
+    Area(Area),
 }
 
 // Where a row lies: its first pixel is the image column x0 of the image row y, and a pixel has `planes` samples.
@@ -126,14 +127,14 @@ pub fn prepare(op: Opcode, x0: u32, full_width: u32, full_height: u32) -> Prepar
     match plan_of(op) {
         Plan::Nothing => Prepared::Nothing,
         Plan::Vignette(radial) => match row_vignette::m2(radial, full_width, full_height) {
-            Reach::Usable { m2 } => Prepared::Vignette { radial, m2 },
-            Reach::Unusable => Prepared::Nothing,
+            Some(m2) => Prepared::Vignette { radial, m2 },
+            None => Prepared::Nothing,
         },
-        Plan::Area(region, task) => Prepared::Area {
+        Plan::Area(region, task) => Prepared::Area(Area {
             region,
             task,
             start: row_select::first_column(region.left, region.col_pitch, x0),
-        },
+        }),
     }
 }
 
@@ -143,7 +144,7 @@ pub fn prepare(op: Opcode, x0: u32, full_width: u32, full_height: u32) -> Prepar
 fn row_index(r: Region, y: u32) -> usize
     ensures { result ≡ row_index r y }
 {
-    let down = num_small::less(y as usize, r.top as usize);
+    let down = (y as usize).saturating_sub(r.top as usize);
     if r.row_pitch <= 1 {
         down
     } else {
@@ -165,24 +166,8 @@ fn table_plane(row: &mut [f32], k: Walk, body: &[u8], n: u32, scale: f32)
 pub fn map_plane(plane: usize, first: u32, planes: u32) -> u32
     ensures { result ≡ map_plane plane first planes }
 {
-    let last = num_small::larger(planes as usize, 1) - 1;
-    num_small::lesser(num_small::less(plane, first as usize), last) as u32
-}
-
-fn delta_columns(row: &mut [f32], k: Walk, r: Region, body: &[u8], n: u32, scale: f32)
-    requires { Walks k (length row.old) × Along r k }
-    ensures { row.new
-        ≡ walked k (λ x p v. delta scale (nth n body.now nought (column_index r x)) v) row.old }
-{
-    row_deltas::add_columns(row, k, body, n, scale);
-}
-
-fn scale_columns(row: &mut [f32], k: Walk, r: Region, body: &[u8], n: u32)
-    requires { Walks k (length row.old) × Along r k }
-    ensures { row.new
-        ≡ walked k (λ x p v. scaled (nth n body.now one (column_index r x)) v) row.old }
-{
-    row_deltas::scale_columns(row, k, body, n);
+    let last = (planes as usize).max(1) - 1;
+    plane.saturating_sub(first as usize).min(last) as u32
 }
 
 // The axis of a gain map's row, which all planes share. No other task asks for one.
@@ -237,23 +222,17 @@ fn gain_plane(
         row.old }
 {
     let m = map_plane(k.plane, r.plane, map_planes);
-    row_gain::gain_row(
-        row,
-        k,
-        body,
-        grid,
-        v,
-        g.y,
-        g.full_height,
-        g.full_width,
+    let map = Map {
         points_v,
         points_h,
-        map_planes,
-        m,
-    );
+        grid,
+        planes: map_planes,
+    };
+    row_gain::gain_row(row, k, body, map, v, m, g.full_width);
 }
 
 // A task on one plane of a row. v and d are what the planes share: a gain map's axis, and the row's delta or scale.
+#[tactic(auto, unfolding(dng::specs::Value::delta))]
 fn one_plane(
     row: &mut [f32],
     k: Walk,
@@ -281,9 +260,9 @@ fn one_plane(
             map_planes,
         } => gain_plane(row, k, r, g, v, body, points_v, points_h, grid, map_planes),
         Task::DeltaRows { .. } => row_deltas::add_row(row, k, d),
-        Task::DeltaColumns { n } => delta_columns(row, k, r, body, n, scale),
+        Task::DeltaColumns { n } => row_deltas::add_columns(row, k, body, n, scale),
         Task::ScaleRows { .. } => row_deltas::scale_row(row, k, d),
-        Task::ScaleColumns { n } => scale_columns(row, k, r, body, n),
+        Task::ScaleColumns { n } => row_deltas::scale_columns(row, k, body, n),
     }
 }
 
@@ -295,7 +274,7 @@ pub fn walk_at(g: Place, r: Region, start: Start, plane: usize) -> Walk
         planes: g.planes as usize,
         left: r.left as usize,
         right: r.right as usize,
-        pitch: num_small::larger(r.col_pitch as usize, 1),
+        pitch: (r.col_pitch as usize).max(1),
         plane,
         col: start.col,
         nth: start.nth,
@@ -329,46 +308,44 @@ pub fn touched(g: Place, r: Region, start: Start, len: usize) -> bool
     row_select::row_selected(r.top, r.bottom, r.row_pitch, g.y as usize)
 }
 
-// The planes of a region, one after another.
-fn region_planes(
-    row: &mut [f32],
+// The planes of a region, one after another: `one` is lent the row with each plane's walk.
+pub fn each_plane<T: Copy, F: Fn(&mut [T], Walk)>(
+    row: &mut [T],
     g: Place,
     r: Region,
-    t: Task,
     start: Start,
-    body: &[u8],
-    scale: f32,
+    one: F,
 )
-    requires { RowFits g.x0 g.planes g.y (length row.old) × First r.left r.col_pitch g.x0 start.col
-        start.nth
-        × (task_fits t ≡ true) }
-    ensures { row.new
-        ≡ region_planes g r r.planes
-        (task_rule (frame_at scale g.full_width g.full_height) r body.now t g.y)
-        row.old }
+    requires fits { RowFits g.x0 g.planes g.y (length row.old) × First r.left r.col_pitch g.x0 start.col
+        start.nth }
+    requires calls { Takes r (F.pre one) }
+    ensures { (h : ℕ → ℕ → T → T) → Does r (F.post one) h
+        → row.new ≡ region_planes g r r.planes h row.old }
 {
-    let end = planes_end(g, r);
-    let v = axis_of(t, g);
-    let d = value_of(t, r, g.y, body, scale);
-    let mut p = r.plane as usize;
-    while p < end {
-        one_plane(row, walk_at(g, r, start, p), r, t, g, v, d, body, scale);
-        p += 1;
+    for p in r.plane as usize..planes_end(g, r) {
+        one(row, walk_at(g, r, start, p));
     }
 }
 
-fn region_row(row: &mut [f32], g: Place, r: Region, t: Task, start: Start, body: &[u8], scale: f32)
-    requires { RowFits g.x0 g.planes g.y (length row.old) × First r.left r.col_pitch g.x0 start.col
-        start.nth
-        × (task_fits t ≡ true) }
+fn region_row(row: &mut [f32], g: Place, a: Area, body: &[u8], scale: f32)
+    requires { RowFits g.x0 g.planes g.y (length row.old) × First a.region.left a.region.col_pitch g.x0
+        a.start.col a.start.nth
+        × (task_fits a.task ≡ true) }
     ensures { row.new
         ≡ each
         (on_row g.x0 g.planes g.y (length row.old)
-        (on_region r (task_rule (frame_at scale g.full_width g.full_height) r body.now t)))
+        (on_region a.region
+        (task_rule (frame_at scale g.full_width g.full_height) a.region body.now a.task)))
         row.old }
 {
-    if touched(g, r, start, row.len()) {
-        region_planes(row, g, r, t, start, body, scale);
+    let r = a.region;
+    let t = a.task;
+    if touched(g, r, a.start, row.len()) {
+        let v = axis_of(t, g);
+        let d = value_of(t, r, g.y, body, scale);
+        each_plane(row, g, r, a.start, move |part, k| {
+            one_plane(part, k, r, t, g, v, d, body, scale)
+        });
     }
 }
 
@@ -396,11 +373,7 @@ pub fn row_step(row: &mut [f32], g: Place, op: Opcode, ready: Prepared, body: &[
                 g.full_height,
             )
         }
-        Prepared::Area {
-            region,
-            task,
-            start,
-        } => region_row(row, g, region, task, start, body, scale),
+        Prepared::Area(a) => region_row(row, g, a, body, scale),
     }
 }
 
@@ -431,36 +404,26 @@ fn table_plane16(row: &mut [u16], k: Walk, body: &[u8], n: u32)
     }
 }
 
-fn region_planes16(row: &mut [u16], g: Place, r: Region, n: u32, start: Start, body: &[u8])
-    requires { RowFits g.x0 g.planes g.y (length row.old) × First r.left r.col_pitch g.x0 start.col
-        start.nth }
-    ensures { row.new
-        ≡ region_planes g r r.planes (λ x k v. cond (eqb n 0) v (map_table16 n body.now v))
-        row.old }
-{
-    let end = planes_end(g, r);
-    let mut p = r.plane as usize;
-    while p < end {
-        table_plane16(row, walk_at(g, r, start, p), body, n);
-        p += 1;
-    }
-}
-
-fn region_row16(row: &mut [u16], g: Place, r: Region, n: u32, start: Start, body: &[u8])
-    requires { RowFits g.x0 g.planes g.y (length row.old) × First r.left r.col_pitch g.x0 start.col
-        start.nth }
-    ensures { row.new
+// No planes share what a region_row works out for them.
+fn region_row16(row: &mut [u16], g: Place, a: Area, body: &[u8])
+    requires { RowFits g.x0 g.planes g.y (length row.old) × First a.region.left a.region.col_pitch g.x0
+        a.start.col a.start.nth }
+    ensures { let n = table_size a.task in row.new
         ≡ each
         (on_row g.x0 g.planes g.y (length row.old)
-        (on_region r (λ y x k v. cond (eqb n 0) v (map_table16 n body.now v))))
+        (on_region a.region (λ y x k v. cond (eqb n 0) v (map_table16 n body.now v))))
         row.old }
 {
-    if touched(g, r, start, row.len()) {
-        region_planes16(row, g, r, n, start, body);
+    if touched(g, a.region, a.start, row.len()) {
+        let n = table_size(a.task);
+        each_plane(row, g, a.region, a.start, move |part, k| {
+            table_plane16(part, k, body, n)
+        });
     }
 }
 
-// One opcode on one row of whole numbers; `op` stands here for the contract alone.
+// One opcode on one row of whole numbers; `op` stands here for the contract alone. Not one function with row_step: the
+// paper's `rule16_of` has tables alone, and no scale.
 pub fn row_step16(row: &mut [u16], g: Place, op: Opcode, ready: Prepared, body: &[u8])
     requires { RowFits g.x0 g.planes g.y (length row.old) × Ready op g.x0 g.full_width g.full_height
         ready }
@@ -471,10 +434,6 @@ pub fn row_step16(row: &mut [u16], g: Place, op: Opcode, ready: Prepared, body: 
     match ready {
         Prepared::Nothing => {}
         Prepared::Vignette { .. } => {}
-        Prepared::Area {
-            region,
-            task,
-            start,
-        } => region_row16(row, g, region, table_size(task), start, body),
+        Prepared::Area(a) => region_row16(row, g, a, body),
     }
 }

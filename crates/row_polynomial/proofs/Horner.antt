@@ -4,8 +4,10 @@ use Prim.Native.Nat.{ℕ, zero, suc, ◌+◌, ◌-◌, ◌*◌, ◌≤◌, ◌<�
 use mathlib.Core.Path.{◌≡◌, refl, ap, ◌∙◌}
 use mathlib.Core.Bool.{Bool, true, false}
 use mathlib.Core.List.{List}
+use native.Mathlib.Nat.{not-suc-le-zero}
 use native.Mathlib.Omega.{arith}
 use lib.IntN.{ℤ, pos}
+use lib.ListN.{get_or}
 use lib.Dec.{lit≤}
 use lib.Ieee.{Float, nan, inf, fin, binary64, round, add, mul, sum, units, odd, size, span, climb, up, down, of_bits}
 use lib.Ieee.Scale.{round_same}
@@ -13,16 +15,8 @@ use lib.Ieee.Fits.{down_pos}
 use borrow.Author.Tests.{le-leb, lt-leb}
 use Rattle.dng.specs.List.{f64_at}
 use Rattle.dng.specs.Value.{nought, horner}
-use Rattle.row_polynomial.specs.declared.Terms.{Terms}
-use Rattle.row_polynomial.specs.Terms.{term_at, Holds}
-
--- one step of Horner, and all of them over any coefficients
-abbrev pub step : Float → Float → Float → Float
-step x acc c = add binary64 (mul binary64 acc x) c
-
-unfoldable pub over : (ℕ → Float) → Float → ℕ → Float → Float
-over c x zero acc = acc
-over c x (suc k) acc = over c x k (step x acc (c k))
+use Rattle.row_polynomial.specs.declared.polynomial.Polynomial.{Polynomial}
+use Rattle.row_polynomial.specs.Terms.{term_at, Holds, step, over, value_of}
 
 -- ---- 0·x + 0 stands for 0 in the next product
 
@@ -83,33 +77,40 @@ pub term-out : (degree : ℕ) (b : List ℕ) (k : ℕ) → degree < k → term_a
 unfolding term_at
 term-out degree b k h = simp (lt-leb _ _ h)
 
-pub padded : (degree top : ℕ) (b : List ℕ) (x : Float) → degree ≤ top
-    → over (term_at degree b) x (suc top) nought ≡ horner b x (suc degree) nought
-padded degree top b x h =
-    ap (λ (n : ℕ). over (term_at degree b) x (suc n) nought) (omega arith)
-    ∙ fewer (term_at degree b) x degree (top - degree) (term-out degree b)
-    ∙ same (term_at degree b) (λ k. f64_at b (36 + 8 * k)) x (suc degree) nought (λ k l. term_in degree b k (omega arith))
-    ∙ is-horner b x (suc degree) nought
-
 -- ---- as the code has it, from its own 0.0
 
 pub from_zero : of_bits binary64 0 ≡ nought
 unfolding of_bits
 from_zero = refl
 
-pub four : (t : Terms) (degree : ℕ) (b : List ℕ) (x : Float) → Holds t degree b → degree ≤ 3
-    → step x (step x (step x (step x (of_bits binary64 0) t.c3) t.c2) t.c1) t.c0 ≡ horner b x (suc degree) nought
+-- one coefficient more, and no more
+pub one_more : (c : ℕ → Float) (x acc v : Float) (k : ℕ) {z : Float} → 0 < k → v ≡ c (k - 1) → over c x k acc ≡ z
+    → over c x (k - 1) (step x acc v) ≡ z
 unfolding over
-four t degree b x h low = simp (from_zero, h.is0, h.is1, h.is2, h.is3) (padded degree 3 b x low)
+one_more c x acc v zero h e is = absurd (not-suc-le-zero h)
+one_more c x acc v (suc k) h e is =
+    let low : suc k - 1 ≡ k = omega arith in
+    ap (λ (m : ℕ). over c x m (step x acc v)) low ∙ ap (λ (a : Float). over c x k (step x acc a)) (e ∙ ap c low) ∙ is
 
-pub five : (t : Terms) (degree : ℕ) (b : List ℕ) (x : Float) → Holds t degree b → degree ≤ 4
-    → step x (step x (step x (step x (step x (of_bits binary64 0) t.c4) t.c3) t.c2) t.c1) t.c0 ≡ horner b x (suc degree) nought
+pub none_left : (c : ℕ → Float) (x acc : Float) (k : ℕ) {z : Float} → k ≤ 0 → over c x k acc ≡ z → acc ≡ z
 unfolding over
-five t degree b x h low = simp (from_zero, h.is0, h.is1, h.is2, h.is3, h.is4) (padded degree 4 b x low)
+none_left c x acc zero h is = is
+none_left c x acc (suc k) h is = absurd (not-suc-le-zero h)
 
-pub nine : (t : Terms) (degree : ℕ) (b : List ℕ) (x : Float) → Holds t degree b → degree ≤ 8
-    → let high = step x (step x (step x (step x (of_bits binary64 0) t.c8) t.c7) t.c6) t.c5 in
-    step x (step x (step x (step x (step x high t.c4) t.c3) t.c2) t.c1) t.c0 ≡ horner b x (suc degree) nought
-unfolding over
-nine t degree b x h low =
-    simp (from_zero, h.is0, h.is1, h.is2, h.is3, h.is4, h.is5, h.is6, h.is7, h.is8) (padded degree 8 b x low)
+module _ (p : Polynomial) where
+  -- over the low n, and the rest are 0
+  pub low : (x : Float) (n : ℕ) → p.degree < n → over (λ k. get_or p.terms k nought) x n nought ≡ value_of p x
+  unfolding value_of
+  low x n h =
+      ap (λ (m : ℕ). over (λ k. get_or p.terms k nought) x m nought) (omega arith)
+      ∙ fewer (λ k. get_or p.terms k nought) x p.degree (n - suc p.degree) p.above
+
+  -- the definition's value of a polynomial that was read from a body
+  pub read-value : {degree : ℕ} {scale : Float} {b : List ℕ} → Holds p degree scale b → (x : Float)
+      → value_of p x ≡ horner b x (suc degree) nought
+  unfolding value_of
+  read-value {degree} {scale} {b} h x =
+      ap (λ (n : ℕ). over (λ k. get_or p.terms k nought) x (suc n) nought) h.degree_is
+      ∙ same (λ k. get_or p.terms k nought) (λ k. f64_at b (36 + 8 * k)) x (suc degree) nought
+      (λ k l. h.terms_are k ∙ term_in degree b k (omega arith))
+      ∙ is-horner b x (suc degree) nought

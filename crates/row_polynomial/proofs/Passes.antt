@@ -2,54 +2,39 @@
 use Prim.Native.Nat.{ℕ, zero, suc, ◌+◌, ◌-◌, ◌*◌, ◌≤◌, ◌<◌, min}
 use mathlib.Core.Path.{◌≡◌, refl, sym, ap, subst, ◌∙◌}
 use mathlib.Core.List.{List}
-use native.Mathlib.Nat.{zero-mul, add-zero, mul-one, suc-mul, mul-le-mul_right, lt_of_mul-lt-mul_right}
+use native.Mathlib.Nat.{zero-mul, add-zero, suc-mul, mul-le-mul_right}
 use native.Mathlib.Omega.{arith}
 use lib.ListN.{length, get_or, set}
-use lib.Seq.{get_or-set_same, get_or-set_other}
+use lib.Seq.{get_or-set_other}
 use lib.Ieee.{Float, nan}
-use Rattle.pointwise.proofs.Each.{below_or}
 use Rattle.row_select.specs.declared.Walk.{Walk}
 use Rattle.row_select.specs.Walks.{Walks}
 use Rattle.row_select.proofs.Sizes.{step-goes}
 use Rattle.row_select.proofs.Going.{Going, next}
 use Rattle.num_narrow.specs.Narrow.{narrow}
 use Rattle.dng.specs.Value.{map_polynomial}
-use Rattle.row_polynomial.specs.Blocks.{xOf, wide_of, Counted, Block, Evaluated, written}
+use Rattle.row_polynomial.specs.declared.polynomial.Polynomial.{Polynomial}
+use Rattle.row_polynomial.specs.Terms.{Holds, xOf, wide_of}
+use Rattle.row_polynomial.specs.Blocks.{Block, Evaluated, written}
+use Rattle.row_polynomial.proofs.Horner.{read-value}
 
 -- what is done at every sample of the walk
-abbrev pub mapped : Float → ℕ → List ℕ → ℕ → ℕ → Float → Float
-mapped scale degree b x p v = map_polynomial scale degree b v
+abbrev pub mapped : Polynomial → ℕ → ℕ → Float → Float
+mapped p x q v = narrow (wide_of p v)
 
--- a value's new value, in the two parts
-in_parts : (scale : Float) (degree : ℕ) (b : List ℕ) (v : Float)
-    → map_polynomial scale degree b v ≡ narrow (wide_of degree b scale (xOf scale v))
+-- which is the definition's, where the polynomial was read from the body
+pub mapped-is : (p : Polynomial) {degree : ℕ} {scale : Float} {b : List ℕ} → Holds p degree scale b → (x q : ℕ) (v : Float)
+    → mapped p x q v ≡ map_polynomial scale degree b v
 unfolding map_polynomial xOf wide_of
-in_parts scale degree b v = refl
-
--- one more place of an array
-pub more : (f : ℕ → Float) (l : List Float) (j : ℕ) (v : Float) → j < length l → ((m : ℕ) → m < j → get_or l m nan ≡ f m) → v ≡ f j
-    → (m : ℕ) → m < j + 1 → get_or (set l j v) m nan ≡ f m
-more f l j v h old e m q =
-    below_or m j (λ p. get_or-set_other l j m v nan (omega arith) ∙ old m p)
-    (λ p. subst (λ (z : ℕ). get_or (set l j v) z nan ≡ f z) (omega arith) (get_or-set_same l j v nan h ∙ e))
+mapped-is p {degree} {scale} {b} h x q v = rw (read-value p h, h.scale_is) refl
 
 -- sample j of n lies a step or more before the place after the last
 before_last : (step j n : ℕ) → j < n → j * step + step ≤ n * step
 before_last step j n h = omega (arith, mul-le-mul_right {m = suc j} {n = n} step (omega arith), suc-mul j step)
 
 -- so it is one of the row's
-pub inside : {i step n len room : ℕ} (at j : ℕ) → Block i step n len room → at ≡ i + j * step → j < n → at < len
-inside {i} {step} {n} at j b e h = omega (arith, b.ends, before_last step j n h)
-
--- with a step of 1, all that are left
-pub all_left : (i step stop : ℕ) → i < stop → stop ≤ i + 63 * step → step ≡ 1 → Counted i step stop (stop - i)
-all_left i step stop h last one =
-    let m : (stop - i) * step ≡ stop - i = ap (λ (s : ℕ). (stop - i) * s) one ∙ mul-one (stop - i) in
-    record { some = omega arith; few = omega arith; ends = omega arith }
-
--- where 64 samples reach the end, a sample before it is not the last of them
-pub fewer : (i step stop n at : ℕ) → stop ≤ i + 63 * step → at ≡ i + n * step → at < stop → n < 63
-fewer i step stop n at last e h = lt_of_mul-lt-mul_right step (omega arith)
+pub inside : {i step n len : ℕ} (j : ℕ) → Block i step n len → j < n → i + j * step < len
+inside {i} {step} {n} j b h = omega (arith, b.ends, before_last step j n h)
 
 -- ---- writing
 
@@ -92,13 +77,13 @@ module _ {k : Walk} {len : ℕ} {g : ℕ → ℕ → Float → Float} {l row : L
       (values m h _ _ ∙ ap (g _ _) (sym (written-past i s xs row m _ (step-goes w) (omega arith))))))
 
 -- a block evaluated and written: the walk stands n samples further
-pub block-done : {k : Walk} {len : ℕ} (scale : Float) (degree : ℕ) (b : List ℕ) {l row : List Float} {c i : ℕ} (n : ℕ)
-    (xs row' : List Float) → Walks k len
+pub block-done : {k : Walk} {len : ℕ} (p : Polynomial) {l row : List Float} {c i : ℕ} (n : ℕ) (xs row' : List Float) → Walks k len
     → let step = k.pitch * k.planes in
-    Going k (mapped scale degree b) l row c i → i + n * step < min (length l) ((k.right - k.x0) * k.planes) + step
-    → Evaluated degree b scale i step n row xs → row' ≡ written i step xs n row
-    → Going k (mapped scale degree b) l row' (c + n * k.pitch) (i + n * step)
-block-done {k} scale degree b {l} {row} {c} {i} n xs row' w u ends e is =
+    Going k (mapped p) l row c i → i + n * step < min (length l) ((k.right - k.x0) * k.planes) + step → length xs ≡ n
+    → Evaluated p i step row xs → row' ≡ written i step xs (length xs) row
+    → Going k (mapped p) l row' (c + n * k.pitch) (i + n * step)
+block-done {k} p {l} {row} {c} {i} n xs row' w u ends size e is =
     let step = k.pitch * k.planes in
-    subst (λ (z : List Float). Going k (mapped scale degree b) l z (c + n * k.pitch) (i + n * step)) (sym is)
-    (some_written xs w u ends (λ j h x p. ap narrow (e j h) ∙ sym (in_parts scale degree b _)) n (omega arith))
+    subst (λ (z : List Float). Going k (mapped p) l z (c + n * k.pitch) (i + n * step))
+    (sym (is ∙ ap (λ (m : ℕ). written i step xs m row) size))
+    (some_written xs w u ends (λ j h x q. ap narrow (e j (omega (arith, size)))) n (omega arith))

@@ -24,3 +24,9 @@ module _ {k : Walk} {n : ℕ} (w : Walks k n) where
 
   pub step-goes : 1 ≤ k.pitch * k.planes
   step-goes = omega (arith, at_least k.pitch, w.spaced)
+
+  pub nth-small : k.nth < 8589934592
+  nth-small =
+      let first : k.col ≤ max k.left (max k.pitch 1) = first-bound k.left k.pitch k.x0 k.col k.nth w.first in
+      let more : k.nth * 1 ≤ k.nth * max k.pitch 1 = mul-le-mul_left k.nth (omega arith) in
+      omega (arith, w.first.here, w.column, w.left32, w.pitch32)

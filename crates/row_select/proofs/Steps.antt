@@ -4,8 +4,9 @@ use Prim.Native.Nat.{ℕ, ◌+◌, ◌-◌, ◌*◌, ◌/◌, ◌%◌, ◌≤◌
 use mathlib.Core.Bool.{Bool, true, false, cond}
 use mathlib.Core.List.{List}
 use mathlib.Core.Path.{◌≡◌, refl, sym, ap, subst, ◌∙◌}
-use native.Mathlib.Nat.{zero-add, zero-mul, add-mul, mul_assoc, div-add-mod', div-lt_iff_lt-mul, mul-le-mul, mul-le-mul_left, le_of_mul-le-mul_right, lt_of_mul-lt-mul_right}
+use native.Mathlib.Nat.{zero-add, zero-mul, add-mul, mul_assoc, div-add-mod', div-lt_iff_lt-mul, mul-le-mul, le_of_mul-le-mul_right, lt_of_mul-lt-mul_right}
 use native.Mathlib.Omega.{arith}
+use lib.Arith.{digits_div}
 use lib.ListN.{length, get_or, set}
 use Rattle.pointwise.proofs.Each.{below_or, each-agree}
 use Rattle.pointwise.proofs.Select.{selects_at, selects-only, selects-number, on-plane, on_in, on-unselected, on_below, on-above}
@@ -49,12 +50,6 @@ module _ {A : Type 0} where
             (value ∙ ap (λ (j : ℕ). f j (get_or row i d)) (sym (selects-number a s (0 + i) m (omega (arith, u.number)))));
         number = omega (arith, u.number, add-mul m 1 (max s 1));
       }
-
-  -- no more steps than places
-  pub steps-few : {a e s : ℕ} {f : ℕ → A → A} {l row : List A} {m i : ℕ} → Steps a e s f l row m i → m ≤ i
-  steps-few {s = s} {m = m} u =
-      let more : m * 1 ≤ m * max s 1 = mul-le-mul_left m (omega arith) in
-      omega (arith, u.number)
 
   pub steps-end : {a e s : ℕ} {f : ℕ → A → A} {l row : List A} {m i : ℕ} → Steps a e s f l row m i → min (length l) e ≤ i
       → row ≡ each (stepped a e s f) l
@@ -190,3 +185,15 @@ steps-walked k f g l w value =
     (λ i v h.
     step-or-column k.x0 k.planes k.left k.right k.pitch k.plane k.col k.nth (length l) f g w.inside w.spaced w.first
     value i v h)
+
+-- the q-th column after left has the number q
+number_of : (left pitch q : ℕ) → 1 ≤ pitch → (left + q * pitch - left) / pitch ≡ q
+number_of left pitch q spaced = ap (λ (y : ℕ). y / pitch) (omega arith) ∙ digits_div q {m = pitch} {r = 0} (omega arith)
+
+-- the same, where what is done goes by the column's number
+pub steps-numbered : {A : Type 0} (k : Walk) (g : ℕ → A → A) (l : List A) → Walks k (length l)
+    → each (stepped (k.col * k.planes + k.plane) (min (length l) ((k.right - k.x0) * k.planes)) (k.pitch * k.planes) (λ m v. g (k.nth + m) v)) l
+    ≡ walked k (λ x p v. g ((x - k.left) / k.pitch) v) l
+steps-numbered k g l w =
+    steps-walked k (λ m v. g (k.nth + m) v) (λ x p v. g ((x - k.left) / k.pitch) v) l w
+    (λ m v. ap (λ j. g j v) (sym (number_of k.left k.pitch (k.nth + m) w.spaced)))

@@ -3,9 +3,12 @@
 // The numbers are those of a region as the list has them: a pitch of 0 counts as 1.
 #![tactic(auto)]
 
-ghost use Rattle.std.specs.Prelude.{◌≡◌, ◌+◌, ◌-◌, ◌*◌, min};
+ghost use Rattle.std.specs.Prelude.{◌≡◌, ℕ, ◌+◌, ◌-◌, ◌*◌, ◌/◌, ◌≤◌, ◌<◌, min, length};
+ghost use Rattle.pointwise.specs.Points.{each};
 ghost use Rattle.pointwise.specs.Select.{selects, First};
-ghost use Rattle.row_select.specs.Walks.{Walks};
+ghost use Rattle.row_select.specs.Calls.{Takes, Gives};
+ghost use Rattle.row_select.specs.Steps.{stepped};
+ghost use Rattle.row_select.specs.Walks.{walked, Walks};
 
 // The selected samples of one plane of a row: the row starts at image column x0 and has `planes` samples to a pixel;
 // the columns left..right are selected, `pitch` apart; the first of them at or after x0 is x0 + col, the `nth` counted
@@ -37,7 +40,7 @@ pub fn first_column(left: u32, pitch: u32, x0: u32) -> Start
 {
     let lo = left as usize;
     let at = x0 as usize;
-    let step = num_small::larger(pitch as usize, 1);
+    let step = (pitch as usize).max(1);
     if at <= lo {
         return Start {
             col: lo - at,
@@ -71,7 +74,7 @@ pub fn row_selected(top: u32, bottom: u32, pitch: u32, y: usize) -> bool
 {
     let lo = top as usize;
     let hi = bottom as usize;
-    let step = num_small::larger(pitch as usize, 1);
+    let step = (pitch as usize).max(1);
     if y < lo {
         return false;
     }
@@ -88,7 +91,7 @@ pub fn row_selected(top: u32, bottom: u32, pitch: u32, y: usize) -> bool
 pub fn plane_end(plane: u32, planes: u32, window: usize) -> usize
     ensures { result ≡ min (plane + planes) window }
 {
-    num_small::lesser(plane as usize + planes as usize, window)
+    (plane as usize + planes as usize).min(window)
 }
 
 // Past the last sample of a row of n that a walk may touch.
@@ -96,5 +99,67 @@ pub fn stop_of(k: Walk, n: usize) -> usize
     requires { Walks k n }
     ensures { result ≡ min n ((k.right - k.x0) * k.planes) }
 {
-    num_small::lesser(n, num_small::less(k.right, k.x0) * k.planes)
+    n.min(k.right.saturating_sub(k.x0) * k.planes)
+}
+
+// Neighbours, as at pitch 1 of one plane: a loop of its own, so that several can be done at a time.
+fn on_run<T: Copy, F: Fn(usize, T) -> T>(
+    row: &mut [T],
+    begin: usize,
+    stop: usize,
+    first: usize,
+    f: F,
+)
+    requires inside { stop ≤ length row.old }
+    requires short { (stop ≤ 524288) × (first < 8589934592) }
+    requires calls { Takes (F.pre f) }
+    ensures { (h : ℕ → T → T) → Gives (F.post f) h
+        → row.new ≡ each (stepped begin stop 1 (λ m v. h (first + m) v)) row.old }
+{
+    for i in begin..stop {
+        row[i] = f(first + (i - begin), row[i]);
+    }
+}
+
+// `step_by` of a range calls `next` for every place between two steps, so it is slower.
+fn on_steps<T: Copy, F: Fn(usize, T) -> T>(
+    row: &mut [T],
+    begin: usize,
+    stop: usize,
+    step: usize,
+    first: usize,
+    f: F,
+)
+    requires inside { stop ≤ length row.old }
+    requires goes { (1 ≤ step) × (step < 34359738368) }
+    requires short { (stop ≤ 524288) × (first < 8589934592) }
+    requires calls { Takes (F.pre f) }
+    ensures { (h : ℕ → T → T) → Gives (F.post f) h
+        → row.new ≡ each (stepped begin stop step (λ m v. h (first + m) v)) row.old }
+{
+    let mut j = first;
+    let mut i = begin;
+    while i < stop {
+        row[i] = f(j, row[i]);
+        i += step;
+        j += 1;
+    }
+}
+
+// Each sample of the walk becomes what `f` makes of it; f's first argument is the number of the sample's column,
+// counted from left.
+pub fn on_walk<T: Copy, F: Fn(usize, T) -> T>(row: &mut [T], k: Walk, f: F)
+    requires walk { Walks k (length row.old) }
+    requires calls { Takes (F.pre f) }
+    ensures { (h : ℕ → T → T) → Gives (F.post f) h
+        → row.new ≡ walked k (λ x p v. h ((x - k.left) / k.pitch) v) row.old }
+{
+    let begin = k.col * k.planes + k.plane;
+    let stop = stop_of(k, row.len());
+    let step = k.pitch * k.planes;
+    if step == 1 {
+        on_run(row, begin, stop, k.nth, f);
+    } else {
+        on_steps(row, begin, stop, step, k.nth, f);
+    }
 }

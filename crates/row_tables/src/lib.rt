@@ -1,6 +1,5 @@
 // Tables, f32 and u16, on one plane of a lent row.
-// In each loop `i` is the sample and `c` its column, which only the proof needs.
-#![tactic(auto)]
+#![tactic(auto, unfolding(dng::specs::Value::map_table, dng::specs::Value::map_table16))]
 
 ghost use Rattle.std.specs.Prelude.{◌≡◌, ◌+◌, ◌-◌, ◌*◌, ◌≤◌, ◌<◌, min, length};
 ghost use Rattle.std.specs.Float.{binary32};
@@ -10,14 +9,14 @@ ghost use Rattle.num_convert.specs.Convert.{whole_in};
 ghost use Rattle.row_select.specs.Walks.{walked, Walks};
 ghost use Rattle.dng.specs.Value.{map_table, map_table16, table_at};
 
-use row_select::{Walk, stop_of};
+use row_select::{Walk, on_walk};
 
 // ---- entries of a table
 
 fn last_of(n: u32) -> u32
     ensures { result ≡ n - 1 }
 {
-    if 0 < n { n - 1 } else { 0 }
+    n.saturating_sub(1)
 }
 
 // An entry that may lie across or past the end of the body.
@@ -74,59 +73,27 @@ fn full_value(body: &[u8], n: u32, top: f32, scale: f32, v: f32) -> f32
     num_convert::f32_of_u16(full_entry(body, index_below(n, top, scale, v))) / scale
 }
 
-// A body that ends before its table does, or a table of more than 2^24 entries, which no reader lets through.
-fn short_row(row: &mut [f32], k: Walk, body: &[u8], n: u32, scale: f32)
-    requires { Walks k (length row.old) }
-    ensures { row.new ≡ walked k (λ x p v. map_table scale n body.now v) row.old }
-{
-    let stop = stop_of(k, row.len());
-    let step = k.pitch * k.planes;
-    let mut i = k.col * k.planes + k.plane;
-    let mut c = k.col;
-    while i < stop {
-        row[i] = table_value(body, n, scale, row[i]);
-        i += step;
-        c += k.pitch;
-    }
-}
-
-fn full_row(row: &mut [f32], k: Walk, body: &[u8], n: u32, scale: f32)
-    requires { (Walks k (length row.old)) × (1 ≤ n) × (n ≤ 16777216) × (36 + 2 * n ≤ length body.now) }
-    ensures { row.new ≡ walked k (λ x p v. map_table scale n body.now v) row.old }
-{
-    let top = num_convert::f32_of_u32(last_of(n));
-    let stop = stop_of(k, row.len());
-    let step = k.pitch * k.planes;
-    let mut i = k.col * k.planes + k.plane;
-    let mut c = k.col;
-    while i < stop {
-        row[i] = full_value(body, n, top, scale, row[i]);
-        i += step;
-        c += k.pitch;
-    }
-}
-
 // table[round(v * scale)] / scale at the walk's samples.
 pub fn table_row(row: &mut [f32], k: Walk, body: &[u8], n: u32, scale: f32)
     requires { (Walks k (length row.old)) × (1 ≤ n) }
     ensures { row.new ≡ walked k (λ x p v. map_table scale n body.now v) row.old }
 {
-    if n <= 16777216 {
-        if 36 + 2 * (n as usize) <= body.len() {
-            full_row(row, k, body, n, scale);
-            return;
-        }
+    if n <= 16777216 && 36 + 2 * (n as usize) <= body.len() {
+        let top = num_convert::f32_of_u32(last_of(n));
+        on_walk(row, k, move |_, v| full_value(body, n, top, scale, v));
+    } else {
+        // a body that ends before its table does, or a table of more than 2^24 entries, which no reader lets through
+        on_walk(row, k, move |_, v| table_value(body, n, scale, v));
     }
-    short_row(row, k, body, n, scale);
 }
 
 // ---- tables, u16
+// Not one function with f32: document 01 scales and rounds an f32 sample, and holds a whole number as it stands.
 
 fn held_to(v: u16, last: u32) -> u32
     ensures { result ≡ min v last }
 {
-    let w = v as u32;
-    if w < last { w } else { last }
+    (v as u32).min(last)
 }
 
 fn table_value16(body: &[u8], n: u32, v: u16) -> u16
@@ -150,51 +117,6 @@ fn whole_value16(body: &[u8], n: u32, v: u16) -> u16
     full_entry(body, v as u32)
 }
 
-fn short_row16(row: &mut [u16], k: Walk, body: &[u8], n: u32)
-    requires { Walks k (length row.old) }
-    ensures { row.new ≡ walked k (λ x p v. map_table16 n body.now v) row.old }
-{
-    let stop = stop_of(k, row.len());
-    let step = k.pitch * k.planes;
-    let mut i = k.col * k.planes + k.plane;
-    let mut c = k.col;
-    while i < stop {
-        row[i] = table_value16(body, n, row[i]);
-        i += step;
-        c += k.pitch;
-    }
-}
-
-fn full_row16(row: &mut [u16], k: Walk, body: &[u8], n: u32)
-    requires { (Walks k (length row.old)) × (1 ≤ n) × (36 + 2 * n ≤ length body.now) }
-    ensures { row.new ≡ walked k (λ x p v. map_table16 n body.now v) row.old }
-{
-    let stop = stop_of(k, row.len());
-    let step = k.pitch * k.planes;
-    let mut i = k.col * k.planes + k.plane;
-    let mut c = k.col;
-    while i < stop {
-        row[i] = full_value16(body, n, row[i]);
-        i += step;
-        c += k.pitch;
-    }
-}
-
-fn whole_row16(row: &mut [u16], k: Walk, body: &[u8], n: u32)
-    requires { (Walks k (length row.old)) × (65536 ≤ n) × (36 + 2 * n ≤ length body.now) }
-    ensures { row.new ≡ walked k (λ x p v. map_table16 n body.now v) row.old }
-{
-    let stop = stop_of(k, row.len());
-    let step = k.pitch * k.planes;
-    let mut i = k.col * k.planes + k.plane;
-    let mut c = k.col;
-    while i < stop {
-        row[i] = whole_value16(body, n, row[i]);
-        i += step;
-        c += k.pitch;
-    }
-}
-
 // table[min(v, last)] at the walk's samples.
 pub fn table_row16(row: &mut [u16], k: Walk, body: &[u8], n: u32)
     requires { (Walks k (length row.old)) × (1 ≤ n) }
@@ -202,11 +124,11 @@ pub fn table_row16(row: &mut [u16], k: Walk, body: &[u8], n: u32)
 {
     if 36 + 2 * (n as usize) <= body.len() {
         if 65536 <= n {
-            whole_row16(row, k, body, n);
+            on_walk(row, k, move |_, v| whole_value16(body, n, v));
         } else {
-            full_row16(row, k, body, n);
+            on_walk(row, k, move |_, v| full_value16(body, n, v));
         }
     } else {
-        short_row16(row, k, body, n);
+        on_walk(row, k, move |_, v| table_value16(body, n, v));
     }
 }

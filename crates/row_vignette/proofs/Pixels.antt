@@ -4,41 +4,26 @@ use mathlib.Core.List.{List}
 use mathlib.Core.Path.{◌≡◌, refl, sym, ap, ap₂, ◌∙◌}
 use native.Mathlib.Nat.{add-mul, one-mul, mul-le-mul_right, div-mul-le_self, le-div_iff_mul-le, div-lt_iff_lt-mul, add-mul-div_right}
 use native.Mathlib.Omega.{arith}
+use borrow.Rule.Slice.PartMut.{put_mid}
 use lib.Ieee.{Float, nan, binary32, binary64, sub, mul}
-use lib.ListN.{length, get_or, set, length-set}
+use lib.ListN.{length, get_or, take, drop}
 use Rattle.pointwise.specs.Points.{each, before, between}
 use Rattle.pointwise.proofs.Each.{below_or, length-each, get_or-each, each-agree, each_none}
 use Rattle.pointwise.proofs.Parts.{before-in, before-out, between_in, between-low, between-high}
-use Rattle.pointwise.proofs.Parts.{each-before-zero, each-between-empty, advance, store}
+use Rattle.pointwise.proofs.Parts.{each-before-zero, advance, part}
 use Rattle.num_narrow.specs.Narrow.{narrow}
 use Rattle.num_convert.specs.Convert.{whole_in}
-use Rattle.dng.specs.declared.Radial.{Radial}
+use Rattle.row_vignette.specs.declared.Line.{Line}
 use Rattle.row_vignette.specs.Rows.{wide_gain, gain_of, wide_at, raised, raised_by, whole_ones}
 
 -- ---- one pixel
 
--- a pixel of one sample: a store
-pub stored : (row : List Float) (i : ℕ) (g : Float) → i < length row
-    → set row i (mul binary32 (get_or row i nan) g) ≡ each (between i (i + 1) (λ j v. mul binary32 v g)) row
-stored row i g h =
-    let G : ℕ → Float → Float = λ j v. mul binary32 v g in
-    store nan G i i row row (mul binary32 (get_or row i nan) g) (sym (each-between-empty i i G row (omega arith))) refl (omega arith) h
-
--- a pixel of three samples: three stores, each of which leaves the length
-abbrev pub once : List Float → ℕ → Float → List Float
-once row i g = set row i (mul binary32 (get_or row i nan) g)
-
-pub length-once : (row : List Float) (i : ℕ) (g : Float) → length (once row i g) ≡ length row
-length-once row i g = length-set row i (mul binary32 (get_or row i nan) g)
-
-pub stored-three : (row : List Float) (i : ℕ) (g : Float) → i + 3 ≤ length row
-    → once (once (once row i g) (i + 1) g) (i + 2) g ≡ each (between i (i + 3) (λ j v. mul binary32 v g)) row
-stored-three row i g h =
-    let G : ℕ → Float → Float = λ j v. mul binary32 v g in
-    let until : (a b : ℕ) → a ≡ b → each (between i a G) row ≡ each (between i b G) row = λ a b e. ap (λ (k : ℕ). each (between i k G) row) e in
-    let second = store nan G i (i + 1) row (once row i g) _ (stored row i g (omega arith)) refl (omega arith) (omega arith) in
-    let third = store nan G i (i + 2) row (once (once row i g) (i + 1) g) _ (second ∙ until _ _ (omega arith)) refl (omega arith) (omega arith) in
-    third ∙ until _ _ (omega arith)
+-- the p samples from i on, lent and raised; n is p as the code has it
+pub lent : (row new : List Float) (i p : ℕ) {n : ℕ} (g : Float) → i + p ≤ length row → n ≡ p
+    → new ≡ each (λ k v. mul binary32 v g) (take n (drop i row))
+    → put_mid i n row new ≡ each (between i (i + p) (λ k v. mul binary32 v g)) row
+lent row new i p g h same e =
+    rw same (ap (λ (m : List Float). put_mid i p row m) (rw same at e) ∙ part nan (λ k v. mul binary32 v g) i p row h)
 
 -- ---- a block
 
@@ -118,49 +103,49 @@ module _ {gains : List Float} {a p : ℕ} {l : List Float} where
 -- ---- a row
 
 -- c pixels are done
-pub record Done (q : Radial) (m2 dy2 cx : Float) (x0 p : ℕ) (l row : List Float) (c : ℕ) : Type 0 where
-  pub done : row ≡ each (before (c * p) (raised q m2 dy2 cx x0 p)) l
+pub record Done (t : Line) (x0 p : ℕ) (l row : List Float) (c : ℕ) : Type 0 where
+  pub done : row ≡ each (before (c * p) (raised t x0 p)) l
   pub same : length row ≡ length l
   pub whole : c ≤ length l / p
 
-module _ {q : Radial} {m2 dy2 cx : Float} {x0 p : ℕ} {l : List Float} where
-  pub row-begin : Done q m2 dy2 cx x0 p l l 0
+module _ {t : Line} {x0 p : ℕ} {l : List Float} where
+  pub row-begin : Done t x0 p l l 0
   row-begin =
-      let F : ℕ → Float → Float = raised q m2 dy2 cx x0 p in
+      let F : ℕ → Float → Float = raised t x0 p in
       record { done = sym (ap (λ (k : ℕ). each (before k F) l) (omega arith) ∙ each-before-zero F l); same = refl; whole = omega arith }
 
-  module _ {row : List Float} {c : ℕ} (u : Done q m2 dy2 cx x0 p l row c) where
+  module _ {row : List Float} {c : ℕ} (u : Done t x0 p l row c) where
     -- n whole pixels more lie in the row
     pub row_inside : (n : ℕ) → c + n ≤ length l / p → c * p + n * p ≤ length l
     row_inside n h = omega (arith, mul-le-mul_right {m = c + n} {n = length l / p} p h, add-mul c n p, div-mul-le_self (length l) p)
 
     -- the gain of a sample in a block of the columns from x0 + c on is that of its column
     gain-in : (old : List Float) (k : ℕ) → 1 ≤ p → c * p ≤ k → k < c * p + length old * p
-        → get_or (each (wide_at q m2 dy2 cx (x0 + c)) old) ((k - c * p) / p) nan ≡ wide_gain q m2 dy2 (sub binary64 (whole_in binary64 (x0 + k / p)) cx)
+        → get_or (each (wide_at t (x0 + c)) old) ((k - c * p) / p) nan ≡ wide_gain t (sub binary64 (whole_in binary64 (x0 + k / p)) t.centre)
     unfolding wide_at
     gain-in old k pos low high =
-        let column : k / p ≡ (k - c * p) / p + c = ap (λ (t : ℕ). t / p) (omega arith) ∙ add-mul-div_right (k - c * p) c pos in
-        get_or-each (wide_at q m2 dy2 cx (x0 + c)) old ((k - c * p) / p) nan ((div-lt_iff_lt-mul pos).1 (omega arith))
-        ∙ ap (λ (m : ℕ). wide_gain q m2 dy2 (sub binary64 (whole_in binary64 m) cx)) (omega (arith, column))
+        let column : k / p ≡ (k - c * p) / p + c = ap (λ (z : ℕ). z / p) (omega arith) ∙ add-mul-div_right (k - c * p) c pos in
+        get_or-each (wide_at t (x0 + c)) old ((k - c * p) / p) nan ((div-lt_iff_lt-mul pos).1 (omega arith))
+        ∙ ap (λ (m : ℕ). wide_gain t (sub binary64 (whole_in binary64 m) t.centre)) (omega (arith, column))
 
     raised-in : (old : List Float) (k : ℕ) (v : Float) → 1 ≤ p → c * p ≤ k → k < c * p + length old * p
-        → raised q m2 dy2 cx x0 p k v ≡ raised_by (each (wide_at q m2 dy2 cx (x0 + c)) old) (c * p) p k v
+        → raised t x0 p k v ≡ raised_by (each (wide_at t (x0 + c)) old) (c * p) p k v
     unfolding raised gain_of raised_by
     raised-in old k v pos low high =
-        let gains : List Float = each (wide_at q m2 dy2 cx (x0 + c)) old in
+        let gains : List Float = each (wide_at t (x0 + c)) old in
         let n : length gains * p ≡ length old * p = ap (λ (m : ℕ). m * p) (length-each _ old) in
         ap (λ (g : Float). mul binary32 v (narrow g)) (sym (gain-in old k pos low high))
         ∙ sym (between_in (c * p) (c * p + length gains * p) (λ m w. mul binary32 w (narrow (get_or gains ((m - c * p) / p) nan))) k v low (omega (arith, n)))
 
     -- one block more, of n pixels; `old` is what stood where its gains do
     pub row_next : {row' gains : List Float} {n : ℕ} (old : List Float) → 1 ≤ p → length old ≡ n → c + n ≤ length l / p
-        → gains ≡ each (wide_at q m2 dy2 cx (x0 + c)) old → row' ≡ each (raised_by gains (c * p) p) row → Done q m2 dy2 cx x0 p l row' (c + n)
+        → gains ≡ each (wide_at t (x0 + c)) old → row' ≡ each (raised_by gains (c * p) p) row → Done t x0 p l row' (c + n)
     unfolding raised_by
     row_next {row'} {gains} {n} old pos size h filled grown =
         record {
           done = grown
               ∙ ap₂ (λ (g r : List Float). each (raised_by g (c * p) p) r) filled u.done
-              ∙ advance nan (raised q m2 dy2 cx x0 p) G (c * p) ((c + n) * p) (c * p) (c * p + length W * p) l
+              ∙ advance nan (raised t x0 p) G (c * p) ((c + n) * p) (c * p) (c * p + length W * p) l
               (omega arith) (omega (arith, wide, add-mul c n p)) (omega (arith, add-mul c n p))
               (λ k v low high r. raised-in old k v pos low (omega (arith, all, add-mul c n p)));
           same = ap length grown ∙ length-each _ row ∙ u.same;
@@ -168,7 +153,7 @@ module _ {q : Radial} {m2 dy2 cx : Float} {x0 p : ℕ} {l : List Float} where
         }
       where
         W : List Float
-        W = each (wide_at q m2 dy2 cx (x0 + c)) old
+        W = each (wide_at t (x0 + c)) old
 
         G : ℕ → Float → Float
         G k v = mul binary32 v (narrow (get_or W ((k - c * p) / p) nan))
@@ -180,6 +165,6 @@ module _ {q : Radial} {m2 dy2 cx : Float} {x0 p : ℕ} {l : List Float} where
         wide = ap (λ (m : ℕ). m * p) (length-each _ old ∙ size)
 
     -- all whole pixels are done
-    pub row-end : length l / p ≤ c → row ≡ each (whole_ones q m2 dy2 cx x0 p (length l)) l
+    pub row-end : length l / p ≤ c → row ≡ each (whole_ones t x0 p (length l)) l
     unfolding whole_ones
-    row-end h = u.done ∙ ap (λ (k : ℕ). each (before (k * p) (raised q m2 dy2 cx x0 p)) l) (omega (arith, u.whole))
+    row-end h = u.done ∙ ap (λ (k : ℕ). each (before (k * p) (raised t x0 p)) l) (omega (arith, u.whole))

@@ -14,6 +14,7 @@ use Rattle.pointwise.proofs.Each.{below_or, each-agree, each_none}
 use Rattle.pointwise.proofs.Parts.{before-in, before-out}
 use Rattle.num_convert.specs.Convert.{whole_in}
 use Rattle.dng.specs.declared.Radial.{Radial}
+use Rattle.row_vignette.specs.declared.Line.{Line}
 use Rattle.dng.specs.Select.{whole_pixel, on_row}
 use Rattle.dng.specs.Value.{Frame, square, centre_x, centre_y, m2_of, usable, vignetted, vignette}
 use Rattle.row_vignette.specs.Reach.{frame_at, Reaches}
@@ -83,15 +84,19 @@ module _ (fr : Frame) (q : Radial) (x0 p y : ℕ) (l : List Float) where
       each_none (on_row x0 p y (length l) (vignette fr q)) l
       (λ i v k. vignette-unusable fr q y (x0 + i / p) (i % p) v (whole_pixel p (length l) i) u)
 
-  -- the centre and dy² worked out once: the pixels raised are the vignette's
+  -- the centre and dy² worked out once
+  abbrev line : Line
+  line = record { radial = q; m2 = m2_of fr q; dy2 = square (sub binary64 (whole_in binary64 y) (centre_y fr q)); centre = centre_x fr q }
+
+  -- so the pixels raised are the vignette's
   raised_is : (i : ℕ) (v : Float)
-      → raised q (m2_of fr q) (square (sub binary64 (whole_in binary64 y) (centre_y fr q))) (centre_x fr q) x0 p i v
+      → raised line x0 p i v
       ≡ vignetted fr q y (x0 + i / p) v
   unfolding raised gain_of wide_gain vignetted
   raised_is i v = refl
 
   pub row-raised : 1 ≤ p → y < fr.full_height → usable (m2_of fr q) ≡ true
-      → each (whole_ones q (m2_of fr q) (square (sub binary64 (whole_in binary64 y) (centre_y fr q))) (centre_x fr q) x0 p (length l)) l
+      → each (whole_ones line x0 p (length l)) l
       ≡ each (on_row x0 p y (length l) (vignette fr q)) l
   unfolding whole_ones on_row
   row-raised pos h u = each-agree (before (n / p * p) F) (on_row x0 p y n (vignette fr q)) l at
@@ -100,7 +105,7 @@ module _ (fr : Frame) (q : Radial) (x0 p y : ℕ) (l : List Float) where
       n = length l
 
       F : ℕ → Float → Float
-      F = raised q (m2_of fr q) (square (sub binary64 (whole_in binary64 y) (centre_y fr q))) (centre_x fr q) x0 p
+      F = raised line x0 p
 
       at : (i : ℕ) (v : Float) → i < n → before (n / p * p) F i v ≡ on_row x0 p y n (vignette fr q) i v
       at i v k =
@@ -117,7 +122,10 @@ module _ (fr : Frame) (q : Radial) (x0 p y : ℕ) (l : List Float) where
 -- the same with what the code has worked out: the full width w and height h and the row as f64, and m2
 pub row_is : (q : Radial) (x0 p y fw fh : ℕ) (l : List Float) {m2 w h at : Float} → 1 ≤ p → y < fh → Reaches q m2 fw fh
     → w ≡ whole_in binary64 fw → h ≡ whole_in binary64 fh → at ≡ whole_in binary64 y → (scale : Float)
-    → each (whole_ones q m2 (square (sub binary64 at (mul binary64 q.cy h))) (mul binary64 q.cx w) x0 p (length l)) l
+    → each
+    (whole_ones (record { radial = q; m2 = m2; dy2 = square (sub binary64 at (mul binary64 q.cy h)); centre = mul binary64 q.cx w }) x0 p
+    (length l))
+    l
     ≡ each (on_row x0 p y (length l) (vignette (frame_at scale fw fh) q)) l
 row_is q x0 p y fw fh l {m2} {w} {h} {at} pos below r ew eh ea scale =
     let fr : Frame = frame_at scale fw fh in

@@ -1,6 +1,6 @@
 -- Worked values of the definitions that the contracts cite, which the checker computes: a frame of 2×2 with its centre
 -- in the middle.
-use Rattle.std.specs.Prelude.{ℕ, true, false, [], ◌∷◌, ◌≡◌, refl, pos, Float}
+use Rattle.std.specs.Prelude.{ℕ, true, false, [], ◌∷◌, ◌≡◌, refl, pos, Float, Some, None}
 use Rattle.std.specs.Float.{nan, inf, fin, binary64}
 use Rattle.std.specs.Float.Ieee.{of_bits, of_int, round, add, sub, mul, div, lt}
 use mathlib.Core.Path.{sym, ap, ap₂, ◌∙◌}
@@ -10,7 +10,6 @@ use Rattle.num_convert.specs.Convert.{whole_in}
 use Rattle.dng.specs.declared.Radial.{Radial}
 use Rattle.dng.specs.Select.{on_row, whole_pixel}
 use Rattle.dng.specs.Value.{Frame, nought, larger, farthest, usable, radial_gain, m2_of, vignetted, vignette}
-use Rattle.row_vignette.specs.declared.Reach.TheVariants.{Usable, Unusable}
 use Rattle.row_vignette.specs.Reach.{frame_at, reach_of}
 
 abbrev whole : ℕ → Float
@@ -40,7 +39,7 @@ pub record Worked : Type 0 where
   -- a NaN is passed over: what stood before stays
   pub nan-passed : larger (whole 5) nan ≡ whole 5
   pub nan-centre : farthest nan (whole 1) (whole 2) (whole 2) ≡ nought
-  pub nan-centre-unusable : reach_of (m2_of small (radial (whole 1) nought nought nought nought nan half)) ≡ Unusable
+  pub nan-centre-unusable : reach_of (m2_of small (radial (whole 1) nought nought nought nought nan half)) ≡ None
   -- an infinite centre is as far from each corner
   pub infinite-centre : m2_of small (radial (whole 1) nought nought nought nought (inf false) half) ≡ inf false
   -- an empty frame has no corner away from its centre
@@ -51,7 +50,7 @@ pub record Worked : Type 0 where
   pub across-3 : farthest nought (whole 2) (whole 2) (whole 2) ≡ whole 8
   pub across-4 : farthest (whole 2) (whole 2) (whole 2) (whole 2) ≡ whole 8
   -- 1² + 1²
-  pub m2-middle : reach_of (m2_of small middle) ≡ Usable (whole 2)
+  pub m2-middle : reach_of (m2_of small middle) ≡ Some (whole 2)
   -- 1 + 2·(1 + 2·(2 + 2·(3 + 2·(4 + 2·5))))
   pub nested : radial_gain (radial (whole 1) (whole 2) (whole 3) (whole 4) (whole 5) half half) (whole 2) ≡ whole 259
   -- the gain is 2 at the corner (0, 0), and 1 at the centre (1, 1)

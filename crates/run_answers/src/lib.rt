@@ -5,7 +5,7 @@ ghost use Rattle.std.specs.Prelude.{◌≡◌};
 ghost use Rattle.dng.specs.List.{reason_number};
 ghost use Rattle.dng.specs.Answer.{in_range, row_in_range, malformed_numbers, numbers_of, reading_numbers_of, row_numbers_of};
 
-use dng::{Answer, Numbers, Reading, Reason, Refusal, RowAnswer, RowWindow, Settings, Window};
+use dng::{Answer, Malformed, Numbers, Reason, Refusal, RowAnswer, RowWindow, Settings, Window};
 
 // Whether every number of a window and a period is in its range: refusal 1 where not.
 pub fn in_range(w: Window, period: usize) -> bool
@@ -123,12 +123,12 @@ pub fn numbers(a: Answer) -> Numbers
 }
 
 // The same for reading alone, and for a row.
-pub fn reading_numbers(a: Reading) -> Numbers
+pub fn reading_numbers(a: Result<usize, Malformed>) -> Numbers
     ensures { result ≡ reading_numbers_of a }
 {
     match a {
-        Reading::Whole { opcodes: _ } => refused(0, 0),
-        Reading::Malformed { after, why } => malformed_numbers(after, why),
+        Ok(_) => refused(0, 0),
+        Err(m) => malformed_numbers(m.after, m.why),
     }
 }
 

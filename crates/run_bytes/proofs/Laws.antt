@@ -10,42 +10,29 @@ use lib.Seq.{ext_get_or}
 use Rattle.num_words.specs.Words.{put}
 use Rattle.pointwise.specs.Points.{each, each_from, between}
 use Rattle.pointwise.proofs.Each.{length-each, get_or-each, each-agree}
-use Rattle.pointwise.proofs.Parts.{between_in, each-between-empty, store}
+use Rattle.pointwise.proofs.Parts.{between_in, store}
 use Rattle.run_bytes.specs.Samples.{decoded, byte_of, encoded, cleared}
 
 module _ {A : Type 0} where
-  -- how far a loop has come: the places before i are f's, and no place is lost
-  pub record Till (f : ℕ → A) (old now : List A) (i : ℕ) : Type 0 where
-    pub held : now ≡ each (between 0 i (λ j v. f j)) old
-    pub many : length now ≡ length old
-    pub reach : i ≤ length old
-
-  pub start : (f : ℕ → A) (old : List A) → Till f old old 0
-  start f old =
-      record { held = sym (each-between-empty 0 0 (λ j v. f j) old (omega arith)); many = refl; reach = omega arith }
-
-  -- a store at i
-  pub next : (d : A) (f : ℕ → A) (old now : List A) (i : ℕ) (v : A) → Till f old now i → i < length now → v ≡ f i
-      → Till f old (set now i v) (i + 1)
+  -- a store at i, where the places before i are f's
+  pub next : (d : A) (f : ℕ → A) (old now : List A) (i : ℕ) (v : A) → now ≡ each (between 0 i (λ j u. f j)) old → i < length now → v ≡ f i
+      → set now i v ≡ each (between 0 (i + 1) (λ j u. f j)) old
   next d f old now i v t h e =
-      let q : i < length old = omega (arith, t.many) in
-      let s : set now i v ≡ each (between 0 (i + 1) (λ j u. f j)) old = store d (λ j u. f j) 0 i old now v t.held e (omega arith) q in
-      record { held = s; many = ap length s ∙ length-each (between 0 (i + 1) (λ j u. f j)) old; reach = omega arith }
+      store d (λ j u. f j) 0 i old now v t e (omega arith) (rw (sym (ap length t ∙ length-each _ old)) h)
 
-  all : (f : ℕ → A) (old now : List A) (i : ℕ) → Till f old now i → length now ≤ i → now ≡ each (λ j v. f j) old
-  all f old now i t h =
-      t.held ∙ each-agree (between 0 i (λ j v. f j)) (λ j v. f j) old
-      (λ j v q. between_in 0 i (λ j v. f j) j v (omega arith) (omega (arith, t.many)))
+  all : (f : ℕ → A) (old : List A) (i : ℕ) → length old ≤ i → each (between 0 i (λ j v. f j)) old ≡ each (λ j v. f j) old
+  all f old i h =
+      each-agree (between 0 i (λ j v. f j)) (λ j v. f j) old (λ j v q. between_in 0 i (λ j v. f j) j v (omega arith) (omega arith))
 
   -- the room is full: the samples
-  pub decoded-all : (f : ℕ → A) (old now : List A) (i : ℕ) → Till f old now i → length now ≤ i → now ≡ decoded f old
+  pub decoded-all : (f : ℕ → A) (old now : List A) (i : ℕ) → now ≡ each (between 0 i (λ j v. f j)) old → length old ≤ i → now ≡ decoded f old
   unfolding decoded
-  decoded-all f old now i t h = all f old now i t h
+  decoded-all f old now i t h = t ∙ all f old i h
 
   -- the room is clear
-  pub cleared-all : (z : A) (old now : List A) (i : ℕ) → Till (λ j. z) old now i → length now ≤ i → now ≡ cleared z old
+  pub cleared-all : (z : A) (old now : List A) (i : ℕ) → now ≡ each (between 0 i (λ j v. z)) old → length old ≤ i → now ≡ cleared z old
   unfolding each cleared
-  cleared-all z old now i t h = all (λ j. z) old now i t h ∙ from 0 old
+  cleared-all z old now i t h = t ∙ all (λ j. z) old i h ∙ from 0 old
     where
       from : (k : ℕ) (l : List A) → each_from (λ j v. z) k l ≡ replicate (length l) z
       from k [] = refl
@@ -75,16 +62,6 @@ module _ {A : Type 0} where
     abbrev pub at : ℕ → ℕ → ℕ
     at j v = byte_of size bits none s j
 
-    -- the bytes of the samples before k are there
-    pub record Put (old now : List ℕ) (k : ℕ) : Type 0 where
-      pub held : now ≡ each (between 0 (k * size) at) old
-      pub many : length now ≡ length old
-      pub reach : k ≤ length s
-
-    pub put-start : (old : List ℕ) → Put old old 0
-    put-start old =
-        record { held = sym (each-between-empty 0 (0 * size) at old (omega arith)); many = refl; reach = omega arith }
-
     byte-is : (k m : ℕ) → m < size → bits (get_or s k none) / 256 ^ m % 256 ≡ byte_of size bits none s (k * size + m)
     unfolding byte_of
     byte-is k m h =
@@ -101,22 +78,17 @@ module _ {A : Type 0} where
         ∙ ap (λ (n : ℕ). each (between 0 n at) old) (omega arith)
 
     -- one sample more
-    pub put_next : (old now after : List ℕ) (k : ℕ) → Put old now k → length s * size ≤ length old → k < length s
-        → after ≡ put size now (k * size) (bits (get_or s k none)) → Put old after (k + 1)
-    put_next old now after k t room h e =
+    pub put_next : (old now : List ℕ) (k : ℕ) → now ≡ each (between 0 (k * size) at) old → length s * size ≤ length old → k < length s
+        → put size now (k * size) (bits (get_or s k none)) ≡ each (between 0 ((k + 1) * size) at) old
+    put_next old now k t room h =
         let le : suc k * size ≤ length s * size = mul-le-mul_right size h in
         let fits : k * size + size ≤ length old = omega (arith, suc-mul k size) in
-        let s' : after ≡ each (between 0 (k * size + size) at) old = e ∙ some old now k size t.held fits (omega arith) in
-        record {
-          held = s' ∙ ap (λ (n : ℕ). each (between 0 n at) old) (sym (suc-mul k size) ∙ ap (λ (n : ℕ). n * size) (omega arith));
-          many = ap length s' ∙ length-each (between 0 (k * size + size) at) old;
-          reach = omega arith;
-        }
+        some old now k size t fits (omega arith)
+        ∙ ap (λ (n : ℕ). each (between 0 n at) old) (sym (suc-mul k size) ∙ ap (λ (n : ℕ). n * size) (omega arith))
 
-    pub encoded-all : (old now : List ℕ) (k : ℕ) → Put old now k → length s ≤ k → now ≡ encoded size bits none s old
+    pub encoded-all : (old now : List ℕ) (k : ℕ) → now ≡ each (between 0 (k * size) at) old → k ≡ length s → now ≡ encoded size bits none s old
     unfolding encoded
-    encoded-all old now k t h =
-        t.held ∙ ap (λ (n : ℕ). each (between 0 (n * size) at) old) (let e : k ≡ length s = omega (arith, t.reach) in e)
+    encoded-all old now k t h = t ∙ ap (λ (n : ℕ). each (between 0 (n * size) at) old) h
 
     pub length-encoded : (old : List ℕ) → length (encoded size bits none s old) ≡ length old
     unfolding encoded

@@ -2,76 +2,115 @@
 // room cleared.
 #![tactic(auto)]
 
-ghost use Rattle.std.specs.Prelude.{◌≡◌, ◌*◌, ◌≤◌, length};
-ghost use Rattle.std.specs.Float.{nan, binary32};
+ghost use Rattle.std.specs.Prelude.{◌≡◌, ℕ, ◌*◌, ◌≤◌, List, length};
+ghost use Rattle.std.proofs.Common.{rules};
+ghost use Rattle.std.specs.Float.{binary32};
 ghost use Rattle.std.specs.Float.Ieee.{to_bits};
+ghost use Rattle.num_words.specs.Words.{put};
 ghost use Rattle.dng.specs.Value.{nought};
 ghost use Rattle.run_bytes.specs.Samples.{float_at, whole_at, decoded, encoded, cleared};
 
-// ---- f32
+use sample::Sample;
 
-pub fn decode_f32(bytes: &[u8], room: &mut [f32])
-    requires { length room.old * 4 ≤ length bytes.now }
-    ensures { room.new ≡ decoded (float_at bytes.now) room.old }
-{
-    let mut i = 0;
-    while i < room.len() {
-        room[i] = num_words::f32_from(bytes, i * 4);
-        i += 1;
+// A kind of sample as its bytes.
+pub trait InBytes: Sample {
+    // How many bytes a sample takes.
+    const SIZE: usize;
+
+    const ZERO: Self;
+
+    ghost SIZE: { ℕ };
+
+    ghost ZERO: { Self };
+
+    // the sample i of the bytes
+    ghost at: { List ℕ → ℕ → Self };
+
+    // a sample's pattern
+    ghost bits: { Self → ℕ };
+
+    fn from_bytes(bytes: &[u8], i: usize) -> Self
+        requires { i * SIZE ≤ length bytes.now }
+        ensures { result ≡ at bytes.now i };
+
+    fn put(self, bytes: &mut [u8], i: usize)
+        requires { i * SIZE ≤ length bytes.old }
+        ensures { bytes.new ≡ put SIZE bytes.old (i * SIZE) (bits self) };
+
+    ghost some: { 1 ≤ SIZE };
+}
+
+impl InBytes for f32 {
+    const SIZE: usize = 4;
+
+    const ZERO: f32 = 0.0;
+
+    ghost SIZE = { 4 };
+
+    ghost ZERO = { nought };
+
+    ghost at = { float_at };
+
+    ghost bits = { to_bits binary32 };
+
+    ghost some = { Prim.search rules };
+
+    fn from_bytes(bytes: &[u8], i: usize) -> f32 {
+        num_words::f32_from(bytes, i * 4)
+    }
+
+    fn put(self, bytes: &mut [u8], i: usize) {
+        num_words::put_f32(bytes, i * 4, self);
     }
 }
 
-pub fn encode_f32(room: &[f32], bytes: &mut [u8])
-    requires { length room.now * 4 ≤ length bytes.old }
-    ensures { bytes.new ≡ encoded 4 (to_bits binary32) nan room.now bytes.old }
-{
-    let mut i = 0;
-    while i < room.len() {
-        num_words::put_f32(bytes, i * 4, room[i]);
-        i += 1;
+impl InBytes for u16 {
+    const SIZE: usize = 2;
+
+    const ZERO: u16 = 0;
+
+    ghost SIZE = { 2 };
+
+    ghost ZERO = { 0 };
+
+    ghost at = { whole_at };
+
+    ghost bits = { λ n. n };
+
+    ghost some = { Prim.search rules };
+
+    fn from_bytes(bytes: &[u8], i: usize) -> u16 {
+        num_words::u16_from(bytes, i * 2)
+    }
+
+    fn put(self, bytes: &mut [u8], i: usize) {
+        num_words::put_u16(bytes, i * 2, self);
     }
 }
 
-pub fn clear_f32(room: &mut [f32])
-    ensures { room.new ≡ cleared nought room.old }
+pub fn decode<S: InBytes>(bytes: &[u8], room: &mut [S])
+    requires { length room.old * S.SIZE ≤ length bytes.now }
+    ensures { room.new ≡ decoded (S.at bytes.now) room.old }
 {
-    let mut i = 0;
-    while i < room.len() {
-        room[i] = 0.0;
-        i += 1;
+    for i in 0..room.len() {
+        room[i] = S::from_bytes(bytes, i);
     }
 }
 
-// ---- u16
-
-pub fn decode_u16(bytes: &[u8], room: &mut [u16])
-    requires { length room.old * 2 ≤ length bytes.now }
-    ensures { room.new ≡ decoded (whole_at bytes.now) room.old }
+pub fn encode<S: InBytes>(room: &[S], bytes: &mut [u8])
+    requires { length room.now * S.SIZE ≤ length bytes.old }
+    ensures { bytes.new ≡ encoded S.SIZE S.bits S.none room.now bytes.old }
 {
-    let mut i = 0;
-    while i < room.len() {
-        room[i] = num_words::u16_from(bytes, i * 2);
-        i += 1;
+    for i in 0..room.len() {
+        room[i].put(bytes, i);
     }
 }
 
-pub fn encode_u16(room: &[u16], bytes: &mut [u8])
-    requires { length room.now * 2 ≤ length bytes.old }
-    ensures { bytes.new ≡ encoded 2 (λ n. n) 0 room.now bytes.old }
+pub fn clear<S: InBytes>(room: &mut [S])
+    ensures { room.new ≡ cleared S.ZERO room.old }
 {
-    let mut i = 0;
-    while i < room.len() {
-        num_words::put_u16(bytes, i * 2, room[i]);
-        i += 1;
-    }
-}
-
-pub fn clear_u16(room: &mut [u16])
-    ensures { room.new ≡ cleared 0 room.old }
-{
-    let mut i = 0;
-    while i < room.len() {
-        room[i] = 0;
-        i += 1;
+    // `fill` asks for a clone that cannot fail, and no bound says that
+    for v in room.iter_mut() {
+        *v = S::ZERO;
     }
 }

@@ -2,119 +2,134 @@
 // run that may go on cannot be refused by them any more.
 #![tactic(auto)]
 
-ghost use Rattle.std.specs.Prelude.{◌≡◌};
-ghost use Rattle.dng.specs.Run.{takes16, skipped, skipped16};
+ghost use Rattle.std.specs.Prelude.{◌≡◌, ℕ, Bool, List, length};
+ghost use Rattle.std.proofs.lemmas.List.Edits.{sets};
+ghost use Rattle.dng.specs.declared.Class.{Class};
+ghost use Rattle.dng.specs.List.{Item};
+ghost use Rattle.dng.specs.Run.{kept_in, takes16, skipped, skipped16, names_of};
 ghost use Rattle.dng.specs.Answer.{takes_all};
-ghost use Rattle.list_names.specs.Names.{skipped_in};
-ghost use Rattle.run_refuse.specs.Plans.{takes_in, plan_for, form_plan, plan_of, row_plan_for, row_plan_of};
+ghost use Rattle.list_survey.specs.Survey.{survey_on};
+ghost use Rattle.run_refuse.specs.Plans.{plan_for, plan_of, row_plan_of};
 
-use dng::{Answer, Reading, RowAnswer, RowWindow, Window};
+use dng::{Answer, RowAnswer, RowWindow, Window};
 use list_survey::Survey;
+use sample::Sample;
 
-// What a run is to do: answer so and leave everything, or go on, with so many names to write at its end.
-#[derive(Clone, Copy)]
-pub enum Plan {
-    Refuse { answer: Answer },
-    Go { names: usize },
+// The form of a run that goes with a kind of sample: which lists it takes, and which opcodes it skips and names.
+pub trait Form: Sample {
+    ghost takes: { List Item → Bool };
+
+    ghost skip: { Class → Bool };
+
+    fn takes(s: Survey) -> bool
+        ensures { (n : ℕ) (is : List Item) → s ≡ survey_on n is → result ≡ takes is };
+
+    fn skips(s: Survey) -> usize
+        ensures { (n : ℕ) (is : List Item) → s ≡ survey_on n is → result ≡ length (names_of skip is) };
+
+    fn write_names(list: &[u8], names: &mut [u8], preview: bool)
+        ensures { names.new ≡ sets names.old 0
+            (names_of skip (kept_in preview list.now)) };
 }
 
-// The same for a row, which names nothing and says how many opcodes were skipped.
-#[derive(Clone, Copy)]
-pub enum RowPlan {
-    Refuse { answer: RowAnswer },
-    Go { skipped: usize },
+// The f32 run takes every list.
+impl Form for f32 {
+    ghost takes = { takes_all };
+
+    ghost skip = { skipped };
+
+    fn takes(_s: Survey) -> bool {
+        true
+    }
+
+    fn skips(s: Survey) -> usize {
+        s.skips
+    }
+
+    fn write_names(list: &[u8], names: &mut [u8], preview: bool) {
+        list_names::write_names(list, names, preview);
+    }
+}
+
+// The whole-number form.
+impl Form for u16 {
+    ghost takes = { takes16 };
+
+    ghost skip = { skipped16 };
+
+    fn takes(s: Survey) -> bool {
+        s.takes16
+    }
+
+    fn skips(s: Survey) -> usize {
+        s.skips16
+    }
+
+    fn write_names(list: &[u8], names: &mut [u8], preview: bool) {
+        list_names::write_names16(list, names, preview);
+    }
 }
 
 // 3 and 4, of a list that is read whole and has so many names.
-fn settle_read(taken: bool, names: usize, room: usize) -> Plan
+fn settle_read(taken: bool, names: usize, room: usize) -> Result<usize, Answer>
     ensures { result ≡ plan_for taken names room }
 {
     if !taken {
-        return Plan::Refuse {
-            answer: Answer::NotTaken,
-        };
+        return Err(Answer::NotTaken);
     }
     if room < names {
-        return Plan::Refuse {
-            answer: Answer::Names,
-        };
+        return Err(Answer::Names);
     }
-    Plan::Go { names }
+    Ok(names)
 }
 
-// `whole` asks for the whole-number form; the f32 run takes every list.
-fn settle_form(s: Survey, room: usize, whole: bool) -> Plan
-    ensures { result ≡ form_plan whole s room }
-{
-    if whole {
-        settle_read(s.takes16, s.skips16, room)
-    } else {
-        settle_read(true, s.skips, room)
-    }
-}
-
-// The ranges come before the list is looked at.
-fn settle(list: &[u8], w: Window, period: usize, preview: bool, room: usize, whole: bool) -> Plan
-    ensures { result ≡ plan_of (takes_in whole) (skipped_in whole) list.now w period preview room }
+// Answer so and leave everything; or go on, with so many names to write at the end. `room` is the length of the skip
+// buffer. The ranges come before the list is looked at.
+pub fn settle<S: Form>(
+    list: &[u8],
+    w: Window,
+    period: usize,
+    preview: bool,
+    room: usize,
+) -> Result<usize, Answer>
+    ensures { result ≡ plan_of S.takes S.skip list.now w period preview room }
 {
     if !run_answers::in_range(w, period) {
-        return Plan::Refuse {
-            answer: Answer::Range,
-        };
+        return Err(Answer::Range);
     }
     let found = list_survey::read(list, preview);
-    let survey = found.survey;
-    let reading = found.reading;
-    match reading {
-        Reading::Whole { opcodes: _ } => settle_form(survey, room, whole),
-        Reading::Malformed { after, why } => Plan::Refuse {
-            answer: Answer::Malformed { entry: after, why },
-        },
+    if let Err(m) = found.reading {
+        return Err(Answer::Malformed {
+            entry: m.after,
+            why: m.why,
+        });
     }
+    settle_read(S::takes(found.survey), S::skips(found.survey), room)
 }
 
-// The f32 run; `room` is the length of the skip buffer.
-pub fn settle_f32(list: &[u8], w: Window, period: usize, preview: bool, room: usize) -> Plan
-    ensures { result ≡ plan_of takes_all skipped list.now w period preview room }
-{
-    settle(list, w, period, preview, room, false)
-}
-
-// The whole-number run.
-pub fn settle_u16(list: &[u8], w: Window, period: usize, preview: bool, room: usize) -> Plan
-    ensures { result ≡ plan_of takes16 skipped16 list.now w period preview room }
-{
-    settle(list, w, period, preview, room, true)
-}
-
-// A row of a list that is read whole: 3 alone is left.
-fn settle_row_read(s: Survey) -> RowPlan
-    ensures { result ≡ row_plan_for s.takes_rows s.skips }
-{
-    if !s.takes_rows {
-        return RowPlan::Refuse {
-            answer: RowAnswer::NotTaken,
-        };
-    }
-    RowPlan::Go { skipped: s.skips }
-}
-
-// A lent row of n samples, the row y of the image.
-pub fn settle_row(list: &[u8], w: RowWindow, preview: bool, y: usize, n: usize) -> RowPlan
+// The same for a lent row of n samples, the row y of the image. It names nothing and says how many opcodes were
+// skipped.
+pub fn settle_row(
+    list: &[u8],
+    w: RowWindow,
+    preview: bool,
+    y: usize,
+    n: usize,
+) -> Result<usize, RowAnswer>
     ensures { result ≡ row_plan_of list.now w preview y n }
 {
     if !run_answers::row_in_range(w, y, n) {
-        return RowPlan::Refuse {
-            answer: RowAnswer::Range,
-        };
+        return Err(RowAnswer::Range);
     }
     let found = list_survey::read(list, preview);
-    let survey = found.survey;
-    let reading = found.reading;
-    match reading {
-        Reading::Whole { opcodes: _ } => settle_row_read(survey),
-        Reading::Malformed { after, why } => RowPlan::Refuse {
-            answer: RowAnswer::Malformed { entry: after, why },
-        },
+    if let Err(m) = found.reading {
+        return Err(RowAnswer::Malformed {
+            entry: m.after,
+            why: m.why,
+        });
     }
+    if !found.survey.takes_rows {
+        return Err(RowAnswer::NotTaken);
+    }
+    Ok(found.survey.skips)
 }

@@ -21,8 +21,7 @@ use Rattle.dng.specs.Value.{Frame, rule_of}
 use Rattle.dng.specs.Run.{kept_of, kept_in, row_on}
 use Rattle.dng.specs.Answer.{row_in_range, RowOut, row_out}
 use Rattle.dng.specs.Bounds.{RowFits}
-use Rattle.run_refuse.specs.declared.RowPlan.{RowPlan}
-use Rattle.run_refuse.specs.declared.RowPlan.TheVariants as RP
+use Rattle.std.specs.Prelude.{Result, Ok, Err}
 use Rattle.run_refuse.specs.Plans.{row_plan_of}
 use Rattle.run_refuse.proofs.Laws.{row-refuses, row-performs, row_settled}
 use Rattle.row_opcode.specs.declared.Place.{Place}
@@ -133,13 +132,13 @@ module _ (w : RowWindow) (y n : ℕ) (h : row_in_range w y n ≡ true) where
 -- ---- what a plan makes of the row
 
 module _ (w : RowWindow) (scale : Float) (preview : Bool) (y : ℕ) (list : List ℕ) (row : List Float)
-    {p : RowPlan} (is : p ≡ row_plan_of list w preview y (length row)) where
-  pub refused : {a : RowAnswer} → p ≡ RP.Refuse a → RowRan (row_out w scale preview y list row) a row
+    {p : Result ℕ RowAnswer} (is : p ≡ row_plan_of list w preview y (length row)) where
+  pub refused : {a : RowAnswer} → p ≡ Err a → RowRan (row_out w scale preview y list row) a row
   refused q =
       let e = row-refuses w scale preview y list row (sym is ∙ q) in
       record { answered = sym (ap (λ (o : RowOut). o.answer) e); left = sym (ap (λ (o : RowOut). o.row) e) }
 
-  module _ {n : ℕ} (q : p ≡ RP.Go n) where
+  module _ {n : ℕ} (q : p ≡ Ok n) where
     pub goes-narrow : Narrow w y
     goes-narrow = narrow w y (length row) (row_settled list w preview y (length row) (sym is ∙ q)).in-range
 
@@ -184,6 +183,6 @@ module _ (w : RowWindow) (scale : Float) (preview : Bool) (y : ℕ) (list : List
   pub kept : RowRan (row_out w scale preview y list row) r row' → ((n : ℕ) → r ≡ Row.Done n → ⊥) → row' ≡ row
   kept ran not = go (row_plan_of list w preview y (length row)) refl
     where
-      go : (p : RowPlan) → p ≡ row_plan_of list w preview y (length row) → row' ≡ row
-      go (RP.Refuse a) e = (determined ran (refused w scale preview y list row e refl)).rows
-      go (RP.Go n) e = absurd (not n (ran.answered ∙ ap (λ (o : RowOut). o.answer) (row-performs w scale preview y list row (sym e))))
+      go : (p : Result ℕ RowAnswer) → p ≡ row_plan_of list w preview y (length row) → row' ≡ row
+      go (Err a) e = (determined ran (refused w scale preview y list row e refl)).rows
+      go (Ok n) e = absurd (not n (ran.answered ∙ ap (λ (o : RowOut). o.answer) (row-performs w scale preview y list row (sym e))))

@@ -12,10 +12,9 @@ ghost use Rattle.dng.specs.Bounds.{bounded, RowFits};
 ghost use Rattle.win_gain.specs.Columns.{MapFits, gain_rule};
 ghost use Rattle.run_row.specs.Rows.{RowRan, Narrow, place_of, Spans, Begun, every_row, window_of, frame_of};
 
-use dng::{Cursor, Entry, Grid, Opcode, Region, RowAnswer, RowWindow, Step, Window};
+use dng::{Cursor, Entry, Opcode, Region, RowAnswer, RowWindow, Window};
 use row_opcode::Place;
-use run_refuse::RowPlan;
-use win_gain::Gain;
+use win_gain::GainMap;
 
 // The row's place in the image. Its numbers are in range, so that none is cut.
 fn place_of(w: RowWindow, y: usize) -> Place
@@ -69,7 +68,7 @@ fn columns_of(len: usize, planes: u32, width: usize) -> usize
     if width * p <= len {
         return width;
     }
-    num_small::larger((len + p - 1) / p, 1)
+    ((len + p - 1) / p).max(1)
 }
 
 // The region, of a row that is known to be selected: at a row pitch of 1 nothing is divided again.
@@ -90,40 +89,23 @@ fn every_row(r: Region) -> Region
 
 // A gain map on all planes, by blocks of the columns that the row has. A row that has no sample of the region is left
 // first.
-fn gain_planes(
-    row: &mut [f32],
-    g: Place,
-    width: usize,
-    r: Region,
-    body: &[u8],
-    points_v: u32,
-    points_h: u32,
-    grid: Grid,
-    map_planes: u32,
-)
-    requires { RowFits g.x0 g.planes g.y (length row.old) × Spans g width (length row.old)
-        × MapFits points_v points_h grid map_planes }
+fn gain_planes(row: &mut [f32], g: Place, width: usize, gain: GainMap, body: &[u8])
+    requires { RowFits g.x0 g.planes g.y (length row.old) × Spans g width (length row.old) × MapFits gain.map }
     ensures { row.new
         ≡ each
         (on_row g.x0 g.planes g.y (length row.old)
-        (on_region r (gain_rule g.full_width g.full_height body.now r points_v points_h grid
-        map_planes)))
+        (on_region gain.region (gain_rule g.full_width g.full_height body.now gain)))
         row.old }
 {
+    let r = gain.region;
     let start = row_select::first_column(r.left, r.col_pitch, g.x0);
     if row_opcode::touched(g, r, start, row.len()) {
         let columns = columns_of(row.len(), g.planes, width);
-        win_gain::blocks(
-            row,
-            window_of(g, columns),
-            every_row(r),
-            start,
-            body,
-            points_v,
-            points_h,
-            grid,
-            map_planes,
-        );
+        let every = GainMap {
+            region: every_row(r),
+            map: gain.map,
+        };
+        win_gain::blocks(row, window_of(g, columns), every, start, body);
     }
 }
 
@@ -155,26 +137,8 @@ fn perform_one(
         return;
     }
     match win_gain::gain_of(op) {
-        Gain::Map {
-            region,
-            points_v,
-            points_h,
-            grid,
-            map_planes,
-        } => {
-            gain_planes(
-                row,
-                g,
-                width,
-                region,
-                list_entries::body(list, e),
-                points_v,
-                points_h,
-                grid,
-                map_planes,
-            )
-        }
-        Gain::Other => step_one(list, row, g, e, op, scale),
+        Some(gain) => gain_planes(row, g, width, gain, list_entries::body(list, e)),
+        None => step_one(list, row, g, e, op, scale),
     }
 }
 
@@ -186,19 +150,13 @@ fn perform(list: &[u8], row: &mut [f32], g: Place, width: usize, scale: f32, pre
         row.old }
 {
     let n = list_read::count(list);
-    let mut k: usize = 0;
     let mut c = Cursor { at: 4 };
-    while k < n {
-        match list_read::step(list, c) {
-            Step::Item { entry, op, next } => {
-                perform_one(list, &mut *row, g, width, entry, op, scale, preview);
-                c = next;
-                k += 1;
-            }
-            Step::Malformed { why: _ } => {
-                return;
-            }
-        }
+    for k in 0..n {
+        let Ok(s) = list_read::step(list, c) else {
+            return;
+        };
+        perform_one(list, &mut *row, g, width, s.entry, s.op, scale, preview);
+        c = s.next;
     }
 }
 
@@ -215,14 +173,14 @@ pub fn run_row(
     ensures { RowRan (row_out w scale preview y list.now row.old) result row.new }
 {
     match run_refuse::settle_row(list, w, preview, y, row.len()) {
-        RowPlan::Refuse { answer } => answer,
-        RowPlan::Go { skipped } => {
+        Err(answer) => answer,
+        Ok(skipped) => {
             // a window has a column: a row of width 0 is empty, and fits one of width 1
             perform(
                 list,
                 &mut *row,
                 place_of(w, y),
-                num_small::larger(w.width, 1),
+                w.width.max(1),
                 scale,
                 preview,
             );

@@ -18,17 +18,19 @@ use Rattle.dng.specs.declared.Window.{Window}
 use Rattle.dng.specs.declared.Settings.{Settings}
 use Rattle.dng.specs.declared.Answer.{Answer}
 use Rattle.dng.specs.declared.Answer.TheVariants as Ans
-use Rattle.dng.specs.declared.Reading.{Reading}
-use Rattle.dng.specs.declared.Reading.TheVariants as R
-use Rattle.dng.specs.List.{Item, reading_of, items_of}
-use Rattle.dng.specs.Run.{kept_in, Class, Kind, u16_kind, Progress, going, marks_full, Room, perform_all, names_of, skipped16, takes16}
+use Rattle.std.specs.Prelude.{Result, Ok, Err, count_by}
+use Rattle.std.proofs.lemmas.List.Sums.{sum_by-cons}
+use Rattle.dng.specs.List.{Item, Reading, reading_of, items_of}
+use Rattle.dng.specs.declared.Class.{Class}
+use Rattle.dng.specs.Run.{kept_in, Kind, u16_kind, Progress, going, marks_full, Room, perform_all, names_of, skipped16, takes16}
 use Rattle.dng.specs.Answer.{Out, Ran, in_range, unchanged, finished, ran_on, read_out, run_out, f32_out, u16_out}
 use Rattle.law_wholes.specs.WholeForm.{Below, widened, narrowed, at_one}
 use Rattle.law_wholes.proofs.Pairs.{get_or-map-in}
 use Rattle.say_pgm.specs.Pgm.{over}
 use Rattle.run_stored.specs.declared.Mended.{Mended}
-use Rattle.run_stored.specs.declared.Mended.TheVariants.{Whole, Widened, NoRoom}
-use Rattle.run_stored.specs.Mend.{not_taken, early, MendOut, whole_out, held_in, rounded_out, mend_out, Rounded, Mends, held_above, HeldAbove}
+use Rattle.run_stored.specs.declared.Mended.TheVariants.{Whole, Widened}
+use Rattle.run_stored.specs.declared.NoRoom.{NoRoom}
+use Rattle.run_stored.specs.Mend.{not_taken, early, MendOut, whole_out, held_in, rounded_out, lacks_room, mend_out, Rounded, Mends, held_above, HeldAbove}
 
 -- ---- turned
 
@@ -44,16 +46,14 @@ module _ {A B : Type 0} (F : A → B) (d : A) where
       let m : k < length l = subst (λ (n : ℕ). k < n) (length-each _ l) h in
       get_or-each _ l k e m ∙ between_in 0 i (turned s) k _ (omega arith) (omega arith) ∙ sym (get_or-map-in F s k d e (omega arith)))
 
--- ---- how many are held from an index on
+-- ---- how many are held, in the library's word
 
-module _ (s : List Float) (i : ℕ) where
-  pub held_more : i < length s → held_in (drop i s) ≡ cond (eqb (round_held 65536 (get_or s i nan)) 65536) 1 0 + held_in (drop (i + 1) s)
-  unfolding held_in
-  held_more h = ap held_in (drop-cons s i nan h) ∙ rw add-one refl
-
-  pub held-end : length s ≤ i → held_in (drop i s) ≡ 0
-  unfolding held_in
-  held-end h = ap held_in (drop_of_length-le s h)
+pub held-counts : (s : List Float) → held_in s ≡ count_by (λ v. eqb (round_held 65536 v) 65536) s
+unfolding held_in
+held-counts [] = refl
+held-counts (v ∷ s) =
+    ap (λ (n : ℕ). cond (eqb (round_held 65536 v) 65536) 1 0 + n) (held-counts s)
+    ∙ sym (sum_by-cons (λ (x : Float). cond (eqb (round_held 65536 x) 65536) 1 0) v s)
 
 -- ---- above the largest value
 
@@ -157,8 +157,8 @@ module _ {A : Type 0} (s : List A) (names : List ℕ) where
         (as_it_was Ans.NotTaken)
 
     read_keeps : (g : Reading) → Keeps (read_out kind takes skip w period preview room list s names g)
-    read_keeps (R.Whole n) = ran-keeps
-    read_keeps (R.Malformed k why) = as_it_was (Ans.Malformed k why)
+    read_keeps (Ok n) = ran-keeps
+    read_keeps (Err m) = as_it_was (Ans.Malformed m.after m.why)
 
     pub run-keeps : Keeps (run_out kind takes skip w period preview room list s names)
     unfolding run_out
@@ -187,16 +187,16 @@ module _ (w : Window) (period wide : ℕ) (preview : Bool) (room : Room) (list s
   told = ap not_taken (sym ran.answered) ∙ sym is
 
   -- the record is one of the case that the tests pick
-  pick : {r : Mended} {s'' names'' marks'' : List ℕ} (o : MendOut) → mend_out w period preview room wide list s names ≡ o
+  pick : {r : Result Mended NoRoom} {s'' names'' marks'' : List ℕ} (o : MendOut) → mend_out w period preview room wide list s names ≡ o
       → Mends o room r s'' names'' marks'' → Mends (mend_out w period preview room wide list s names) room r s'' names'' marks''
   pick {r} {s''} {names''} {marks''} o e m = subst (λ (x : MendOut). Mends x room r s'' names'' marks'') (sym e) m
 
-  pub by_whole : t ≡ false → Mends (mend_out w period preview room wide list s names) room (Whole a) s' names' marks
+  pub by_whole : t ≡ false → Mends (mend_out w period preview room wide list s names) room (Ok (Whole a)) s' names' marks
   unfolding mend_out
   by_whole f =
       pick (whole_out (u16_out w period preview room list s names)) (simp (told ∙ f))
       (record {
-        answered = ap Whole ran.answered;
+        answered = ap (λ (x : Answer). Ok (Whole x)) ran.answered;
         left = ran.left;
         named = ran.named;
         marks_clear = ran.marks_clear;
@@ -212,11 +212,11 @@ module _ (w : Window) (period wide : ℕ) (preview : Bool) (room : Room) (list s
   same_names : t ≡ true → names' ≡ names
   same_names f = ran.named ∙ (kept f).names_same
 
-  pub by-neither : t ≡ true → wide < length s' → Mends (mend_out w period preview room wide list s names) room NoRoom s' names' marks
+  pub by-neither : t ≡ true → wide < length s' → Mends (mend_out w period preview room wide list s names) room (Err lacks_room) s' names' marks
   unfolding mend_out
   by-neither f h =
       let e : s' ≡ s = same-samples f in
-      pick (record { answer = NoRoom; samples = s; names = names })
+      pick (record { answer = Err lacks_room; samples = s; names = names })
       (simp (told ∙ f, lt-leb (length s) wide (subst (λ (x : List ℕ). wide < length x) e h)))
       (record { answered = refl; left = e; named = same_names f; marks_clear = ran.marks_clear })
 
@@ -227,7 +227,7 @@ module _ (w : Window) (period wide : ℕ) (preview : Bool) (room : Room) (list s
   pub by_wide : {r : Answer} {n : ℕ} {s'' names'' marks'' : List ℕ} → t ≡ true → length s' ≤ wide
       → Rounded (f32_out w (at_one period preview) (record { marks = length marks }) list (widened s') names')
       (record { marks = length marks }) r n s'' names'' marks''
-      → Mends (mend_out w period preview room wide list s names) room (Widened r n) s'' names'' marks''
+      → Mends (mend_out w period preview room wide list s names) room (Ok (Widened r n)) s'' names'' marks''
   unfolding mend_out
   by_wide {r} {n} {s''} {names''} {marks''} f h q =
       let e : s' ≡ s = same-samples f in
@@ -237,7 +237,7 @@ module _ (w : Window) (period wide : ℕ) (preview : Bool) (room : Room) (list s
       pick (rounded_out (f32_out w (at_one period preview) room list (widened s) names))
       (simp (told ∙ f, le-leb (length s) wide (subst (λ (x : List ℕ). length x ≤ wide) e h)))
       (record {
-        answered = ap₂ Widened on.answered on.counted;
+        answered = ap₂ (λ (x : Answer) (k : ℕ). Ok (Widened x k)) on.answered on.counted;
         left = on.left;
         named = on.named;
         marks_clear = on.marks_clear;

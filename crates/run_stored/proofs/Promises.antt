@@ -14,7 +14,9 @@ use Rattle.dng.specs.Answer.{f32_out, u16_out, takes_all, frame_of}
 use Rattle.law_wholes.specs.WholeForm.{Below, widened, narrowed, at_one}
 use Rattle.law_wholes.proofs.Near.{exact-near}
 use Rattle.law_wholes.proofs.Pairs.{pairs-widened, pairs-narrowed, pairs-weaken}
+use Rattle.std.specs.Prelude.{Result}
 use Rattle.run_stored.specs.declared.Mended.{Mended}
+use Rattle.run_stored.specs.declared.NoRoom.{NoRoom}
 use Rattle.run_stored.specs.Mend.{not_taken, early_mended, MendOut, whole_out, rounded_out, mend_out, MendsClear}
 use Rattle.run_stored.proofs.Laws.{run-keeps}
 
@@ -52,7 +54,7 @@ module _ (w : Window) (period : ℕ) (preview : Bool) (room : Room) (wide : ℕ)
       whole-keeps
 
 -- two results that keep the promise are the same
-pub record Equal (r r' : Mended) (s s' : List ℕ) (l l' : List Float) (names names' marks marks' : List ℕ) : Type 0 where
+pub record Equal (r r' : Result Mended NoRoom) (s s' : List ℕ) (l l' : List Float) (names names' marks marks' : List ℕ) : Type 0 where
   pub answers : r ≡ r'
   pub samples-equal : s ≡ s'
   pub wide-equal : l ≡ l'
@@ -60,7 +62,7 @@ pub record Equal (r r' : Mended) (s s' : List ℕ) (l l' : List Float) (names na
   pub marks-equal : marks ≡ marks'
 
 pub determined :
-    {o : MendOut} {room : Room} {n : ℕ} {r r' : Mended} {s s' : List ℕ} {l l' : List Float} {names names' marks marks' : List ℕ}
+    {o : MendOut} {room : Room} {n : ℕ} {r r' : Result Mended NoRoom} {s s' : List ℕ} {l l' : List Float} {names names' marks marks' : List ℕ}
     → MendsClear o room n r s l names marks → MendsClear o room n r' s' l' names' marks'
     → Equal r r' s s' l l' names names' marks marks'
 determined p q =

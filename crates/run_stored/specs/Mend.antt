@@ -1,7 +1,7 @@
 -- What mending a frame of whole numbers gives: the whole-number run's result where that run takes the list; otherwise
 -- the samples as f32, the f32 run at scale 1, and each sample rounded to whole, half away from zero, and held to
 -- 0..65535.
-use Rattle.std.specs.Prelude.{ℕ, ◌+◌, ◌≤◌, Bool, true, false, cond, List, [], ◌∷◌, ◌≡◌, leb, ltb, eqb, Float, length, replicate}
+use Rattle.std.specs.Prelude.{ℕ, ◌+◌, ◌≤◌, Bool, true, false, cond, List, [], ◌∷◌, ◌≡◌, leb, ltb, eqb, Float, length, replicate, Result, Ok, Err}
 use Rattle.num_round.specs.Whole.{round_held}
 use Rattle.dng.specs.declared.Window.{Window}
 use Rattle.dng.specs.declared.Numbers.{Numbers}
@@ -14,7 +14,8 @@ use Rattle.law_wholes.specs.WholeForm.{Below, widened, narrowed, at_one}
 use Rattle.run_verdict.specs.Verdict.{whole_frame}
 use Rattle.say_pgm.specs.Pgm.{over}
 use Rattle.run_stored.specs.declared.Mended.{Mended}
-use Rattle.run_stored.specs.declared.Mended.TheVariants.{Whole, Widened, NoRoom}
+use Rattle.run_stored.specs.declared.Mended.TheVariants.{Whole, Widened}
+use Rattle.run_stored.specs.declared.NoRoom.{NoRoom}
 
 -- the refusal 3 of the whole-number run: the ranges and the list are in order, and the form does not take the list
 abbrev pub not_taken : Answer → Bool
@@ -34,28 +35,28 @@ early Ans.NotTaken = true
 early Ans.Names = true
 early (Ans.Marks k) = false
 
-abbrev pub early_mended : Mended → Bool
-early_mended (Whole a) = early a
-early_mended (Widened a n) = early a
-early_mended NoRoom = true
+abbrev pub early_mended : Result Mended NoRoom → Bool
+early_mended (Ok (Whole a)) = early a
+early_mended (Ok (Widened a n)) = early a
+early_mended (Err e) = true
 
 -- the paper's number and values; too little room for the samples as f32 is 80, which no run and no reading answers
-abbrev pub numbers_of : Mended → Numbers
-numbers_of (Whole a) = paper a
-numbers_of (Widened a n) = paper a
-numbers_of NoRoom = record { number = 80; entry = 0; offset = 0; opcode = 0; names = 0; repaired = 0; left = 0 }
+abbrev pub numbers_of : Result Mended NoRoom → Numbers
+numbers_of (Ok (Whole a)) = paper a
+numbers_of (Ok (Widened a n)) = paper a
+numbers_of (Err e) = record { number = 80; entry = 0; offset = 0; opcode = 0; names = 0; repaired = 0; left = 0 }
 
 -- the verdict of a frame that was mended (run_verdict/specs/Verdict)
-abbrev pub whole_mended : (full_width full_height : ℕ) → (preview : Bool) → List ℕ → Mended → Bool
+abbrev pub whole_mended : (full_width full_height : ℕ) → (preview : Bool) → List ℕ → Result Mended NoRoom → Bool
 whole_mended fw fh preview list m = whole_frame fw fh preview list (numbers_of m).number
 
 pub record MendOut : Type 0 where
-  pub answer : Mended
+  pub answer : Result Mended NoRoom
   pub samples : List ℕ
   pub names : List ℕ
 
 abbrev pub whole_out : Out ℕ → MendOut
-whole_out o = record { answer = Whole o.answer; samples = o.samples; names = o.names }
+whole_out o = record { answer = Ok (Whole o.answer); samples = o.samples; names = o.names }
 
 -- how many samples are above 65535 once rounded: those that are lowered to it
 unfoldable pub held_in : List Float → ℕ
@@ -64,10 +65,13 @@ held_in (v ∷ s) = cond (eqb (round_held 65536 v) 65536) 1 0 + held_in s
 
 abbrev pub rounded_out : Out Float → MendOut
 rounded_out o = record {
-  answer = Widened o.answer (held_in o.samples);
+  answer = Ok (Widened o.answer (held_in o.samples));
   samples = narrowed o.samples;
   names = o.names;
 }
+
+abbrev pub lacks_room : NoRoom
+lacks_room = record {}
 
 -- room: the length of the scratch; wide: how many samples there is room for as f32
 unfoldable pub mend_out : Window → (period : ℕ) → (preview : Bool) → Room → (wide : ℕ) → (list samples names : List ℕ)
@@ -75,7 +79,7 @@ unfoldable pub mend_out : Window → (period : ℕ) → (preview : Bool) → Roo
 mend_out w period preview room wide list s names =
     cond (not_taken (u16_out w period preview room list s names).answer)
     (cond (leb (length s) wide) (rounded_out (f32_out w (at_one period preview) room list (widened s) names))
-    (record { answer = NoRoom; samples = s; names = names }))
+    (record { answer = Err lacks_room; samples = s; names = names }))
     (whole_out (u16_out w period preview room list s names))
 
 -- the f32 run with what it left rounded back, and how many samples that held
@@ -86,14 +90,14 @@ pub record Rounded (o : Out Float) (room : Room) (r : Answer) (held : ℕ) (samp
   pub named : names ≡ o.names
   pub marks_clear : marks ≡ replicate room.marks 0
 
-pub record Mends (o : MendOut) (room : Room) (r : Mended) (samples names marks : List ℕ) : Type 0 where
+pub record Mends (o : MendOut) (room : Room) (r : Result Mended NoRoom) (samples names marks : List ℕ) : Type 0 where
   pub answered : r ≡ o.answer
   pub left : samples ≡ o.samples
   pub named : names ≡ o.names
   pub marks_clear : marks ≡ replicate room.marks 0
 
 -- What mending promises of its result r and of what it leaves; the room for f32 and the scratch hold zeros alone.
-pub record MendsClear (o : MendOut) (room : Room) (n : ℕ) (r : Mended) (samples : List ℕ) (wide : List Float)
+pub record MendsClear (o : MendOut) (room : Room) (n : ℕ) (r : Result Mended NoRoom) (samples : List ℕ) (wide : List Float)
     (names marks : List ℕ) : Type 0 where
   pub mended : Mends o room r samples names marks
   pub wide_clear : wide ≡ replicate n nought

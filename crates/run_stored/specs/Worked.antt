@@ -1,5 +1,5 @@
 -- Worked frames, each by computing: which run a list goes to, and how the f32 run's samples come back.
-use Rattle.std.specs.Prelude.{ℕ, ◌≡◌, refl, true, false, List, [], ◌∷◌, ◌++◌}
+use Rattle.std.specs.Prelude.{ℕ, ◌≡◌, refl, true, false, List, [], ◌∷◌, ◌++◌, Result, Ok, Err}
 use Rattle.std.specs.Float.{binary32}
 use Rattle.std.specs.Float.Ieee.{of_bits, of_fields, of_int, round, units, odd, size, span, climb, mul, div, add, eq}
 use Rattle.std.specs.Int.Count.{count_trailing_zeros}
@@ -19,8 +19,9 @@ use Rattle.dng.specs.Answer.{in_range, ran_on, run_out}
 use Rattle.dng.specs.Frames.{words, entry}
 use Rattle.run_verdict.specs.Verdict.{whole_items}
 use Rattle.run_stored.specs.declared.Mended.{Mended}
-use Rattle.run_stored.specs.declared.Mended.TheVariants.{Whole, Widened, NoRoom}
-use Rattle.run_stored.specs.Mend.{MendOut, whole_mended, held_in, mend_out, held_above}
+use Rattle.run_stored.specs.declared.NoRoom.{NoRoom}
+use Rattle.run_stored.specs.declared.Mended.TheVariants.{Whole, Widened}
+use Rattle.run_stored.specs.Mend.{MendOut, whole_mended, held_in, lacks_room, mend_out, held_above}
 
 abbrev constant : ℕ → List ℕ
 constant c = entry 4 (words (c ∷ 0 ∷ []))
@@ -45,39 +46,39 @@ frame w = record { width = w; height = 1; planes = 1; stride = w; x0 = 0; y0 = 0
 abbrev room : Room
 room = record { marks = 8 }
 
-abbrev out : Mended → List ℕ → MendOut
+abbrev out : Result Mended NoRoom → List ℕ → MendOut
 out a s = record { answer = a; samples = s; names = [] }
 
 pub record Worked : Type 0 where
   -- one repair: the whole-number run, with no room for f32
   pub whole : mend_out (frame 3) 1 false room 0 (one_of (constant 0)) (10 ∷ 0 ∷ 19 ∷ []) []
-      ≡ out (Whole (Ans.Done 0 1 0)) (10 ∷ 15 ∷ 19 ∷ [])
+      ≡ out (Ok (Whole (Ans.Done 0 1 0))) (10 ∷ 15 ∷ 19 ∷ [])
   -- two repairs: the f32 run, whose 14.5 comes back as 15
   pub twice :
       mend_out (frame 3) 1 false room 3 (words (2 ∷ []) ++ (constant 0 ++ constant 99)) (10 ∷ 0 ∷ 19 ∷ []) []
-      ≡ out (Widened (Ans.Done 0 1 0) 0) (10 ∷ 15 ∷ 19 ∷ [])
+      ≡ out (Ok (Widened (Ans.Done 0 1 0) 0)) (10 ∷ 15 ∷ 19 ∷ [])
   -- 0.5, 1, 1.5, 2.5, 32767.5: half away from zero
   pub halves :
       mend_out (frame 5) 1 false room 5 (one_of halved) (1 ∷ 2 ∷ 3 ∷ 5 ∷ 65535 ∷ []) []
-      ≡ out (Widened (Ans.Done 0 0 0) 0) (1 ∷ 1 ∷ 2 ∷ 3 ∷ 32768 ∷ [])
+      ≡ out (Ok (Widened (Ans.Done 0 0 0) 0)) (1 ∷ 1 ∷ 2 ∷ 3 ∷ 32768 ∷ [])
   -- held to 65535, and counted
   pub held : mend_out (frame 2) 1 false room 2 (one_of raised) (0 ∷ 1 ∷ []) []
-      ≡ out (Widened (Ans.Done 0 0 0) 1) (0 ∷ 65535 ∷ [])
+      ≡ out (Ok (Widened (Ans.Done 0 0 0) 1)) (0 ∷ 65535 ∷ [])
   -- room for two samples as f32, and three are lent
-  pub no_room : mend_out (frame 3) 1 false room 2 (one_of halved) (1 ∷ 2 ∷ 3 ∷ []) [] ≡ out NoRoom (1 ∷ 2 ∷ 3 ∷ [])
+  pub no_room : mend_out (frame 3) 1 false room 2 (one_of halved) (1 ∷ 2 ∷ 3 ∷ []) [] ≡ out (Err lacks_room) (1 ∷ 2 ∷ 3 ∷ [])
   -- a list that no run reads, and no room either
   pub malformed : mend_out (frame 3) 1 false room 0 [] (1 ∷ 2 ∷ 3 ∷ []) []
-      ≡ out (Whole (Ans.Malformed 0 (refusal Why.Ends 0))) (1 ∷ 2 ∷ 3 ∷ [])
+      ≡ out (Ok (Whole (Ans.Malformed 0 (refusal Why.Ends 0)))) (1 ∷ 2 ∷ 3 ∷ [])
   -- a preview: of two repairs the second is left out, so that the whole-number run takes the list
   pub preview : mend_out (frame 3) 1 true room 0 (words (2 ∷ []) ++ (constant 0 ++ flagged 99)) (10 ∷ 0 ∷ 19 ∷ []) []
-      ≡ out (Whole (Ans.Done 0 1 0)) (10 ∷ 15 ∷ 19 ∷ [])
+      ≡ out (Ok (Whole (Ans.Done 0 1 0))) (10 ∷ 15 ∷ 19 ∷ [])
   -- no room for marks at the second opcode: as after the first, rounded
   pub full :
       mend_out (frame 3) 1 false (record { marks = 0 }) 3 (words (2 ∷ []) ++ (halved ++ constant 0)) (1 ∷ 0 ∷ 5 ∷ []) []
-      ≡ out (Widened (Ans.Marks 1) 0) (1 ∷ 0 ∷ 3 ∷ [])
+      ≡ out (Ok (Widened (Ans.Marks 1) 0)) (1 ∷ 0 ∷ 3 ∷ [])
   -- the verdict goes by the number: mended by a list of no entries, and not mended for lack of room
-  pub mended-whole : whole_mended 1 1 false (words (0 ∷ [])) (Whole (Ans.Done 0 0 0)) ≡ true
-  pub no-room-not-whole : whole_mended 1 1 false (words (0 ∷ [])) NoRoom ≡ false
+  pub mended-whole : whole_mended 1 1 false (words (0 ∷ [])) (Ok (Whole (Ans.Done 0 0 0))) ≡ true
+  pub no-room-not-whole : whole_mended 1 1 false (words (0 ∷ [])) (Err lacks_room) ≡ false
   -- at 65535 the one that was held to it; at 200 two, of which one was held to 65535 first; 65600.0, 300.0 and 7.0 by
   -- their bits
   pub above-last : held_above 65535 (of_bits binary32 0x4780_2000 ∷ []) ≡ 1

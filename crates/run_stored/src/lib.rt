@@ -8,6 +8,7 @@ ghost use Rattle.law_wholes.specs.WholeForm.{widened, narrowed, at_one};
 ghost use Rattle.run_stored.specs.Mend.{not_taken, numbers_of, whole_mended, held_in, mend_out, Rounded, Mends, MendsClear, HeldAbove};
 
 use dng::{Answer, Numbers, Settings, Window};
+use std::fmt;
 
 // What mending answers.
 #[derive(Clone, Copy)]
@@ -16,12 +17,20 @@ pub enum Mended {
     Whole { answer: Answer },
     // by the f32 run; `held` samples were above 65535 when they were rounded back
     Widened { answer: Answer, held: usize },
-    // the whole-number run does not take the list, and there is no room for the samples as f32
-    NoRoom,
 }
 
-impl Mended {
-    pub const NO_ROOM: u32 = 80;
+// The whole-number run does not take the list, and there is no room for the samples as f32.
+#[derive(Clone, Copy)]
+pub struct NoRoom;
+
+impl NoRoom {
+    pub const NUMBER: u32 = 80;
+}
+
+impl fmt::Display for NoRoom {
+    fn fmt<W: fmt::Write>(&self, f: &mut fmt::Formatter<W>) -> fmt::Result {
+        f.write_str("80: no room for the samples as f32")
+    }
 }
 
 // Samples as f32.
@@ -29,10 +38,8 @@ fn widen(samples: &[u16], wide: &mut [f32])
     requires { length wide.old ≡ length samples.now }
     ensures { wide.new ≡ widened samples.now }
 {
-    let mut i: usize = 0;
-    while i < samples.len() {
+    for i in 0..samples.len() {
         wide[i] = num_convert::f32_of_u16(samples[i]);
-        i += 1;
     }
 }
 
@@ -41,10 +48,8 @@ fn narrow(wide: &[f32], samples: &mut [u16])
     requires { length samples.old ≡ length wide.now }
     ensures { samples.new ≡ narrowed wide.now }
 {
-    let mut i: usize = 0;
-    while i < wide.len() {
+    for i in 0..wide.len() {
         samples[i] = num_round::round_u16(wide[i]);
-        i += 1;
     }
 }
 
@@ -52,13 +57,9 @@ fn narrow(wide: &[f32], samples: &mut [u16])
 fn held(wide: &[f32]) -> usize
     ensures { result ≡ held_in wide.now }
 {
-    let mut m: usize = 0;
-    let mut i: usize = 0;
-    while i < wide.len() {
-        m += num_small::one_if(num_round::round_held(wide[i], 65536) == 65536);
-        i += 1;
-    }
-    m
+    wide.iter()
+        .filter(|v| num_round::round_held(**v, 65536) == 65536)
+        .count()
 }
 
 // What the f32 run answers, and how many samples were held when they were rounded back.
@@ -80,10 +81,10 @@ fn run_wide(
     names: &mut [u8],
 ) -> Rounding
     requires { length wide.old ≡ length samples.old }
-    ensures { Rounded (f32_out w (at_one period preview) (record { marks = length marks.entry.now })
+    ensures { Rounded (f32_out w (at_one period preview) (record { marks = length marks.old })
         list.now (widened samples.old) names.old)
-        (record { marks = length marks.entry.now })
-        result.answer result.held samples.new names.new marks.exit.now }
+        (record { marks = length marks.old })
+        result.answer result.held samples.new names.new marks.new }
 {
     widen(samples, &mut *wide);
     let set = Settings {
@@ -91,7 +92,7 @@ fn run_wide(
         scale: 1.0,
         preview,
     };
-    let answer = run_window::run_f32(list, &mut *wide, w, set, marks, names);
+    let answer = run_window::run(list, &mut *wide, w, set, marks, names);
     let over = held(wide);
     narrow(wide, samples);
     Rounding { answer, held: over }
@@ -100,18 +101,7 @@ fn run_wide(
 fn is_not_taken(a: Answer) -> bool
     ensures { result ≡ not_taken a }
 {
-    match a {
-        Answer::Done {
-            names: _,
-            repaired: _,
-            left: _,
-        } => false,
-        Answer::Range => false,
-        Answer::Malformed { entry: _, why: _ } => false,
-        Answer::NotTaken => true,
-        Answer::Names => false,
-        Answer::Marks { opcode: _ } => false,
-    }
+    matches!(a, Answer::NotTaken)
 }
 
 // Both runs in turn; what `wide` holds then is not said.
@@ -124,21 +114,18 @@ fn attempt(
     preview: bool,
     marks: &mut [u32],
     names: &mut [u8],
-) -> Mended
-    ensures { Mends (mend_out w period preview (record { marks = length marks.entry.now }) (length wide.old)
+) -> Result<Mended, NoRoom>
+    ensures { Mends (mend_out w period preview (record { marks = length marks.old }) (length wide.old)
         list.now samples.old names.old)
-        (record { marks = length marks.entry.now })
-        result samples.new names.new marks.exit.now }
+        (record { marks = length marks.old })
+        result samples.new names.new marks.new }
 {
-    let a = run_window::run_u16(
-        list,
-        &mut *samples,
-        w,
+    let set = Settings {
         period,
+        scale: 1.0,
         preview,
-        &mut *marks,
-        &mut *names,
-    );
+    };
+    let a = run_window::run(list, &mut *samples, w, set, &mut *marks, &mut *names);
     if is_not_taken(a) {
         let n = samples.len();
         if n <= wide.len() {
@@ -146,12 +133,12 @@ fn attempt(
             let r = run_wide(list, samples, part, w, period, preview, marks, names);
             let answer = r.answer;
             let over = r.held;
-            Mended::Widened { answer, held: over }
+            Ok(Mended::Widened { answer, held: over })
         } else {
-            Mended::NoRoom
+            Err(NoRoom)
         }
     } else {
-        Mended::Whole { answer: a }
+        Ok(Mended::Whole { answer: a })
     }
 }
 
@@ -165,26 +152,26 @@ pub fn mend(
     preview: bool,
     marks: &mut [u32],
     names: &mut [u8],
-) -> Mended
-    ensures { MendsClear (mend_out w period preview (record { marks = length marks.entry.now })
+) -> Result<Mended, NoRoom>
+    ensures { MendsClear (mend_out w period preview (record { marks = length marks.old })
         (length wide.old) list.now samples.old names.old)
-        (record { marks = length marks.entry.now }) (length wide.old)
-        result samples.new wide.new names.new marks.exit.now }
+        (record { marks = length marks.old }) (length wide.old)
+        result samples.new wide.new names.new marks.new }
 {
     let r = attempt(list, samples, &mut *wide, w, period, preview, marks, names);
-    run_bytes::clear_f32(wide);
+    run_bytes::clear(wide);
     r
 }
 
 // The paper's number and values for what mending answers.
-pub fn numbers(m: Mended) -> Numbers
+pub fn numbers(m: Result<Mended, NoRoom>) -> Numbers
     ensures { result ≡ numbers_of m }
 {
     match m {
-        Mended::Whole { answer } => run_answers::numbers(answer),
-        Mended::Widened { answer, held: _ } => run_answers::numbers(answer),
-        Mended::NoRoom => Numbers {
-            number: Mended::NO_ROOM,
+        Ok(Mended::Whole { answer }) => run_answers::numbers(answer),
+        Ok(Mended::Widened { answer, held: _ }) => run_answers::numbers(answer),
+        Err(NoRoom) => Numbers {
+            number: NoRoom::NUMBER,
             entry: 0,
             offset: 0,
             opcode: 0,
@@ -196,7 +183,13 @@ pub fn numbers(m: Mended) -> Numbers
 }
 
 // The verdict: whether the frame that was mended is whole.
-pub fn is_whole(list: &[u8], full_width: u32, full_height: u32, preview: bool, m: Mended) -> bool
+pub fn is_whole(
+    list: &[u8],
+    full_width: u32,
+    full_height: u32,
+    preview: bool,
+    m: Result<Mended, NoRoom>,
+) -> bool
     ensures { result ≡ whole_mended full_width full_height preview list.now m }
 {
     let n = numbers(m);

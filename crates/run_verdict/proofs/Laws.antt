@@ -10,31 +10,20 @@ use Rattle.dng.specs.declared.Opcode.{Opcode}
 use Rattle.dng.specs.List.{Item, preview_of, optional_of}
 use Rattle.dng.specs.Value.{usable}
 use Rattle.dng.specs.Run.{kept_of}
-use Rattle.row_vignette.specs.declared.Reach.{Reach}
-use Rattle.row_vignette.specs.declared.Reach.TheVariants.{Usable, Unusable}
+use Rattle.std.specs.Prelude.{Some, None, is_some}
 use Rattle.row_vignette.specs.Reach.{reach_of}
 use Rattle.run_verdict.specs.Verdict.{had_effect, whole_items, whole_list, whole_frame}
 
 -- ---- m2
 
-abbrev is_usable : Reach → Bool
-is_usable (Usable m) = true
-is_usable Unusable = false
-
-reach-usable : (m : Float) → is_usable (reach_of m) ≡ usable m
+-- it is told exactly where it is usable
+pub told : (m : Float) → is_some (reach_of m) ≡ usable m
 unfolding reach_of
-reach-usable m = go (usable m)
+told m = go (usable m)
   where
-    go : (b : Bool) → is_usable (cond b (Usable m) Unusable) ≡ b
+    go : (b : Bool) → is_some (cond b (Some m) None) ≡ b
     go true = refl
     go false = refl
-
-module _ (m : Float) {r : Reach} (e : r ≡ reach_of m) where
-  pub told-usable : {x : Float} → r ≡ Usable x → true ≡ usable m
-  told-usable t = ap is_usable (sym t ∙ e) ∙ reach-usable m
-
-  pub told-unusable : r ≡ Unusable → false ≡ usable m
-  told-unusable t = ap is_usable (sym t ∙ e) ∙ reach-usable m
 
 -- ---- the entries
 

@@ -15,7 +15,8 @@ use Rattle.dng.specs.declared.Opcode.{Opcode}
 use Rattle.dng.specs.declared.Opcode.TheVariants.{WarpRectilinear, WarpFisheye, FixVignetteRadial, FixBadPixelsConstant, FixBadPixelsList, TrimBounds, MapTable, MapPolynomial, GainMap, DeltaPerRow, DeltaPerColumn, ScalePerRow, ScalePerColumn, Other}
 use Rattle.dng.specs.Select.{Rule, on_window}
 use Rattle.dng.specs.Value.{m2_of, usable, vignette, rule16_of}
-use Rattle.dng.specs.Run.{empty, table, class_of, Kind, f32_kind, u16_kind, Room, going, perform_on}
+use Rattle.dng.specs.declared.Class.TheVariants.{Table, Empty}
+use Rattle.dng.specs.Run.{class_of, Kind, f32_kind, u16_kind, Room, going, perform_on}
 use Rattle.dng.specs.Answer.{frame_of}
 use Rattle.law_rows.proofs.Place.{on-window-none}
 use Rattle.run_verdict.specs.Verdict.{applied, sized, had_effect, NoEffect}
@@ -41,8 +42,8 @@ module _ {A : Type 0} (kind : Kind A) (w : Window) (period : ℕ) (room : Room) 
       → perform_on kind w period room (class_of (MapTable g n)) (MapTable g n) b k s r l ≡ going s r l
   table_none g n b k s r l = go (eqb n 0)
     where
-      go : (z : Bool) → (applied (cond z empty table) && true) ≡ false
-          → perform_on kind w period room (cond z empty table) (MapTable g n) b k s r l ≡ going s r l
+      go : (z : Bool) → (applied (cond z Empty Table) && true) ≡ false
+          → perform_on kind w period room (cond z Empty Table) (MapTable g n) b k s r l ≡ going s r l
       go true e = refl
       go false e = had e
 

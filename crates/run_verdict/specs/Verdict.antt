@@ -7,16 +7,18 @@ use Rattle.dng.specs.declared.Opcode.{Opcode}
 use Rattle.dng.specs.declared.Opcode.TheVariants.{WarpRectilinear, WarpFisheye, FixVignetteRadial, FixBadPixelsConstant, FixBadPixelsList, TrimBounds, MapTable, MapPolynomial, GainMap, DeltaPerRow, DeltaPerColumn, ScalePerRow, ScalePerColumn, Other}
 use Rattle.dng.specs.List.{Item, optional_of}
 use Rattle.dng.specs.Value.{Frame, one, m2_of, usable}
-use Rattle.dng.specs.Run.{kept_in, Class, table, empty, local, repair, unapplied, class_of, f32_kind, u16_kind, Room, going, perform_on}
+use Rattle.dng.specs.declared.Class.{Class}
+use Rattle.dng.specs.declared.Class.TheVariants.{Table, Empty, Local, Repair, Unapplied}
+use Rattle.dng.specs.Run.{kept_in, class_of, f32_kind, u16_kind, Room, going, perform_on}
 use Rattle.dng.specs.Answer.{frame_of}
 
 -- "not skipped, not an empty table"
 abbrev pub applied : Class → Bool
-applied table = true
-applied empty = false
-applied local = true
-applied repair = true
-applied unapplied = false
+applied Table = true
+applied Empty = false
+applied Local = true
+applied Repair = true
+applied Unapplied = false
 
 -- a vignette's m2 goes by the full size alone, whatever the window and the scale
 abbrev pub sized : (full_width full_height : ℕ) → Frame

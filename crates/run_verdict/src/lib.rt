@@ -7,29 +7,21 @@ ghost use Rattle.dng.specs.Value.{m2_of, usable};
 ghost use Rattle.dng.specs.Run.{class_of};
 ghost use Rattle.run_verdict.specs.Verdict.{applied, sized, reaches, had_effect, whole_list, whole_frame};
 
-use dng::{Cursor, Entry, Opcode, Radial, Step};
-use list_classes::Class;
-use row_vignette::Reach;
+use dng::{Class, Cursor, Entry, Opcode, Radial};
 
 fn is_applied(op: Opcode) -> bool
     ensures { result ≡ applied (class_of op) }
 {
-    match list_classes::class_of(op) {
-        Class::Table => true,
-        Class::Empty => false,
-        Class::Local => true,
-        Class::Repair => true,
-        Class::Unapplied => false,
-    }
+    matches!(
+        list_classes::class_of(op),
+        Class::Table | Class::Local | Class::Repair
+    )
 }
 
 fn is_usable(q: Radial, full_width: u32, full_height: u32) -> bool
     ensures { result ≡ usable (m2_of (sized full_width full_height) q) }
 {
-    match row_vignette::m2(q, full_width, full_height) {
-        Reach::Usable { m2: _ } => true,
-        Reach::Unusable => false,
-    }
+    row_vignette::m2(q, full_width, full_height).is_some()
 }
 
 // A vignette whose m2 is refused does not.
@@ -73,21 +65,15 @@ pub fn is_whole(list: &[u8], full_width: u32, full_height: u32, preview: bool) -
     ensures { result ≡ whole_list full_width full_height preview list.now }
 {
     let n = list_read::count(list);
-    let mut k: usize = 0;
     let mut c = Cursor { at: 4 };
-    while k < n {
-        match list_read::step(list, c) {
-            Step::Item { entry, op, next } => {
-                if !is_settled(entry, op, full_width, full_height, preview) {
-                    return false;
-                }
-                c = next;
-                k += 1;
-            }
-            Step::Malformed { why: _ } => {
-                return true;
-            }
+    for k in 0..n {
+        let Ok(s) = list_read::step(list, c) else {
+            return true;
+        };
+        if !is_settled(s.entry, s.op, full_width, full_height, preview) {
+            return false;
         }
+        c = s.next;
     }
     true
 }

@@ -1,13 +1,12 @@
 -- What is said of a list in a DNG file: its name, the number of document 02, M-105, and where it lies, or the refusal
 -- in words.
-use Rattle.std.specs.Prelude.{ℕ, ◌+◌, ◌≤◌, ◌≡◌, List, ◌++◌, length, take}
+use Rattle.std.specs.Prelude.{ℕ, ◌+◌, ◌≤◌, ◌≡◌, List, ◌++◌, Ok, Err, length, take}
 use Rattle.num_text.specs.Text.{text, decimal}
 use Rattle.num_text.specs.Appended.{Appended}
 use Rattle.list_find.specs.declared.Which.{Which}
 use Rattle.list_find.specs.declared.Which.TheVariants.{List1, List2, List3}
-use Rattle.list_find.specs.declared.Found.{Found}
-use Rattle.list_find.specs.declared.Found.TheVariants.{At, NotTiff, Outside, TooMany, Missing}
-use Rattle.list_find.specs.Walk.{found_in}
+use Rattle.list_find.specs.declared.FindError.TheVariants.{NotTiff, Outside, TooMany, Missing}
+use Rattle.list_find.specs.Walk.{Found, found_in}
 
 abbrev pub name_text : Which → List ℕ
 name_text List1 = text "OpcodeList1: "
@@ -23,11 +22,11 @@ unfoldable pub place_text : (start len : ℕ) → List ℕ
 place_text start len = (count (text "0: ") len ++ count (text " bytes at ") start) ++ text "\n"
 
 abbrev pub found_text : Found → List ℕ
-found_text (At start len) = place_text start len
-found_text NotTiff = text "30: not a TIFF file\n"
-found_text Outside = text "31: an offset or a size lies outside the file\n"
-found_text TooMany = text "32: more than 64 directories\n"
-found_text Missing = text "33: not in the file\n"
+found_text (Ok place) = place_text place.start place.len
+found_text (Err NotTiff) = text "30: not a TIFF file\n"
+found_text (Err Outside) = text "31: an offset or a size lies outside the file\n"
+found_text (Err TooMany) = text "32: more than 64 directories\n"
+found_text (Err Missing) = text "33: not in the file\n"
 
 unfoldable pub line_of : Which → Found → List ℕ
 line_of which found = name_text which ++ found_text found

@@ -4,7 +4,7 @@
 ghost use Rattle.std.specs.Prelude.{◌+◌, ◌≤◌, length};
 ghost use Rattle.say_found.specs.Lines.{name_text, count, place_text, found_text, line_of, lines_of, Within, Said};
 
-use list_find::{Found, Which};
+use list_find::{FindError, Place, Which};
 
 fn put_name(out: &mut [u8], at: usize, which: Which) -> usize
     requires { at + 13 ≤ length out.old }
@@ -36,24 +36,24 @@ fn put_place(out: &mut [u8], at: usize, start: usize, len: usize) -> usize
     num_text::put_byte(&mut *out, b, 10)
 }
 
-fn put_found(out: &mut [u8], at: usize, found: Found) -> usize
+fn put_found(out: &mut [u8], at: usize, found: Result<Place, FindError>) -> usize
     requires { at + 60 ≤ length out.old }
     ensures { Within 60 out.old at (found_text found) result out.new }
 {
     match found {
-        Found::At { start, len } => put_place(out, at, start, len),
-        Found::NotTiff => num_text::put(out, at, b"30: not a TIFF file\n"),
-        Found::Outside => num_text::put(
+        Ok(place) => put_place(out, at, place.start, place.len),
+        Err(FindError::NotTiff) => num_text::put(out, at, b"30: not a TIFF file\n"),
+        Err(FindError::Outside) => num_text::put(
             out,
             at,
             b"31: an offset or a size lies outside the file\n",
         ),
-        Found::TooMany => num_text::put(out, at, b"32: more than 64 directories\n"),
-        Found::Missing => num_text::put(out, at, b"33: not in the file\n"),
+        Err(FindError::TooMany) => num_text::put(out, at, b"32: more than 64 directories\n"),
+        Err(FindError::Missing) => num_text::put(out, at, b"33: not in the file\n"),
     }
 }
 
-fn put_line(out: &mut [u8], at: usize, which: Which, found: Found) -> usize
+fn put_line(out: &mut [u8], at: usize, which: Which, found: Result<Place, FindError>) -> usize
     requires { at + 73 ≤ length out.old }
     ensures { Within 73 out.old at (line_of which found) result out.new }
 {
@@ -86,7 +86,7 @@ fn put_lines(file: &[u8], out: &mut [u8]) -> usize
 }
 
 // The line of one list at the start of a buffer, and where it ends.
-pub fn line(which: Which, found: Found, out: &mut [u8; 256]) -> usize
+pub fn line(which: Which, found: Result<Place, FindError>, out: &mut [u8; 256]) -> usize
     ensures { Said (line_of which found) out.old result out.new }
 {
     put_line(out, 0, which, found)

@@ -11,9 +11,8 @@ use Rattle.num_text.specs.Text.{text}
 use Rattle.num_text.specs.Appended.{Appended}
 use Rattle.num_text.proofs.Laws.{appended-as, appended_then, appended-whole}
 use Rattle.dng.specs.declared.Refusal.{Refusal}
-use Rattle.dng.specs.declared.Reading.{Reading}
-use Rattle.dng.specs.declared.Reading.TheVariants as R
-use Rattle.dng.specs.List.{reading_of, items_of}
+use Rattle.std.specs.Prelude.{Ok, Err}
+use Rattle.dng.specs.List.{malformed, Reading, reading_of, items_of}
 use Rattle.say_note.specs.Note.{about, applied, not_applied, lines, lines_of, malformed_after, note_on, note_of}
 use Rattle.say_note.specs.Parts.{Noted}
 
@@ -96,11 +95,11 @@ module _ (s : List ℕ) where
   short h = le-ltb 65535 (length s) h
 
   module _ (h : length s ≤ 65535) {g : Reading} (e : g ≡ reading_of s) {b o : List ℕ} {r : ℕ} where
-    pub note-malformed : {k : ℕ} {why : Refusal} → g ≡ R.Malformed k why → Appended b 0 (malformed_after k) r o → Appended b 0 (note_of s) r o
+    pub note-malformed : {k : ℕ} {why : Refusal} → g ≡ Err (malformed k why) → Appended b 0 (malformed_after k) r o → Appended b 0 (note_of s) r o
     unfolding note_of note_on
     note-malformed {k} q a = appended-as (sym (simp (short h) (ap (λ (x : Reading). note_on x (items_of s)) (sym e ∙ q)))) a
 
-    pub note-whole : {n : ℕ} → g ≡ R.Whole n → Appended b 0 (lines_of (items_of s)) r o → Appended b 0 (note_of s) r o
+    pub note-whole : {n : ℕ} → g ≡ Ok n → Appended b 0 (lines_of (items_of s)) r o → Appended b 0 (note_of s) r o
     unfolding note_of note_on
     note-whole {n} q a = appended-as (sym (simp (short h) (ap (λ (x : Reading). note_on x (items_of s)) (sym e ∙ q)))) a
 

@@ -1,19 +1,20 @@
 -- What one opcode more means to the names of a part, and one name more to how often a name occurs. Assumes nothing.
-use Prim.Native.Nat.{ℕ, ◌+◌, ◌≤◌, ◌<◌}
+use Prim.Native.Nat.{ℕ, ◌+◌, ◌≤◌}
 use mathlib.Core.Path.{◌≡◌, refl, sym, ap, ◌∙◌}
 use mathlib.Core.Bool.{Bool, true, false, cond}
 use mathlib.Core.List.{List, [], ◌∷◌, ◌++◌}
 use native.Mathlib.Omega.{arith}
-use native.Mathlib.Numerals.{add-one}
 use lib.Dec.{eqb}
-use lib.ListN.{length, get_or, drop, drop_of_length-le}
-use lib.Seq.{drop-cons}
+use lib.ListN.{length}
 use Rattle.num_text.specs.Appended.{Appended}
 use Rattle.num_text.proofs.Laws.{appended-as, appended-none}
 use Rattle.dng.specs.declared.Entry.{Entry}
 use Rattle.dng.specs.declared.Opcode.{Opcode}
 use Rattle.dng.specs.List.{Item}
-use Rattle.dng.specs.Run.{Class, class_of, name_of, names_of}
+use Rattle.dng.specs.declared.Class.{Class}
+use Rattle.dng.specs.Run.{class_of, name_of, names_of}
+use Rattle.std.specs.List.{count_by}
+use Rattle.std.proofs.lemmas.List.Sums.{sum_by-cons}
 use Rattle.say_note.specs.Note.{occurs}
 
 -- ---- a name that is kept, or not
@@ -54,13 +55,9 @@ unfolding occurs
 occurs-append x [] m = omega arith
 occurs-append x (n ∷ l) m = let h = occurs-append x l m in omega arith
 
--- from an index on
-
-module _ (x : ℕ) (ns : List ℕ) (i : ℕ) where
-  pub occurs-more : i < length ns → occurs x (drop i ns) ≡ cond (eqb (get_or ns i 0) x) 1 0 + occurs x (drop (i + 1) ns)
-  unfolding occurs
-  occurs-more h = ap (occurs x) (drop-cons ns i 0 h) ∙ rw add-one refl
-
-  pub occurs-end : length ns ≤ i → occurs x (drop i ns) ≡ 0
-  unfolding occurs
-  occurs-end h = ap (occurs x) (drop_of_length-le ns h)
+-- in the library's word
+pub occurs-count : (x : ℕ) (ns : List ℕ) → occurs x ns ≡ count_by (λ n. eqb n x) ns
+unfolding occurs
+occurs-count x [] = refl
+occurs-count x (n ∷ ns) =
+    ap (λ (k : ℕ). cond (eqb n x) 1 0 + k) (occurs-count x ns) ∙ sym (sum_by-cons (λ (m : ℕ). cond (eqb m x) 1 0) n ns)

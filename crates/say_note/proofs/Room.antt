@@ -13,10 +13,10 @@ use Rattle.num_text.proofs.Digits.{decimal-short}
 use Rattle.dng.specs.declared.Refusal.{Refusal}
 use Rattle.dng.specs.declared.Opcode.{Opcode}
 use Rattle.dng.specs.declared.Opcode.TheVariants.{WarpRectilinear, WarpFisheye, FixVignetteRadial, FixBadPixelsConstant, FixBadPixelsList, TrimBounds, MapTable, MapPolynomial, GainMap, DeltaPerRow, DeltaPerColumn, ScalePerRow, ScalePerColumn, Other}
-use Rattle.dng.specs.declared.Reading.{Reading}
-use Rattle.dng.specs.declared.Reading.TheVariants as R
-use Rattle.dng.specs.List.{Item, reading_of, items_of}
-use Rattle.dng.specs.Run.{Class, class_of, name_of, names_of, skipped}
+use Rattle.std.specs.Prelude.{Ok, Err}
+use Rattle.dng.specs.List.{Item, malformed, Reading, reading_of, items_of}
+use Rattle.dng.specs.declared.Class.{Class}
+use Rattle.dng.specs.Run.{class_of, name_of, names_of, skipped}
 use Rattle.list_read.proofs.Fold.{items-bound, refused}
 use Rattle.say_name.specs.Name.{name_texts, name_text}
 use Rattle.say_note.specs.Note.{occurs, item, firsts, behind, joined, names, about, pixel, every, applied, not_applied, lines, lines_of, malformed_after, note_on, note_of}
@@ -206,15 +206,15 @@ lines-bound s =
         → length (about head (names_of p (items_of s)) end) ≤ length head + 392 + length end
     part p head end = about-short head (names_of p (items_of s)) end (names-bound p s) (names-below p (items_of s))
 
-pub malformed-bound : (s : List ℕ) {k : ℕ} {why : Refusal} → reading_of s ≡ R.Malformed k why → length (malformed_after k) ≤ 1024
+pub malformed-bound : (s : List ℕ) {k : ℕ} {why : Refusal} → reading_of s ≡ Err (malformed k why) → length (malformed_after k) ≤ 1024
 malformed-bound s {k} e =
     let h : k ≤ 4096 = omega (arith, (refused s e).0, items-bound s) in
     omega (arith, malformed-length k, decimal-short 3 k (omega arith))
 
 note-on-bound : (s : List ℕ) (g : Reading) → reading_of s ≡ g → length (note_on g (items_of s)) ≤ 1024
 unfolding note_on
-note-on-bound s (R.Whole n) e = lines-bound s
-note-on-bound s (R.Malformed k why) e = malformed-bound s e
+note-on-bound s (Ok n) e = lines-bound s
+note-on-bound s (Err m) e = malformed-bound s e
 
 pub note-bound : (s : List ℕ) → length (note_of s) ≤ 1024
 unfolding note_of

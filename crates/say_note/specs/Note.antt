@@ -1,11 +1,11 @@
 -- What `notes` prints of the bytes of a list. Document 01, 'Notes program'.
-use Rattle.std.specs.Prelude.{ℕ, ◌+◌, Bool, true, false, cond, List, [], ◌∷◌, ◌++◌, map, eqb, ltb, length}
+use Rattle.std.specs.Prelude.{ℕ, ◌+◌, Bool, true, false, cond, List, [], ◌∷◌, ◌++◌, map, eqb, ltb, length, Ok, Err}
 use Rattle.num_text.specs.Text.{text, decimal}
 use Rattle.say_name.specs.Name.{name_text}
-use Rattle.dng.specs.declared.Reading.{Reading}
-use Rattle.dng.specs.declared.Reading.TheVariants as R
-use Rattle.dng.specs.List.{Item, reading_of, items_of}
-use Rattle.dng.specs.Run.{Class, table, empty, local, repair, unapplied, names_of, skipped}
+use Rattle.dng.specs.List.{Item, Reading, reading_of, items_of}
+use Rattle.dng.specs.declared.Class.{Class}
+use Rattle.dng.specs.declared.Class.TheVariants.{Table, Empty, Local, Repair, Unapplied}
+use Rattle.dng.specs.Run.{names_of, skipped}
 
 -- ---- names
 
@@ -45,11 +45,11 @@ about head (n ∷ ns) end = head ++ names (n ∷ ns) ++ end
 
 -- a pixel opcode is one that a form may apply; an empty table is one, although the f32 run skips it
 abbrev pub pixel : Class → Bool
-pixel table = true
-pixel empty = true
-pixel local = true
-pixel repair = true
-pixel unapplied = false
+pixel Table = true
+pixel Empty = true
+pixel Local = true
+pixel Repair = true
+pixel Unapplied = false
 
 abbrev pub every : Class → Bool
 every c = true
@@ -76,8 +76,8 @@ unfoldable pub malformed_after : ℕ → List ℕ
 malformed_after k = text "malformed after " ++ decimal k ++ text "\n"
 
 unfoldable pub note_on : Reading → List Item → List ℕ
-note_on (R.Malformed k why) is = malformed_after k
-note_on (R.Whole n) is = lines_of is
+note_on (Err m) is = malformed_after m.after
+note_on (Ok n) is = lines_of is
 
 unfoldable pub note_of : List ℕ → List ℕ
 note_of s = cond (ltb 65535 (length s)) (text "too long\n") (note_on (reading_of s) (items_of s))

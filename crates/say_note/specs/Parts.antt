@@ -2,7 +2,8 @@
 use Rattle.std.specs.Prelude.{ℕ, ◌≤◌, ◌≡◌, Bool, cond, List, [], ◌++◌, eqb, length, get_or, take}
 use Rattle.num_text.specs.Text.{text}
 use Rattle.num_text.specs.Appended.{Appended}
-use Rattle.dng.specs.Run.{Class, skipped}
+use Rattle.dng.specs.declared.Class.{Class}
+use Rattle.dng.specs.Run.{skipped}
 use Rattle.say_note.specs.declared.Part.{Part}
 use Rattle.say_note.specs.declared.Part.TheVariants.{Pixel, Skipped, Every}
 use Rattle.say_note.specs.Note.{pixel, every, occurs, item, note_of}

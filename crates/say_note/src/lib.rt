@@ -9,8 +9,7 @@ ghost use Rattle.dng.specs.Run.{class_of, name_of, names_of};
 ghost use Rattle.say_note.specs.Note.{pixel, occurs, item, names, about, lines_of, malformed_after, note_of};
 ghost use Rattle.say_note.specs.Parts.{part_of, piece_at, Noted};
 
-use dng::{Cursor, Opcode, Reading, Step};
-use list_classes::Class;
+use dng::{Class, Cursor, Opcode};
 
 // Which opcodes a line is about: the pixel opcodes, those that the f32 run skips, or all.
 #[derive(Clone, Copy)]
@@ -25,13 +24,7 @@ pub enum Part {
 fn is_pixel(op: Opcode) -> bool
     ensures { result ≡ pixel (class_of op) }
 {
-    match list_classes::class_of(op) {
-        Class::Table => true,
-        Class::Empty => true,
-        Class::Local => true,
-        Class::Repair => true,
-        Class::Unapplied => false,
-    }
+    !matches!(list_classes::class_of(op), Class::Unapplied)
 }
 
 fn is_in(part: Part, op: Opcode) -> bool
@@ -66,19 +59,13 @@ fn collect(list: &[u8], part: Part, codes: &mut [u8]) -> usize
 {
     let n = list_read::count(list);
     let mut j: usize = 0;
-    let mut k: usize = 0;
     let mut c = Cursor { at: 4 };
-    while k < n {
-        match list_read::step(list, c) {
-            Step::Item { entry: _, op, next } => {
-                j = keep(&mut *codes, j, part, op);
-                c = next;
-                k += 1;
-            }
-            Step::Malformed { why: _ } => {
-                return j;
-            }
-        }
+    for k in 0..n {
+        let Ok(s) = list_read::step(list, c) else {
+            return j;
+        };
+        j = keep(&mut *codes, j, part, s.op);
+        c = s.next;
     }
     j
 }
@@ -88,13 +75,7 @@ fn collect(list: &[u8], part: Part, codes: &mut [u8]) -> usize
 fn count(codes: &[u8], code: u8) -> usize
     ensures { result ≡ occurs code codes.now }
 {
-    let mut m: usize = 0;
-    let mut i: usize = 0;
-    while i < codes.len() {
-        m += num_small::one_if(codes[i] == code);
-        i += 1;
-    }
-    m
+    codes.iter().filter(|c| **c == code).count()
 }
 
 // A name, and how often it occurs if that is more than once.
@@ -137,12 +118,10 @@ fn put_names(out: &mut [u8], at: usize, codes: &[u8]) -> usize
 {
     let mut seen = [false; 256];
     let mut end = at;
-    let mut k: usize = 0;
-    while k < codes.len() {
-        let code = codes[k] as usize;
+    for (k, code) in codes.iter().enumerate() {
+        let code = *code as usize;
         end = put_piece(&mut *out, end, codes, k, seen[code]);
         seen[code] = true;
-        k += 1;
     }
     end
 }
@@ -228,8 +207,8 @@ fn put_note(list: &[u8], out: &mut [u8]) -> usize
         return num_text::put(&mut *out, 0, b"too long\n");
     }
     match list_read::read(list) {
-        Reading::Malformed { after, why: _ } => put_malformed(&mut *out, after),
-        Reading::Whole { opcodes: _ } => put_lines(list, &mut *out),
+        Ok(_) => put_lines(list, &mut *out),
+        Err(m) => put_malformed(&mut *out, m.after),
     }
 }
 

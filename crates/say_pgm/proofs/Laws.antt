@@ -1,5 +1,5 @@
 -- The loops over the definitions of specs/Pgm, one turn each. Assumes nothing.
-use Prim.Native.Nat.{ℕ, ◌+◌, ◌-◌, ◌*◌, ◌/◌, ◌%◌, ◌≤◌, ◌<◌, min}
+use Prim.Native.Nat.{ℕ, zero, suc, ◌+◌, ◌-◌, ◌*◌, ◌/◌, ◌%◌, ◌≤◌, ◌<◌, min}
 use mathlib.Core.Path.{◌≡◌, refl, sym, ap, subst, ◌∙◌}
 use mathlib.Core.Bool.{Bool, true, false, cond, ◌&&◌, and-false}
 use mathlib.Core.List.{List, [], ◌∷◌}
@@ -11,17 +11,18 @@ use lib.Dec.{leb, ltb, eqb}
 use lib.Ieee.{Float, binary32, nan, to_bits}
 use lib.ListN.{length, get_or, drop, drop_of_length-le, get_or-eq_default}
 use lib.Seq.{drop-cons}
+use Rattle.std.proofs.lemmas.List.Sums.{sum_by-cons}
 use Rattle.pointwise.specs.Points.{each, between}
 use Rattle.pointwise.proofs.Each.{below_or, each-agree}
 use Rattle.pointwise.proofs.Parts.{between_in}
 use Rattle.num_text.specs.Text.{decimal}
 use Rattle.num_text.proofs.Digits.{decimal-short}
-use Rattle.say_pgm.specs.declared.Found.{Found}
-use Rattle.say_pgm.specs.declared.Found.TheVariants.{Header, Broken}
+use Rattle.std.specs.Int.{w32, to_le_bytes}
+use Rattle.std.specs.Prelude.{Option, Some, None, Err, count_by}
+use Rattle.say_pgm.specs.declared.Header.{Header}
 use Rattle.say_pgm.specs.declared.Field.{Field}
-use Rattle.say_pgm.specs.declared.Frame.TheVariants.{Whole, Short}
-use Rattle.say_pgm.specs.declared.Word.TheVariants.{Number, Other}
-use Rattle.say_pgm.specs.Pgm.{white, goes_on, inside, blanks, past, is_digit, digits_in, decimal_from, number_at, Held, sound, p5, field_at, is_header, header_on, header_of, raster_len, sized_on, InSizes, is_number, word_of, byte_at, over, nth_byte, float_byte_at}
+use Rattle.say_pgm.specs.declared.FrameError.TheVariants.{Short}
+use Rattle.say_pgm.specs.Pgm.{white, goes_on, inside, blanks, past, is_digit, digits_in, decimal_from, number_at, Held, sound, p5, field_at, is_header, headed, header_on, header_of, raster_len, whole, sized_on, InSizes, is_number, word_of, byte_at, over, nth_byte, float_byte_at}
 
 -- ---- white space and comments
 
@@ -169,12 +170,12 @@ module _ (s : List ℕ) (w h m g₁ g₂ g₃ : Field) (n₁ : Near w g₁) (n�
           let e₂ = value-near w.end h g₂ 0 65536 (omega arith) n₂ o.third in
           let e₃ = value-near h.end m g₃ 1 65535 (omega arith) n₃ o.fourth in
           let f = sym ok_same ∙ e in
-          (ap (λ (b : Bool). cond b (Header w.value h.value m.value (m.end + 1)) Broken) e
+          (ap (λ (b : Bool). cond b (headed w.value h.value m.value (m.end + 1)) None) e
           ∙ simp (e₁, e₂, e₃, n₃.end_is))
-          ∙ sym (ap (λ (b : Bool). cond b (Header g₁.value g₂.value g₃.value (g₃.end + 1)) Broken) f)
+          ∙ sym (ap (λ (b : Bool). cond b (headed g₁.value g₂.value g₃.value (g₃.end + 1)) None) f)
       on false e =
-          ap (λ (b : Bool). cond b (Header w.value h.value m.value (m.end + 1)) Broken) e
-          ∙ sym (ap (λ (b : Bool). cond b (Header g₁.value g₂.value g₃.value (g₃.end + 1)) Broken) (sym ok_same ∙ e))
+          ap (λ (b : Bool). cond b (headed w.value h.value m.value (m.end + 1)) None) e
+          ∙ sym (ap (λ (b : Bool). cond b (headed g₁.value g₂.value g₃.value (g₃.end + 1)) None) (sym ok_same ∙ e))
 
 -- what the reader works with gives what the definition says
 pub header_is : (s : List ℕ) (w h m : Field) → Held s (past s 2) w → Held s (past s w.end) h → Held s (past s h.end) m
@@ -194,13 +195,13 @@ module _ (s : List ℕ) (w h m : Field) {a b c d e : Bool}
   is_ok : (a && (b && (c && (d && e)))) ≡ is_header s w h m
   is_ok = simp (is-a, is_b, is_c, is-d, is-e)
 
-  abbrev on-ok : Bool → Found
-  on-ok t = cond t (Header w.value h.value m.value (m.end + 1)) Broken
+  abbrev on-ok : Bool → Option Header
+  on-ok t = cond t (headed w.value h.value m.value (m.end + 1)) None
 
-  pub header-yes : (a && (b && (c && (d && e)))) ≡ true → Header w.value h.value m.value (m.end + 1) ≡ header_of s
+  pub header-yes : (a && (b && (c && (d && e)))) ≡ true → headed w.value h.value m.value (m.end + 1) ≡ header_of s
   header-yes t = sym (ap on-ok (sym is_ok ∙ t)) ∙ header_is s w h m hw hh hm
 
-  pub header-no : (a && (b && (c && (d && e)))) ≡ false → Broken ≡ header_of s
+  pub header-no : (a && (b && (c && (d && e)))) ≡ false → ◌≡◌ {A = Option Header} None (header_of s)
   header-no t = sym (ap on-ok (sym is_ok ∙ t)) ∙ header_is s w h m hw hh hm
 
 -- ---- a frame in a file
@@ -210,34 +211,39 @@ unfolding sound
 sound-high at f low high h =
     leb-true f.value high (last-of-four (ltb at f.from) (ltb f.from f.end) (leb low f.value) (leb f.value high) h)
 
-in-sizes-on : (s : List ℕ) (w h m : Field) (width height maxval at : ℕ) (t : Bool) → is_header s w h m ≡ t
-    → cond t (Header w.value h.value m.value (m.end + 1)) Broken ≡ Header width height maxval at → InSizes width height at (length s)
-in-sizes-on s w h m width height maxval at true e q =
+in-sizes-on : (s : List ℕ) (w h m : Field) (head : Header) (t : Bool) → is_header s w h m ≡ t
+    → cond t (headed w.value h.value m.value (m.end + 1)) None ≡ Some head → InSizes head.width head.height head.at (length s)
+in-sizes-on s w h m head true e q =
     let o = five (p5 s) (sound 2 w 0 65536) (sound w.end h 0 65536) (sound h.end m 1 65535) (white (get_or s m.end 0)) e in
-    let e₁ : w.value ≡ width = cc in
-    let e₂ : h.value ≡ height = cc in
-    let e₃ : m.end + 1 ≡ at = cc in
+    let is = ap (from-some head) q in
+    let e₁ = ap (λ (x : Header). x.width) is in
+    let e₂ = ap (λ (x : Header). x.height) is in
+    let e₃ = ap (λ (x : Header). x.at) is in
     record {
-      narrow = omega (arith, sound-high 2 w 0 65536 o.second);
-      low = omega (arith, sound-high w.end h 0 65536 o.third);
-      inside-it = omega (arith, white-in s m.end o.fifth);
+      narrow = omega (arith, e₁, sound-high 2 w 0 65536 o.second);
+      low = omega (arith, e₂, sound-high w.end h 0 65536 o.third);
+      inside-it = omega (arith, e₃, white-in s m.end o.fifth);
     }
-in-sizes-on s w h m width height maxval at false e q = let z : ◌≡◌ {A = ℕ} 0 1 = cc in absurd (omega arith)
+  where
+    from-some : Header → Option Header → Header
+    from-some d (Some x) = x
+    from-some d None = d
+in-sizes-on s w h m head false e q = cc
 
-pub in-sizes : (s : List ℕ) (width height maxval at : ℕ) → header_of s ≡ Header width height maxval at → InSizes width height at (length s)
+pub in-sizes : (s : List ℕ) (head : Header) → header_of s ≡ Some head → InSizes head.width head.height head.at (length s)
 unfolding header_of
-in-sizes s width height maxval at q = in-sizes-on s _ _ _ width height maxval at (is_header s _ _ _) refl q
+in-sizes s head q = in-sizes-on s _ _ _ head (is_header s _ _ _) refl q
 
 pub area : (w h : ℕ) → w ≤ 65536 → h ≤ 65536 → w * h ≤ 4294967296
 area w h p q = mul-le-mul p q
 
 -- the two ways on from a number of samples that there is room for
 module _ (most len w h m at n : ℕ) {b : ℕ} (room : n ≤ most) (is : b ≡ raster_len n m) where
-  pub too_short : len - at < b → Short ≡ sized_on most len w h m at n
+  pub too_short : len - at < b → Err Short ≡ sized_on most len w h m at n
   unfolding sized_on
   too_short q = simp (le-leb n most room, sym is, lt-leb b (len - at) q)
 
-  pub all_there : b ≤ len - at → Whole w h m n at (at + b) ≡ sized_on most len w h m at n
+  pub all_there : b ≤ len - at → whole w h m n at (at + b) ≡ sized_on most len w h m at n
   unfolding sized_on
   all_there q = simp (le-leb n most room, sym is, le-leb b (len - at) q)
 
@@ -256,16 +262,16 @@ last-of-three false b c h = cc
 number_same : (s : List ℕ) (f : Field) → Held s 0 f → is_number s f ≡ is_number s (number_at s 0)
 number_same s f n = simp (n.ends, n.held, leb-held (number_at s 0).value)
 
-pub a-number : (s : List ℕ) (f : Field) → Held s 0 f → is_number s f ≡ true → Number f.value ≡ word_of s
+pub a-number : (s : List ℕ) (f : Field) → Held s 0 f → is_number s f ≡ true → Some f.value ≡ word_of s
 unfolding word_of
 a-number s f n h =
     let v = leb-true f.value 65536 (last-of-three (ltb 0 f.end) (eqb f.end (length s)) (leb f.value 65536) h) in
     let e : f.value ≡ (number_at s 0).value = omega (arith, n.held, v) in
-    ap Number e ∙ sym (ap (λ (b : Bool). cond b (Number (number_at s 0).value) Other) (sym (number_same s f n) ∙ h))
+    ap Some e ∙ sym (ap (λ (b : Bool). cond b (Some (number_at s 0).value) None) (sym (number_same s f n) ∙ h))
 
-pub no_number : (s : List ℕ) (f : Field) → Held s 0 f → is_number s f ≡ false → Other ≡ word_of s
+pub no_number : (s : List ℕ) (f : Field) → Held s 0 f → is_number s f ≡ false → ◌≡◌ {A = Option ℕ} None (word_of s)
 unfolding word_of
-no_number s f n h = sym (ap (λ (b : Bool). cond b (Number (number_at s 0).value) Other) (sym (number_same s f n) ∙ h))
+no_number s f n h = sym (ap (λ (b : Bool). cond b (Some (number_at s 0).value) None) (sym (number_same s f n) ∙ h))
 
 -- ---- the raster
 
@@ -273,14 +279,12 @@ no_number s f n h = sym (ap (λ (b : Bool). cond b (Number (number_at s 0).value
 pub all_done : {A : Type 0} (f : ℕ → A → A) (l : List A) (e : ℕ) → length l ≤ e → each (between 0 e f) l ≡ each f l
 all_done f l e q = each-agree (between 0 e f) f l (λ i v h. between_in 0 e f i v (omega arith) (omega arith))
 
-pub over-next : (m : ℕ) (s : List ℕ) (i : ℕ) {t : Bool} {d : ℕ} → i < length s → t ≡ ltb m (get_or s i 0) → d ≡ cond t 1 0
-    → over m (drop i s) ≡ d + over m (drop (i + 1) s)
+-- in the library's word
+pub over-counts : (m : ℕ) (s : List ℕ) → over m s ≡ count_by (ltb m) s
 unfolding over
-over-next m s i h e q = simp (drop-cons s i 0 h, add-one, q, e)
-
-pub over-end : (m : ℕ) (s : List ℕ) (i : ℕ) → length s ≤ i → over m (drop i s) ≡ 0
-unfolding over
-over-end m s i h = simp (drop_of_length-le s h)
+over-counts m [] = refl
+over-counts m (v ∷ s) =
+    ap (λ (n : ℕ). cond (ltb m v) 1 0 + n) (over-counts m s) ∙ sym (sum_by-cons (λ (x : ℕ). cond (ltb m x) 1 0) v s)
 
 -- the raster's bytes, case by case
 module _ (s : List ℕ) (maxval j : ℕ) where
@@ -306,6 +310,15 @@ module _ (s : List ℕ) (maxval j : ℕ) where
   past_all v m h = simp (le-ltb maxval 256 m, le-ltb (j / 2) (length s) h)
 
 -- ---- raw frames of f32
+
+-- the library's bytes of a word
+pub nth-of : (bits k : ℕ) → k < 4 → get_or (to_le_bytes w32 bits) k 0 ≡ nth_byte bits k
+unfolding nth_byte
+nth-of bits zero h = refl
+nth-of bits (suc zero) h = refl
+nth-of bits (suc (suc zero)) h = refl
+nth-of bits (suc (suc (suc zero))) h = refl
+nth-of bits (suc (suc (suc (suc k)))) h = absurd (omega (arith, h))
 
 pub float_in : (s : List Float) (j : ℕ) {bits x : ℕ} (v : ℕ) → j / 4 < length s → bits ≡ to_bits binary32 (get_or s (j / 4) nan)
     → x ≡ nth_byte bits (j % 4) → x ≡ float_byte_at s j v

@@ -2,21 +2,18 @@
 -- value, one byte of white space, and the raster, row by row. A comment, from `#` to the end of its line, counts as
 -- white space before the largest value.
 -- Sizes are held to the window's, 65,536, and the largest value to 65,535.
-use Rattle.std.specs.Prelude.{ℕ, suc, ◌+◌, ◌-◌, ◌*◌, ◌/◌, ◌%◌, ◌≤◌, min, Bool, true, false, not, ◌&&◌, ◌||◌, cond, List, [], ◌∷◌, ◌++◌, ◌≡◌, leb, ltb, eqb, Float, length, get_or, drop}
+use Rattle.std.specs.Prelude.{ℕ, suc, ◌+◌, ◌-◌, ◌*◌, ◌/◌, ◌%◌, ◌≤◌, min, Bool, true, false, not, ◌&&◌, ◌||◌, cond, List, [], ◌∷◌, ◌++◌, ◌≡◌, leb, ltb, eqb, Float, length, get_or, drop, Option, Some, None, Result, Ok, Err}
 use Rattle.std.specs.Float.{binary32, nan}
 use Rattle.std.specs.Float.Ieee.{of_bits, to_bits}
 use Rattle.num_words.specs.Words.{big, little}
 use Rattle.pointwise.specs.Points.{each}
 use Rattle.num_text.specs.Text.{decimal}
 use Rattle.num_text.specs.Appended.{Appended}
-use Rattle.say_pgm.specs.declared.Found.{Found}
-use Rattle.say_pgm.specs.declared.Found.TheVariants.{Header, Broken}
+use Rattle.say_pgm.specs.declared.Header.{Header}
 use Rattle.say_pgm.specs.declared.Field.{Field}
 use Rattle.say_pgm.specs.declared.Frame.{Frame}
-use Rattle.say_pgm.specs.declared.Frame.TheVariants.{Whole, Short, TooLarge}
-use Rattle.say_pgm.specs.declared.Frame.TheVariants as Frames
-use Rattle.say_pgm.specs.declared.Word.{Word}
-use Rattle.say_pgm.specs.declared.Word.TheVariants.{Number, Other}
+use Rattle.say_pgm.specs.declared.FrameError.{FrameError}
+use Rattle.say_pgm.specs.declared.FrameError.TheVariants.{Broken, Short, TooLarge}
 
 -- ---- white space and comments
 
@@ -90,10 +87,13 @@ abbrev pub is_header : List ℕ → (w h m : Field) → Bool
 is_header s w h m = p5 s && (sound 2 w 0 65536 &&
     (sound w.end h 0 65536 && (sound h.end m 1 65535 && white (get_or s m.end 0))))
 
-abbrev pub header_on : List ℕ → (w h m : Field) → Found
-header_on s w h m = cond (is_header s w h m) (Header w.value h.value m.value (m.end + 1)) Broken
+abbrev pub headed : (width height maxval at : ℕ) → Option Header
+headed w h m at = Some (record { width = w; height = h; maxval = m; at = at })
 
-unfoldable pub header_of : List ℕ → Found
+abbrev pub header_on : List ℕ → (w h m : Field) → Option Header
+header_on s w h m = cond (is_header s w h m) (headed w.value h.value m.value (m.end + 1)) None
+
+unfoldable pub header_of : List ℕ → Option Header
 header_of s = header_on s (field_at s 2) (field_at s (field_at s 2).end) (field_at s (field_at s (field_at s 2).end).end)
 
 -- ---- a frame in a file
@@ -102,16 +102,19 @@ header_of s = header_on s (field_at s 2) (field_at s (field_at s 2).end) (field_
 unfoldable pub raster_len : (n maxval : ℕ) → ℕ
 raster_len n maxval = cond (ltb maxval 256) n (2 * n)
 
+abbrev pub whole : (width height maxval samples at end : ℕ) → Result Frame FrameError
+whole w h m n at end = Ok (record { width = w; height = h; maxval = m; samples = n; at = at; end = end })
+
 -- most: how many samples there is room for; len: how many bytes the file has
-unfoldable pub sized_on : (most len w h m at n : ℕ) → Frame
+unfoldable pub sized_on : (most len w h m at n : ℕ) → Result Frame FrameError
 sized_on most len w h m at n =
-    cond (leb n most) (cond (leb (raster_len n m) (len - at)) (Whole w h m n at (at + raster_len n m)) Short) TooLarge
+    cond (leb n most) (cond (leb (raster_len n m) (len - at)) (whole w h m n at (at + raster_len n m)) (Err Short)) (Err TooLarge)
 
-abbrev pub frame_on : (most len : ℕ) → Found → Frame
-frame_on most len (Header w h m at) = sized_on most len w h m at (w * h)
-frame_on most len Broken = Frames.Broken
+abbrev pub frame_on : (most len : ℕ) → Option Header → Result Frame FrameError
+frame_on most len (Some h) = sized_on most len h.width h.height h.maxval h.at (h.width * h.height)
+frame_on most len None = Err Broken
 
-unfoldable pub frame_of : List ℕ → (most : ℕ) → Frame
+unfoldable pub frame_of : List ℕ → (most : ℕ) → Result Frame FrameError
 frame_of s most = frame_on most (length s) (header_of s)
 
 -- what every header keeps to
@@ -125,8 +128,8 @@ pub record InSizes (w h at len : ℕ) : Type 0 where
 abbrev pub is_number : List ℕ → Field → Bool
 is_number s f = ltb 0 f.end && (eqb f.end (length s) && leb f.value 65536)
 
-unfoldable pub word_of : List ℕ → Word
-word_of s = cond (is_number s (number_at s 0)) (Number (number_at s 0).value) Other
+unfoldable pub word_of : List ℕ → Option ℕ
+word_of s = cond (is_number s (number_at s 0)) (Some (number_at s 0).value) None
 
 -- ---- the raster
 

@@ -4,20 +4,18 @@
 
 ghost use Rattle.std.specs.Prelude.{◌≡◌, ◌+◌, ◌-◌, ◌*◌, ◌/◌, ◌%◌, ◌≤◌, ◌<◌, min, ltb, length, get_or};
 ghost use Rattle.pointwise.specs.Points.{each};
-ghost use Rattle.say_pgm.specs.Pgm.{white, line_end, goes_on, inside, past, is_digit, Held, sound, p5, header_of, raster_len, InSizes, frame_on, frame_of, word_of, sample_at, byte_at, over, Encoded, area_of, float_at, nth_byte, float_byte_at, header_text, Put};
+ghost use Rattle.say_pgm.specs.Pgm.{white, line_end, goes_on, inside, past, is_digit, Held, sound, p5, header_of, raster_len, InSizes, frame_on, frame_of, word_of, sample_at, byte_at, over, Encoded, area_of, float_at, float_byte_at, header_text, Put};
 ghost use Rattle.num_text.specs.Appended.{Appended};
 
-// What stands at the start of a file.
+use std::fmt;
+
+// What stands at the start of a file; `at` is where the raster starts.
 #[derive(Clone, Copy)]
-pub enum Found {
-    // `at` is where the raster starts.
-    Header {
-        width: usize,
-        height: usize,
-        maxval: usize,
-        at: usize,
-    },
-    Broken,
+pub struct Header {
+    pub width: usize,
+    pub height: usize,
+    pub maxval: usize,
+    pub at: usize,
 }
 
 // A number of the header: where its digits start, where they end, and what they say.
@@ -66,16 +64,14 @@ fn skip(bytes: &[u8], at: usize) -> usize
     ensures { result ≡ past bytes.now at }
 {
     let mut comment = false;
-    let mut i = at;
-    while i < bytes.len() {
+    for i in at..bytes.len() {
         let b = bytes[i];
         if !goes_on(comment, b) {
             return i;
         }
         comment = in_comment(comment, b);
-        i += 1;
     }
-    i
+    at.max(bytes.len())
 }
 
 // ---- numbers
@@ -90,7 +86,7 @@ fn is_digit(b: u8) -> bool
 fn digit(b: u8) -> usize
     ensures { (result ≡ b - 48) × (result < 256) }
 {
-    if 48 < b { (b - 48) as usize } else { 0 }
+    usize::from(b.saturating_sub(48))
 }
 
 // One digit more, held to one more than any field takes: digits without end must not wrap.
@@ -98,17 +94,15 @@ fn more(value: usize, d: usize) -> usize
     requires { (value ≤ 65537) × (d < 256) }
     ensures { result ≡ min 65537 (value * 10 + d) }
 {
-    let v = value * 10 + d;
-    if v < 65537 { v } else { 65537 }
+    (value * 10 + d).min(65537)
 }
 
 // The digits at a position.
 fn number(bytes: &[u8], at: usize) -> Field
     ensures { Held bytes.now at result }
 {
-    let mut value: usize = 0;
-    let mut i = at;
-    while i < bytes.len() {
+    let mut value = 0;
+    for i in at..bytes.len() {
         let b = bytes[i];
         if !is_digit(b) {
             return Field {
@@ -118,11 +112,10 @@ fn number(bytes: &[u8], at: usize) -> Field
             };
         }
         value = more(value, digit(b));
-        i += 1;
     }
     Field {
         from: at,
-        end: i,
+        end: at.max(bytes.len()),
         value,
     }
 }
@@ -147,7 +140,7 @@ fn is_sound(at: usize, f: Field, low: usize, high: usize) -> bool
 fn byte(s: &[u8], at: usize) -> u8
     ensures { result ≡ get_or s.now at 0 }
 {
-    if at < s.len() { s[at] } else { 0 }
+    s.get(at).copied().unwrap_or(0)
 }
 
 fn is_p5(bytes: &[u8]) -> bool
@@ -156,8 +149,8 @@ fn is_p5(bytes: &[u8]) -> bool
     (byte(bytes, 0) == 80) & (byte(bytes, 1) == 53)
 }
 
-// What stands at the start of a file.
-pub fn header(bytes: &[u8]) -> Found
+// The header at the start of a file.
+pub fn read_header(bytes: &[u8]) -> Option<Header>
     ensures { result ≡ header_of bytes.now }
 {
     let w = next_number(bytes, 2);
@@ -171,33 +164,46 @@ pub fn header(bytes: &[u8]) -> Found
             & (is_sound(first, h, 0, 65536)
                 & (is_sound(second, m, 1, 65535) & is_white(byte(bytes, third)))));
     if ok {
-        Found::Header {
+        Some(Header {
             width: w.value,
             height: h.value,
             maxval: m.value,
             at: third + 1,
-        }
+        })
     } else {
-        Found::Broken
+        None
     }
 }
 
 // ---- a frame in a file
 
-// A header, with room for its samples and a raster that is all there; or why not.
+// What a header says, with room for its `samples` and a raster that is all there, from `at` to `end`.
 #[derive(Clone, Copy)]
-pub enum Frame {
-    Whole {
-        width: usize,
-        height: usize,
-        maxval: usize,
-        samples: usize,
-        at: usize,
-        end: usize,
-    },
+pub struct Frame {
+    pub width: usize,
+    pub height: usize,
+    pub maxval: usize,
+    pub samples: usize,
+    pub at: usize,
+    pub end: usize,
+}
+
+// Why a file has no frame that can be read.
+#[derive(Clone, Copy)]
+pub enum FrameError {
     Broken,
     TooLarge,
     Short,
+}
+
+impl fmt::Display for FrameError {
+    fn fmt<W: fmt::Write>(&self, f: &mut fmt::Formatter<W>) -> fmt::Result {
+        match self {
+            FrameError::Broken => f.write_str("no binary greymap (P5)"),
+            FrameError::TooLarge => f.write_str("too many samples"),
+            FrameError::Short => f.write_str("the raster is cut short"),
+        }
+    }
 }
 
 // How many bytes n samples are.
@@ -209,61 +215,56 @@ fn raster_len(n: usize, maxval: usize) -> usize
 }
 
 // The frame of a header, in a file of len bytes.
-fn sized(width: usize, height: usize, maxval: usize, at: usize, len: usize, most: usize) -> Frame
-    requires { InSizes width height at len }
-    ensures { result ≡ frame_on most len (Found.Header width height maxval at) }
+fn sized(head: Header, len: usize, most: usize) -> Result<Frame, FrameError>
+    requires { InSizes head.width head.height head.at len }
+    ensures { result ≡ frame_on most len (Some head) }
 {
+    let Header {
+        width,
+        height,
+        maxval,
+        at,
+    } = head;
     let samples = width * height;
     if most < samples {
-        return Frame::TooLarge;
+        return Err(FrameError::TooLarge);
     }
     let bytes = raster_len(samples, maxval);
     if len - at < bytes {
-        return Frame::Short;
+        return Err(FrameError::Short);
     }
-    Frame::Whole {
+    Ok(Frame {
         width,
         height,
         maxval,
         samples,
         at,
         end: at + bytes,
-    }
+    })
 }
 
 // The frame at the start of a file, of at most `most` samples.
-pub fn read_frame(bytes: &[u8], most: usize) -> Frame
+pub fn read_frame(bytes: &[u8], most: usize) -> Result<Frame, FrameError>
     ensures { result ≡ frame_of bytes.now most }
 {
-    match header(bytes) {
-        Found::Header {
-            width,
-            height,
-            maxval,
-            at,
-        } => sized(width, height, maxval, at, bytes.len(), most),
-        Found::Broken => Frame::Broken,
+    match read_header(bytes) {
+        Some(head) => sized(head, bytes.len(), most),
+        None => Err(FrameError::Broken),
     }
 }
 
 // ---- a number by itself
 
-// What a word says: a number from 0 to 65,536, or something else.
-#[derive(Clone, Copy)]
-pub enum Word {
-    Number { value: usize },
-    Other,
-}
-
-pub fn read_number(bytes: &[u8]) -> Word
+// The number from 0 to 65,536 that a word is.
+pub fn read_number(bytes: &[u8]) -> Option<usize>
     ensures { result ≡ word_of bytes.now }
 {
     let f = number(bytes, 0);
     let value = f.value;
     if (0 < f.end) & ((f.end == bytes.len()) & (value <= 65536)) {
-        Word::Number { value }
+        Some(value)
     } else {
-        Word::Other
+        None
     }
 }
 
@@ -287,10 +288,8 @@ pub fn decode(raster: &[u8], maxval: usize, samples: &mut [u16])
     ensures { samples.new ≡ each (λ i v. sample_at raster.now maxval i)
         samples.old }
 {
-    let mut i: usize = 0;
-    while i < samples.len() {
-        samples[i] = sample_of(raster, maxval, i);
-        i += 1;
+    for (i, v) in samples.iter_mut().enumerate() {
+        *v = sample_of(raster, maxval, i);
     }
 }
 
@@ -298,11 +297,7 @@ pub fn decode(raster: &[u8], maxval: usize, samples: &mut [u16])
 fn held(v: u16, maxval: usize) -> u16
     ensures { result ≡ min v maxval }
 {
-    if maxval < v as usize {
-        maxval as u16
-    } else {
-        v
-    }
+    (v as usize).min(maxval) as u16
 }
 
 fn low_byte(v: u16) -> u8
@@ -344,30 +339,16 @@ fn byte_of(samples: &[u16], maxval: usize, j: usize, old: u8) -> u8
 fn fill(samples: &[u16], maxval: usize, out: &mut [u8])
     ensures { out.new ≡ each (byte_at samples.now maxval) out.old }
 {
-    let mut j: usize = 0;
-    while j < out.len() {
-        out[j] = byte_of(samples, maxval, j, out[j]);
-        j += 1;
+    for (j, b) in out.iter_mut().enumerate() {
+        *b = byte_of(samples, maxval, j, *b);
     }
-}
-
-fn is_over(v: u16, maxval: usize) -> bool
-    ensures { result ≡ ltb maxval v }
-{
-    maxval < v as usize
 }
 
 // How many samples lie above the largest value.
 fn count_over(samples: &[u16], maxval: usize) -> usize
     ensures { result ≡ over maxval samples.now }
 {
-    let mut n: usize = 0;
-    let mut i: usize = 0;
-    while i < samples.len() {
-        n += num_small::one_if(is_over(samples[i], maxval));
-        i += 1;
-    }
-    n
+    samples.iter().filter(|v| maxval < **v as usize).count()
 }
 
 // A raster from samples, each held to the largest value, and how many were held.
@@ -379,6 +360,8 @@ pub fn encode(samples: &[u16], maxval: usize, out: &mut [u8]) -> usize
 }
 
 // ---- raw frames of f32, little-endian
+// One generic for these and a greymap's `decode` and `encode` would be no plainer: an f32 has no largest value, no case
+// of one byte and none that is held.
 
 // How many samples a frame has; one more than any where a side is too long.
 pub fn area(width: usize, height: usize) -> usize
@@ -407,25 +390,8 @@ fn float_of(raster: &[u8], i: usize) -> f32
 pub fn decode_f32(raster: &[u8], samples: &mut [f32])
     ensures { samples.new ≡ each (λ i v. float_at raster.now i) samples.old }
 {
-    let mut i: usize = 0;
-    while i < samples.len() {
-        samples[i] = float_of(raster, i);
-        i += 1;
-    }
-}
-
-// Byte k of a word, the lowest first.
-fn nth_byte(bits: u32, k: usize) -> u8
-    ensures { result ≡ nth_byte bits k }
-{
-    if k == 0 {
-        (bits % 256) as u8
-    } else if k == 1 {
-        (bits / 256 % 256) as u8
-    } else if k == 2 {
-        (bits / 65536 % 256) as u8
-    } else {
-        (bits / 16777216 % 256) as u8
+    for (i, v) in samples.iter_mut().enumerate() {
+        *v = float_of(raster, i);
     }
 }
 
@@ -434,7 +400,7 @@ fn float_byte(samples: &[f32], j: usize, old: u8) -> u8
 {
     let i = j / 4;
     if i < samples.len() {
-        nth_byte(num_words::bits_of(samples[i]), j % 4)
+        num_words::bits_of(samples[i]).to_le_bytes()[j % 4]
     } else {
         old
     }
@@ -444,10 +410,8 @@ fn float_byte(samples: &[f32], j: usize, old: u8) -> u8
 pub fn encode_f32(samples: &[f32], out: &mut [u8])
     ensures { out.new ≡ each (float_byte_at samples.now) out.old }
 {
-    let mut j: usize = 0;
-    while j < out.len() {
-        out[j] = float_byte(samples, j, out[j]);
-        j += 1;
+    for (j, b) in out.iter_mut().enumerate() {
+        *b = float_byte(samples, j, *b);
     }
 }
 

@@ -1,20 +1,16 @@
--- Texts put one behind the other, each in few bytes; and counting. Assumes nothing.
+-- Texts put one behind the other, each in few bytes. Assumes nothing.
 use Prim.Native.Nat.{ℕ, ◌+◌, ◌≤◌, ◌<◌}
 use mathlib.Core.Path.{◌≡◌, sym, ap}
-use mathlib.Core.Bool.{cond}
 use mathlib.Core.List.{List, [], ◌∷◌, ◌++◌}
-use native.Mathlib.Numerals.{add-one}
 use native.Mathlib.Omega.{arith}
 use borrow.Author.Tests.{eq-eqb, ne_eqb}
-use lib.Dec.{eqb}
-use lib.ListN.{length, get_or, drop, drop_of_length-le}
-use lib.Seq.{drop-cons}
+use lib.ListN.{length}
 use Rattle.num_text.specs.Text.{decimal}
 use Rattle.num_text.specs.Appended.{Appended}
 use Rattle.num_text.proofs.Laws.{appended-none, appended-as, appended_then}
 use Rattle.num_text.proofs.Digits.{decimal-short}
 use Rattle.dng.specs.declared.Reason.{Reason}
-use Rattle.say_report.specs.Report.{occurs, line, line_if, Within, why_text}
+use Rattle.say_report.specs.Report.{line, line_if, Within, why_text}
 
 -- no 64-bit number has more than 20 digits
 pub few : (n : ℕ) → n < 18446744073709551616 → length (decimal n) ≤ 20
@@ -57,14 +53,3 @@ pub said :
     {b o : List ℕ} {p q : Reason} {j at r : ℕ} (n : ℕ) → p ≡ q → j ≤ 200 → Within j b at (line (why_text q) n) r o
     → Within 200 b at (line (why_text p) n) r o
 said {j = j} n e h x = within-as j 200 h (ap (λ (k : Reason). line (why_text k) n) (sym e)) x
-
--- ---- counting
-
-pub occurs-next : (k : ℕ) (s : List ℕ) (i : ℕ) {d : ℕ} → i < length s → d ≡ cond (eqb (get_or s i 0) k) 1 0
-    → occurs k (drop i s) ≡ d + occurs k (drop (i + 1) s)
-unfolding occurs
-occurs-next k s i h q = simp (drop-cons s i 0 h, add-one, q)
-
-pub occurs-end : (k : ℕ) (s : List ℕ) (i : ℕ) → length s ≤ i → occurs k (drop i s) ≡ 0
-unfolding occurs
-occurs-end k s i h = simp (drop_of_length-le s h)

@@ -1,6 +1,6 @@
 -- What a run answered, as text. The number in front is document 01's, 'What comes back', and for a malformed list
 -- document 02's, M-100.
-use Rattle.std.specs.Prelude.{ℕ, ◌+◌, ◌≤◌, min, Bool, true, false, cond, List, [], ◌∷◌, ◌++◌, eqb, length, take}
+use Rattle.std.specs.Prelude.{ℕ, ◌+◌, ◌≤◌, min, Bool, true, false, cond, List, [], ◌∷◌, ◌++◌, eqb, length, take, count_by}
 use Rattle.num_text.specs.Text.{text, decimal}
 use Rattle.num_text.specs.Appended.{Appended}
 use Rattle.dng.specs.declared.Reason.{Reason}
@@ -12,9 +12,8 @@ use Rattle.say_report.specs.declared.Form.{Form}
 use Rattle.say_report.specs.declared.Form.TheVariants.{Whole, Rounded, Float}
 
 -- how often k stands in a list
-unfoldable pub occurs : ℕ → List ℕ → ℕ
-occurs k [] = 0
-occurs k (b ∷ s) = cond (eqb b k) 1 0 + occurs k s
+abbrev pub occurs : ℕ → List ℕ → ℕ
+occurs k s = count_by (λ b. eqb b k) s
 
 -- a label, a number and a newline
 unfoldable pub line : List ℕ → ℕ → List ℕ

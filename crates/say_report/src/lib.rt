@@ -25,13 +25,7 @@ pub enum Form {
 fn count(names: &[u8], k: u8) -> usize
     ensures { result ≡ occurs k names.now }
 {
-    let mut n: usize = 0;
-    let mut i: usize = 0;
-    while i < names.len() {
-        n += num_small::one_if(names[i] == k);
-        i += 1;
-    }
-    n
+    names.iter().filter(|b| **b == k).count()
 }
 
 // A label, a number and the end of the line.
@@ -133,9 +127,9 @@ fn put_done(
     ensures { Within 512 out.old 0 (done_text form names.now n repaired left held whole) result
         out.new }
 {
-    let k = num_small::lesser(n, names.len());
+    let k = n.min(names.len());
     let a = put_form(&mut *out, 0, form);
-    let b = put_skipped(&mut *out, a, &names[0..k]);
+    let b = put_skipped(&mut *out, a, &names[..k]);
     let c = put_line(&mut *out, b, b"repaired: ", repaired);
     let d = put_line(&mut *out, c, b"left: ", left);
     let e = put_line_if(&mut *out, d, b"held to the largest value: ", held);

@@ -11,22 +11,17 @@ use lib.Dec.{leb}
 use lib.ListN.{length, take, get_or, set, length-set}
 use lib.Seq.{take-suc-set, paste, paste-suc}
 use Rattle.num_words.specs.Words.{big}
+use Rattle.std.specs.Prelude.{Option, Some, None}
 use Rattle.try_call.specs.declared.Span.{Span}
 use Rattle.try_call.specs.declared.Call.{Call}
-use Rattle.try_call.specs.declared.Part.{Part}
-use Rattle.try_call.specs.declared.Part.TheVariants.{Bytes}
-use Rattle.try_call.specs.declared.Part.TheVariants.{Broken as Cut}
-use Rattle.try_call.specs.declared.Found.{Found}
-use Rattle.try_call.specs.declared.Found.TheVariants.{One, Broken}
 use Rattle.try_call.specs.Calls.{
   Inside,
-  pick_part,
+  pick,
   counted_in,
   part_in,
   Counted,
   fields_of,
   small_of,
-  pick_found,
   kept_of,
   with_samples,
   with_list,
@@ -39,12 +34,12 @@ use Rattle.try_call.specs.Hex.{pair_of, hex_to}
 module _ (s : List ℕ) where
   -- ---- a part
 
-  pub part_cut : (at : ℕ) → length s < at + 4 + big 4 s at → Counted s at Cut
+  pub part_cut : (at : ℕ) → length s < at + 4 + big 4 s at → Counted s at None
   part_cut at h = record { is = simp (lt-leb _ _ h); inside = tt }
 
   pub part-whole :
       (at : ℕ) {n : ℕ} → n ≡ big 4 s at → at + 4 + n ≤ length s
-      → Counted s at (Bytes (record { start = at + 4; end = at + 4 + n }))
+      → Counted s at (Some (record { start = at + 4; end = at + 4 + n }))
   part-whole at e h =
       record { is = rw e (simp (le-leb _ _ (rw e at h))); inside = record { order = omega arith; held = h } }
 
@@ -53,13 +48,9 @@ module _ (s : List ℕ) where
     where
       go :
           (b : Bool) → (b ≡ true → at + 4 + big 4 s at ≤ length s)
-          → part_in s (pick_part b (Bytes (record { start = at + 4; end = at + 4 + big 4 s at })) Cut)
+          → part_in s (pick b (record { start = at + 4; end = at + 4 + big 4 s at }))
       go true h = record { order = omega arith; held = h refl }
       go false h = tt
-
-  -- what was found is a part of the input
-  pub part-is : {at : ℕ} {q : Part} {p : Span} → Counted s at q → q ≡ Bytes p → Inside s p
-  part-is c e = subst (part_in s) e c.inside
 
   -- ---- a call
 
@@ -71,7 +62,7 @@ module _ (s : List ℕ) where
     where
       go :
           (f m n d : Bool) → (m ≡ true → c.marks ≤ 64) → (n ≡ true → c.names ≤ 64)
-          → (d ≡ true → c.samples.end - c.samples.start ≤ 256) → sound_in s (pick_found (f && m && n && d) (One c) Broken)
+          → (d ≡ true → c.samples.end - c.samples.start ≤ 256) → sound_in s (pick (f && m && n && d) c)
       go true true true true hm hn hd =
           record { list = l; samples = p; few = hd refl; marks = hm refl; names = hn refl }
       go true true true false hm hn hd = tt
@@ -79,46 +70,29 @@ module _ (s : List ℕ) where
       go true false n d hm hn hd = tt
       go false m n d hm hn hd = tt
 
-  samples-sound : (at : ℕ) {l : Span} (q : Part) → Inside s l → part_in s q → sound_in s (with_samples s at l q)
-  samples-sound at (Bytes p) i h = kept-sound _ i h
-  samples-sound at Cut i h = tt
+  samples-sound : (at : ℕ) {l : Span} (q : Option Span) → Inside s l → part_in s q → sound_in s (with_samples s at l q)
+  samples-sound at (Some p) i h = kept-sound _ i h
+  samples-sound at None i h = tt
 
-  list-sound : (at : ℕ) (q : Part) → part_in s q → sound_in s (with_list s at q)
-  list-sound at (Bytes l) i = samples-sound at (counted_in s (l.end + 52)) i (part-inside (l.end + 52))
-  list-sound at Cut i = tt
+  list-sound : (at : ℕ) (q : Option Span) → part_in s q → sound_in s (with_list s at q)
+  list-sound at (Some l) i = samples-sound at (counted_in s (l.end + 52)) i (part-inside (l.end + 52))
+  list-sound at None i = tt
 
   -- the definition says enough: a call that is found may be run
-  pub read_is : (at : ℕ) {r : Found} → r ≡ call_in s at → Read s at r
+  pub read_is : (at : ℕ) {r : Option Call} → r ≡ call_in s at → Read s at r
   read_is at e =
       record { is = e; sound = subst (sound_in s) (sym e) (list-sound at (counted_in s (at + 4)) (part-inside (at + 4))) }
 
-  -- past the end nothing stands
-  pub read_past : (at : ℕ) → length s < at → Read s at Broken
-  read_past at h = read_is at (ap (with_list s at) (part_cut (at + 4) (omega arith)).is)
-
-  module _ (at : ℕ) {q : Part} where
-    pub read-list : {l : Span} {r : Found} → Counted s (at + 4) q → q ≡ Bytes l → r ≡ with_list s at (Bytes l) → Read s at r
+  module _ (at : ℕ) {q : Option Span} where
+    pub read-list : {l : Span} {r : Option Call} → Counted s (at + 4) q → q ≡ Some l → r ≡ with_list s at (Some l) → Read s at r
     read-list c e h = read_is at (h ∙ ap (with_list s at) (sym e ∙ c.is))
 
-    pub read-cut : Counted s (at + 4) q → q ≡ Cut → Read s at Broken
-    read-cut c e = read_is at (ap (with_list s at) (sym e ∙ c.is))
-
     pub list-whole :
-        {l p : Span} {c : Call} {r : Found} → Counted s (l.end + 52) q → q ≡ Bytes p → c ≡ fields_of s at l p → r ≡ kept_of c
-        → r ≡ with_list s at (Bytes l)
+        {l p : Span} {c : Call} {r : Option Call} → Counted s (l.end + 52) q → q ≡ Some p → c ≡ fields_of s at l p → r ≡ kept_of c
+        → r ≡ with_list s at (Some l)
     list-whole {l} i e f h = h ∙ ap kept_of f ∙ ap (with_samples s at l) (sym e ∙ i.is)
 
-    pub list-cut : (l : Span) → Counted s (l.end + 52) q → q ≡ Cut → Broken ≡ with_list s at (Bytes l)
-    list-cut l i e = ap (with_samples s at l) (sym e ∙ i.is)
-
 -- ---- bytes
-
-pub paste-next :
-    (d s : List ℕ) (j : ℕ) → j < length d → j < length s → set (paste d 0 s j) j (get_or s j 0) ≡ paste d 0 s (j + 1)
-paste-next d s j hd hs =
-    rw add-one
-    (subst (λ (k : ℕ). set (paste d 0 s j) k (get_or s j 0) ≡ paste d 0 s (suc j)) (zero-add j)
-    (paste-suc d 0 s j 0 (omega arith) hs))
 
 pub pair_put :
     (t : List ℕ) (at x y : ℕ) → at + 2 ≤ length t → take (at + 2) (set (set t at x) (at + 1) y) ≡ take at t ++ (x ∷ y ∷ [])

@@ -1,37 +1,31 @@
 -- The calls that the comparison stores, one after the other. Words are big-endian; a list and samples have their length
 -- before them.
-use Rattle.std.specs.Prelude.{ℕ, ◌+◌, ◌-◌, ◌≤◌, Bool, true, false, ◌&&◌, List, ◌≡◌, leb, length}
+use Rattle.std.specs.Prelude.{ℕ, ◌+◌, ◌-◌, ◌≤◌, Bool, true, false, ◌&&◌, List, Option, Some, None, ◌≡◌, leb, length}
 use Rattle.std.specs.Float.{binary32}
 use Rattle.std.specs.Float.Ieee.{of_bits}
 use Rattle.num_words.specs.Words.{big}
 use Rattle.dng.specs.declared.Window.{Window}
 use Rattle.try_call.specs.declared.Span.{Span}
 use Rattle.try_call.specs.declared.Call.{Call}
-use Rattle.try_call.specs.declared.Part.{Part}
-use Rattle.try_call.specs.declared.Part.TheVariants.{Bytes}
-use Rattle.try_call.specs.declared.Part.TheVariants.{Broken as Cut}
-use Rattle.try_call.specs.declared.Found.{Found}
-use Rattle.try_call.specs.declared.Found.TheVariants.{One, Broken}
 
 -- a part of the input s
 pub record Inside (s : List ℕ) (p : Span) : Type 0 where
   pub order : p.start ≤ p.end
   pub held : p.end ≤ length s
 
-abbrev pub pick_part : Bool → Part → Part → Part
-pick_part true a b = a
-pick_part false a b = b
+abbrev pub pick : {X : Type 0} → Bool → X → Option X
+pick true x = Some x
+pick false x = None
 
 -- the bytes behind the length word at a position, if s has them all
-abbrev pub counted_in : List ℕ → ℕ → Part
-counted_in s at =
-    pick_part (leb (at + 4 + big 4 s at) (length s)) (Bytes (record { start = at + 4; end = at + 4 + big 4 s at })) Cut
+abbrev pub counted_in : List ℕ → ℕ → Option Span
+counted_in s at = pick (leb (at + 4 + big 4 s at) (length s)) (record { start = at + 4; end = at + 4 + big 4 s at })
 
-abbrev pub part_in : List ℕ → Part → Type 0
-part_in s (Bytes p) = Inside s p
-part_in s Cut = Unit
+abbrev pub part_in : List ℕ → Option Span → Type 0
+part_in s (Some p) = Inside s p
+part_in s None = Unit
 
-pub record Counted (s : List ℕ) (at : ℕ) (r : Part) : Type 0 where
+pub record Counted (s : List ℕ) (at : ℕ) (r : Option Span) : Type 0 where
   pub is : r ≡ counted_in s at
   pub inside : part_in s r
 
@@ -70,23 +64,19 @@ unfoldable pub small_of : Call → Bool
 small_of c =
     leb c.form 7 && leb c.marks 64 && leb c.names 64 && leb (c.samples.end - c.samples.start) 256
 
-abbrev pub pick_found : Bool → Found → Found → Found
-pick_found true a b = a
-pick_found false a b = b
+abbrev pub kept_of : Call → Option Call
+kept_of c = pick (small_of c) c
 
-abbrev pub kept_of : Call → Found
-kept_of c = pick_found (small_of c) (One c) Broken
+abbrev pub with_samples : List ℕ → ℕ → Span → Option Span → Option Call
+with_samples s at list (Some p) = kept_of (fields_of s at list p)
+with_samples s at list None = None
 
-abbrev pub with_samples : List ℕ → ℕ → Span → Part → Found
-with_samples s at list (Bytes p) = kept_of (fields_of s at list p)
-with_samples s at list Cut = Broken
-
-abbrev pub with_list : List ℕ → ℕ → Part → Found
-with_list s at (Bytes list) = with_samples s at list (counted_in s (list.end + 52))
-with_list s at Cut = Broken
+abbrev pub with_list : List ℕ → ℕ → Option Span → Option Call
+with_list s at (Some list) = with_samples s at list (counted_in s (list.end + 52))
+with_list s at None = None
 
 -- the call at a position
-abbrev pub call_in : List ℕ → ℕ → Found
+abbrev pub call_in : List ℕ → ℕ → Option Call
 call_in s at = with_list s at (counted_in s (at + 4))
 
 -- what may be done with a call that was found
@@ -97,10 +87,10 @@ pub record Sound (s : List ℕ) (c : Call) : Type 0 where
   pub marks : c.marks ≤ 64
   pub names : c.names ≤ 64
 
-abbrev pub sound_in : List ℕ → Found → Type 0
-sound_in s (One c) = Sound s c
-sound_in s Broken = Unit
+abbrev pub sound_in : List ℕ → Option Call → Type 0
+sound_in s (Some c) = Sound s c
+sound_in s None = Unit
 
-pub record Read (s : List ℕ) (at : ℕ) (r : Found) : Type 0 where
+pub record Read (s : List ℕ) (at : ℕ) (r : Option Call) : Type 0 where
   pub is : r ≡ call_in s at
   pub sound : sound_in s r

@@ -59,18 +59,6 @@ impl Call {
     pub const MAX_SAMPLE_BYTES: usize = 256;
 }
 
-#[derive(Clone, Copy)]
-pub enum Found {
-    One { call: Call },
-    Broken,
-}
-
-#[derive(Clone, Copy)]
-pub enum Part {
-    Bytes { span: Span },
-    Broken,
-}
-
 // ---- a call
 
 fn size(s: &[u8], at: usize) -> usize
@@ -80,39 +68,34 @@ fn size(s: &[u8], at: usize) -> usize
 }
 
 // The bytes behind the length word at a position, if the input has them all.
-fn counted(s: &[u8], at: usize) -> Part
+fn counted(s: &[u8], at: usize) -> Option<Span>
     ensures { Counted s.now at result }
 {
     if s.len() < 4 {
-        return Part::Broken;
+        return None;
     }
     let last = s.len() - 4;
     if last < at {
-        return Part::Broken;
+        return None;
     }
     let n = size(s, at);
     if last - at < n {
-        return Part::Broken;
+        return None;
     }
-    Part::Bytes {
-        span: Span {
-            start: at + 4,
-            end: at + 4 + n,
-        },
-    }
+    Some(Span {
+        start: at + 4,
+        end: at + 4 + n,
+    })
 }
 
 // The same, or none, at the end of the input, where it is broken.
 pub fn span_at(s: &[u8], at: usize) -> Span
     ensures { Inside s.now result }
 {
-    match counted(s, at) {
-        Part::Bytes { span } => span,
-        Part::Broken => Span {
-            start: s.len(),
-            end: s.len(),
-        },
-    }
+    counted(s, at).unwrap_or(Span {
+        start: s.len(),
+        end: s.len(),
+    })
 }
 
 fn window(s: &[u8], at: usize) -> Window
@@ -162,38 +145,30 @@ fn is_small(c: Call) -> bool
         & (p.end - p.start <= Call::MAX_SAMPLE_BYTES)
 }
 
-fn kept(c: Call) -> Found
+fn kept(c: Call) -> Option<Call>
     requires { c.samples.start ≤ c.samples.end }
     ensures { result ≡ kept_of c }
 {
-    if is_small(c) {
-        return Found::One { call: c };
-    }
-    Found::Broken
+    if is_small(c) { Some(c) } else { None }
 }
 
 // The rest of a call, from the end of its list on.
-fn with_list(s: &[u8], at: usize, list: Span) -> Found
+fn with_list(s: &[u8], at: usize, list: Span) -> Option<Call>
     requires { Inside s.now list }
-    ensures { result ≡ with_list s.now at (Part.Bytes list) }
+    ensures { result ≡ with_list s.now at (Some list) }
 {
-    match counted(s, list.end + 52) {
-        Part::Bytes { span } => kept(fields(s, at, list, span)),
-        Part::Broken => Found::Broken,
-    }
+    let samples = counted(s, list.end + 52)?;
+    kept(fields(s, at, list, samples))
 }
 
 // The call at a position.
-pub fn call_at(s: &[u8], at: usize) -> Found
+pub fn call_at(s: &[u8], at: usize) -> Option<Call>
     ensures { Read s.now at result }
 {
     if s.len() < at {
-        return Found::Broken;
+        return None;
     }
-    match counted(s, at + 4) {
-        Part::Bytes { span } => with_list(s, at, span),
-        Part::Broken => Found::Broken,
-    }
+    with_list(s, at, counted(s, at + 4)?)
 }
 
 // ---- bytes as text
@@ -219,12 +194,10 @@ pub fn put_hex(bytes: &[u8], text: &mut [u8]) -> usize
     ensures { (result ≡ length bytes.now * 2)
         × (take result text.new ≡ hex_to bytes.now (length bytes.now)) }
 {
-    let mut i = 0;
-    while i < bytes.len() {
-        put_pair(text, i * 2, bytes[i]);
-        i += 1;
+    for (i, b) in bytes.iter().enumerate() {
+        put_pair(text, i * 2, *b);
     }
-    i * 2
+    bytes.len() * 2
 }
 
 // The bytes at the start of room that is long enough.
@@ -233,9 +206,5 @@ pub fn copy(bytes: &[u8], room: &mut [u8])
     ensures { room.new ≡ paste room.old 0 bytes.now
         (length bytes.now) }
 {
-    let mut i = 0;
-    while i < bytes.len() {
-        room[i] = bytes[i];
-        i += 1;
-    }
+    room[..bytes.len()].copy_from_slice(bytes);
 }

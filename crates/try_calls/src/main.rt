@@ -7,7 +7,7 @@ ghost use Rattle.try_call.specs.Calls.{Sound};
 
 use dng::{Numbers, RowWindow, Settings, Window};
 use std::io;
-use try_call::{Call, Found};
+use try_call::Call;
 
 // ---- a line
 
@@ -150,35 +150,29 @@ fn show(rt: &HostRuntime, s: &[u8], c: Call) -> io::Result<()>
 {
     let mut bytes = [0u8; 256];
     let mut names = [0xeeu8; 64];
-    let l = c.list;
+    let list = c.list;
     let p = c.samples;
-    let a = l.start;
-    let e = l.end;
-    let b = p.start;
-    let d = p.end;
-    let n = d - b;
-    let m = c.names;
-    try_call::copy(&s[b..d], &mut bytes);
-    answer(rt, &s[a..e], &mut bytes[0..n], c, &mut names[0..m])
+    let n = p.end - p.start;
+    try_call::copy(&s[p.start..p.end], &mut bytes);
+    answer(
+        rt,
+        &s[list.start..list.end],
+        &mut bytes[..n],
+        c,
+        &mut names[..c.names],
+    )
 }
 
 // Whether the input was as many calls as its first word says, and nothing else.
 fn show_all(rt: &HostRuntime, s: &[u8]) -> io::Result<bool> {
     let count = num_words::u32_at(s, 0);
-    let mut at: usize = 4;
-    let mut k: u32 = 0;
-    while k < count {
-        match try_call::call_at(s, at) {
-            Found::One { call } => {
-                let p = call.samples;
-                show(rt, s, call)?;
-                at = p.end;
-                k += 1;
-            }
-            Found::Broken => {
-                return Ok(false);
-            }
-        }
+    let mut at = 4;
+    for _ in 0..count {
+        let Some(call) = try_call::call_at(s, at) else {
+            return Ok(false);
+        };
+        show(rt, s, call)?;
+        at = call.samples.end;
     }
     Ok(at == s.len())
 }

@@ -7,23 +7,10 @@
 ghost use Rattle.std.specs.Prelude.{◌≤◌};
 
 use dng::{Answer, Settings, Window};
-use run_stored::Mended;
+use run_stored::{Mended, NoRoom};
 use say_pgm::Frame;
 use say_report::Form;
 use std::io;
-
-fn say(rt: &HostRuntime, line: &[u8]) -> io::Result<()> {
-    rt.write_all(line)?;
-    rt.write_all(b"\n")
-}
-
-fn front(s: &[u8], n: usize) -> &[u8] {
-    if n <= s.len() { &s[0..n] } else { &s[..] }
-}
-
-fn print_text(rt: &HostRuntime, text: &[u8; 512], n: usize) -> io::Result<()> {
-    rt.write_all(front(text, n))
-}
 
 fn print_answer(
     rt: &HostRuntime,
@@ -35,19 +22,19 @@ fn print_answer(
 ) -> io::Result<()> {
     let mut text = [0u8; 512];
     let n = say_report::write(&mut text, a, form, names, held as u64, whole);
-    print_text(rt, &text, n)
+    rt.write_all(&text[..n])
 }
 
 fn print_mended(
     rt: &HostRuntime,
-    m: Mended,
+    m: Result<Mended, NoRoom>,
     names: &[u8; 8],
     maxval: usize,
     over: usize,
     whole: bool,
 ) -> io::Result<()> {
     match m {
-        Mended::Whole { answer } => print_answer(
+        Ok(Mended::Whole { answer }) => print_answer(
             rt,
             answer,
             Form::Whole,
@@ -55,7 +42,7 @@ fn print_mended(
             run_stored::held_above(maxval, 0, over),
             whole,
         ),
-        Mended::Widened { answer, held } => print_answer(
+        Ok(Mended::Widened { answer, held }) => print_answer(
             rt,
             answer,
             Form::Rounded,
@@ -63,7 +50,7 @@ fn print_mended(
             run_stored::held_above(maxval, held, over),
             whole,
         ),
-        Mended::NoRoom => say(rt, b"80: no room for the samples as f32"),
+        Err(why) => rt.println(why),
     }
 }
 
@@ -72,26 +59,18 @@ fn print_number(rt: &HostRuntime, n: u16) -> io::Result<()> {
     rt.print(n)
 }
 
-fn print_byte(rt: &HostRuntime, n: u8) -> io::Result<()> {
-    print_number(rt, n as u16)
-}
-
 fn print_samples(rt: &HostRuntime, samples: &[u16]) -> io::Result<()> {
     rt.write_all(b"samples")?;
-    let mut i: usize = 0;
-    while i < samples.len() {
-        print_number(rt, samples[i])?;
-        i += 1;
+    for v in samples {
+        print_number(rt, *v)?;
     }
     rt.write_all(b"\n")
 }
 
 fn print_bytes(rt: &HostRuntime, bytes: &[u8]) -> io::Result<()> {
     rt.write_all(b"raster")?;
-    let mut i: usize = 0;
-    while i < bytes.len() {
-        print_byte(rt, bytes[i])?;
-        i += 1;
+    for b in bytes {
+        print_number(rt, u16::from(*b))?;
     }
     rt.write_all(b"\n")
 }
@@ -114,8 +93,8 @@ fn side(n: usize) -> u32 {
     if n <= 65536 { n as u32 } else { 65537 }
 }
 
-fn whole_mended(list: &[u8], width: usize, height: usize, preview: bool, m: Mended) -> bool {
-    run_stored::is_whole(list, side(width), side(height), preview, m)
+fn whole_mended(list: &[u8], f: Frame, preview: bool, m: Result<Mended, NoRoom>) -> bool {
+    run_stored::is_whole(list, side(f.width), side(f.height), preview, m)
 }
 
 fn whole_run(list: &[u8], width: usize, height: usize, preview: bool, a: Answer) -> bool {
@@ -138,7 +117,7 @@ struct Setup {
 fn held(n: u32, most: usize) -> usize
     ensures { result ≤ most }
 {
-    if n as usize <= most { n as usize } else { most }
+    (n as usize).min(most)
 }
 
 fn setup_of(words: &[u8]) -> Setup
@@ -163,36 +142,31 @@ fn setup_of(words: &[u8]) -> Setup
 fn mend_raster(
     rt: &HostRuntime,
     list: &[u8],
-    width: usize,
-    height: usize,
-    maxval: usize,
+    f: Frame,
     raster: &mut [u8],
     samples: &mut [u16],
     t: Setup,
 ) -> io::Result<()>
     requires { (t.wide ≤ 4) × ((t.marks ≤ 8) × (t.names ≤ 8)) }
 {
-    say_pgm::decode(raster, maxval, &mut *samples);
+    say_pgm::decode(raster, f.maxval, &mut *samples);
     let mut wide = [0.0f32; 4];
     let mut marks = [0u32; 8];
     let mut names = [0u8; 8];
-    let a = t.wide;
-    let b = t.marks;
-    let c = t.names;
-    let w = window_of(width, height);
+    let w = window_of(f.width, f.height);
     let m = run_stored::mend(
         list,
         &mut *samples,
-        &mut wide[0..a],
+        &mut wide[..t.wide],
         w,
         t.period,
         t.preview,
-        &mut marks[0..b],
-        &mut names[0..c],
+        &mut marks[..t.marks],
+        &mut names[..t.names],
     );
-    let over = say_pgm::encode(samples, maxval, &mut *raster);
-    let whole = whole_mended(list, width, height, t.preview, m);
-    print_mended(rt, m, &names, maxval, over, whole)?;
+    let over = say_pgm::encode(samples, f.maxval, &mut *raster);
+    let whole = whole_mended(list, f, t.preview, m);
+    print_mended(rt, m, &names, f.maxval, over, whole)?;
     print_samples(rt, samples)?;
     print_bytes(rt, raster)
 }
@@ -207,28 +181,19 @@ fn mend_file(
     requires { (t.wide ≤ 4) × ((t.marks ≤ 8) × (t.names ≤ 8)) }
 {
     match say_pgm::read_frame(file, samples.len()) {
-        Frame::Whole {
-            width,
-            height,
-            maxval,
-            samples: count,
-            at,
-            end,
-        } => {
-            if count <= samples.len() {
-                if at <= end {
-                    if end <= file.len() {
-                        let raster = &mut file[at..end];
-                        let part = &mut samples[0..count];
-                        return mend_raster(rt, list, width, height, maxval, raster, part, t);
-                    }
-                }
-            }
-            Ok(())
+        Ok(f) => {
+            let Some(raster) = file.get_mut(f.at..f.end) else {
+                return Ok(());
+            };
+            let Some(part) = samples.get_mut(..f.samples) else {
+                return Ok(());
+            };
+            mend_raster(rt, list, f, raster, part, t)
         }
-        Frame::Broken => say(rt, b"FRAME: no binary greymap (P5)"),
-        Frame::TooLarge => say(rt, b"FRAME: too many samples"),
-        Frame::Short => say(rt, b"FRAME: the raster is cut short"),
+        Err(why) => {
+            rt.write_all(b"FRAME: ")?;
+            rt.println(why)
+        }
     }
 }
 
@@ -250,7 +215,7 @@ fn run_raw(
         scale: 1.0,
         preview,
     };
-    let a = run_window::run_f32(list, &mut *samples, w, set, &mut marks, &mut names);
+    let a = run_window::run(list, &mut *samples, w, set, &mut marks, &mut names);
     let whole = whole_run(list, 3, 1, preview, a);
     print_answer(rt, a, Form::Float, &names, 0, whole)?;
     say_pgm::encode_f32(samples, &mut *raster);
@@ -269,12 +234,12 @@ fn show(rt: &HostRuntime, list: &[u8], frame: &[u8], words: &[u8]) -> io::Result
     let mut file = [0u8; 64];
     let mut samples = [0u16; 4];
     let mut floats = [0.0f32; 3];
-    try_call::copy(frame, &mut file);
+    file[..n].copy_from_slice(frame);
     if t.kind == 0 {
-        return mend_file(rt, list, &mut file[0..n], &mut samples, t);
+        return mend_file(rt, list, &mut file[..n], &mut samples, t);
     }
     if n == 12 {
-        return run_raw(rt, list, &mut file[0..n], &mut floats, t.preview);
+        return run_raw(rt, list, &mut file[..n], &mut floats, t.preview);
     }
     Ok(())
 }
@@ -282,30 +247,26 @@ fn show(rt: &HostRuntime, list: &[u8], frame: &[u8], words: &[u8]) -> io::Result
 // One case; where the next one's title stands.
 fn show_next(rt: &HostRuntime, s: &[u8], at: usize) -> io::Result<usize> {
     let title = try_call::span_at(s, at);
-    let a = title.start;
-    let b = title.end;
-    let list = try_call::span_at(s, b);
-    let c = list.start;
-    let d = list.end;
-    let frame = try_call::span_at(s, d);
-    let e = frame.start;
-    let f = frame.end;
-    let words = try_call::span_at(s, f);
-    let g = words.start;
-    let h = words.end;
-    say(rt, &s[a..b])?;
-    show(rt, &s[c..d], &s[e..f], &s[g..h])?;
-    Ok(h)
+    let list = try_call::span_at(s, title.end);
+    let frame = try_call::span_at(s, list.end);
+    let words = try_call::span_at(s, frame.end);
+    say_stream::say(rt, &s[title.start..title.end])?;
+    show(
+        rt,
+        &s[list.start..list.end],
+        &s[frame.start..frame.end],
+        &s[words.start..words.end],
+    )?;
+    Ok(words.end)
 }
 
 fn show_all(rt: &HostRuntime, s: &[u8]) -> io::Result<()> {
-    let mut at: usize = 0;
-    let mut left: usize = s.len(); // more than there are cases
-    while 0 < left {
+    let mut at = 0;
+    // there are fewer cases than bytes
+    for _ in s {
         if at < s.len() {
             at = show_next(rt, s, at)?;
         }
-        left -= 1;
     }
     Ok(())
 }

@@ -11,11 +11,13 @@ fn show(rt: &HostRuntime, file: &[u8]) -> io::Result<()> {
 }
 
 fn show_all(rt: &HostRuntime, s: &[u8]) -> io::Result<()> {
-    let mut at: usize = 0;
-    while at < s.len() {
-        let n = num_words::u32_at(s, at) as usize;
-        show(rt, list_find::part(s, at + 4, n))?;
-        at += 4 + n;
+    let mut rest = s;
+    while !rest.is_empty() {
+        let (length, behind) = rest.split_at(rest.len().min(4));
+        let n = num_words::u32_at(length, 0) as usize;
+        let (file, next) = behind.split_at(behind.len().min(n));
+        show(rt, file)?;
+        rest = next;
     }
     Ok(())
 }

@@ -38,15 +38,7 @@ fn floored(f: f64) -> u64 {
 
 // The eight bytes of the pattern, the highest first, read and written at each width, some words running past the end.
 fn in_bytes(bits: u64) -> u64 {
-    let mut s = [0u8; 8];
-    s[0] = (bits / 0x100_0000_0000_0000 % 256) as u8;
-    s[1] = (bits / 0x1_0000_0000_0000 % 256) as u8;
-    s[2] = (bits / 0x100_0000_0000 % 256) as u8;
-    s[3] = (bits / 0x1_0000_0000 % 256) as u8;
-    s[4] = (bits / 0x100_0000 % 256) as u8;
-    s[5] = (bits / 0x1_0000 % 256) as u8;
-    s[6] = (bits / 256 % 256) as u8;
-    s[7] = (bits % 256) as u8;
+    let mut s = bits.to_be_bytes();
     let at = (bits % 11) as usize;
     let big = num_words::u16_at(&s, at) as u64
         + num_words::u32_at(&s, at) as u64
@@ -68,11 +60,9 @@ fn mixed(sum: u64, v: u64) -> u64 {
 fn sweep(kind: u32, from: u64, step: u64, n: u32) -> u64 {
     let mut sum: u64 = 0;
     let mut bits = from;
-    let mut i: u32 = 0;
-    while i < n {
+    for _ in 0..n {
         sum = mixed(sum, leaf(kind, bits));
-        bits = std::num::wrapping_add_u64(bits, step);
-        i += 1;
+        bits = bits.wrapping_add(step);
     }
     sum % 0x1_0000_0000
 }
@@ -103,7 +93,7 @@ fn all(rt: &HostRuntime, kind: u32) -> io::Result<()> {
 
 // Around a pattern, one by one.
 fn near(rt: &HostRuntime, kind: u32, bits: u64) -> io::Result<()> {
-    line(rt, kind, std::num::wrapping_sub_u64(bits, 500), 1, 1000)
+    line(rt, kind, bits.wrapping_sub(500), 1, 1000)
 }
 
 fn main(rt: HostRuntime) -> io::Result<()> {

@@ -3,7 +3,7 @@
 // words are big-endian. compare/lists writes it.
 #![tactic(auto)]
 
-use dng::Reading;
+use dng::Malformed;
 use list_survey::Survey;
 use std::io;
 
@@ -12,25 +12,20 @@ fn number(rt: &HostRuntime, text: &[u8], n: usize) -> io::Result<()> {
     rt.print(n)
 }
 
-fn print_reading(rt: &HostRuntime, r: Reading) -> io::Result<()> {
+fn print_reading(rt: &HostRuntime, r: Result<usize, Malformed>) -> io::Result<()> {
     match r {
-        Reading::Whole { opcodes } => number(rt, b"0, opcodes ", opcodes),
-        Reading::Malformed { after, why } => {
-            let reason = why.reason;
-            number(rt, b"", run_answers::reason_number(reason) as usize)?;
-            number(rt, b" at byte ", why.at)?;
-            number(rt, b", after ", after)
+        Ok(opcodes) => number(rt, b"0, opcodes ", opcodes),
+        Err(m) => {
+            number(rt, b"", run_answers::reason_number(m.why.reason) as usize)?;
+            number(rt, b" at byte ", m.why.at)?;
+            number(rt, b", after ", m.after)
         }
     }
 }
 
 fn print_taken(rt: &HostRuntime, text: &[u8], taken: bool) -> io::Result<()> {
     rt.write_all(text)?;
-    if taken {
-        rt.write_all(b"yes")
-    } else {
-        rt.write_all(b"no")
-    }
+    rt.print(if taken { "yes" } else { "no" })
 }
 
 fn print_survey(rt: &HostRuntime, s: Survey) -> io::Result<()> {
@@ -74,23 +69,18 @@ fn print_list(rt: &HostRuntime, title: &[u8], list: &[u8]) -> io::Result<()> {
 // One list; where the next one's title stands.
 fn print_next(rt: &HostRuntime, s: &[u8], at: usize) -> io::Result<usize> {
     let title = try_call::span_at(s, at);
-    let a = title.start;
-    let b = title.end;
-    let list = try_call::span_at(s, b);
-    let c = list.start;
-    let d = list.end;
-    print_list(rt, &s[a..b], &s[c..d])?;
-    Ok(d)
+    let list = try_call::span_at(s, title.end);
+    print_list(rt, &s[title.start..title.end], &s[list.start..list.end])?;
+    Ok(list.end)
 }
 
 fn print_all(rt: &HostRuntime, s: &[u8]) -> io::Result<()> {
-    let mut at: usize = 0;
-    let mut left: usize = s.len(); // more than there are lists
-    while 0 < left {
+    let mut at = 0;
+    // there are fewer lists than bytes
+    for _ in s {
         if at < s.len() {
             at = print_next(rt, s, at)?;
         }
-        left -= 1;
     }
     Ok(())
 }

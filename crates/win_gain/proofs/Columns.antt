@@ -1,13 +1,12 @@
 -- Blocks of columns over a window: one after another they are one block, and all of them the region's rule, since each sample lies in one of them.
 -- Over any sample kind A and any rule. A walk over a region's plane walks a block's columns. Assumes nothing.
-use Prim.Native.Nat.{ℕ, ◌+◌, ◌*◌, ◌≤◌, ◌<◌, min}
+use Prim.Native.Nat.{ℕ, ◌+◌, ◌*◌, ◌≤◌, ◌<◌, min, max}
 use mathlib.Core.Path.{◌≡◌, refl, sym, ap, ap₂, subst, ◌∙◌}
 use mathlib.Core.Bool.{Bool, true, false, cond}
 use mathlib.Core.List.{List}
-use native.Mathlib.Nat.{add-mul, one-mul, mul-le-mul_right}
+use native.Mathlib.Nat.{add-mul, one-mul, mul_assoc, mul-le-mul_left, mul-le-mul_right}
 use native.Mathlib.Omega.{arith}
 use lib.Dec.{leb, ltb}
-use lib.Ieee.{Float}
 use lib.ListN.{length}
 use Rattle.pointwise.specs.Points.{each}
 use Rattle.pointwise.specs.Select.{selects, on_columns, First}
@@ -18,7 +17,6 @@ use Rattle.row_select.specs.declared.Walk.{Walk}
 use Rattle.row_select.specs.declared.Start.{Start}
 use Rattle.row_select.specs.Walks.{walked}
 use Rattle.dng.specs.declared.Region.{Region}
-use Rattle.dng.specs.declared.Grid.{Grid}
 use Rattle.dng.specs.declared.Window.{Window}
 use Rattle.dng.specs.Select.{Rule, on_region, on_window, in_window, whole_pixel, row_of, column_of, plane_of}
 use Rattle.row_gain.specs.Blocks.{within, Filled, Counted, Begins}
@@ -26,7 +24,20 @@ use Rattle.row_gain.proofs.Blocks.{within_in, within_low, within-high, within-wi
 use Rattle.law_rows.proofs.Place.{Laid, row-outside, column-outside, on-window-in, on-window-out, on-window-both, on-window-none}
 use Rattle.row_opcode.specs.declared.Place.{Place}
 use Rattle.row_opcode.specs.Planes.{WalkIs}
+use Rattle.row_gain.specs.declared.Column.{Column}
+use Rattle.row_gain.specs.Gain.{Sized, map_position}
+use Rattle.win_gain.specs.declared.GainMap.{GainMap}
 use Rattle.win_gain.specs.Columns.{pitch_of, block_rule, Lies, Block}
+
+-- a map that was read whole has few points down
+pub points-few : (pv ph mp m : ℕ) → Sized pv ph mp m → pv ≤ 16777216
+points-few pv ph mp m z =
+    let all : pv * ph * max mp 1 ≡ pv * (ph * max mp 1) = mul_assoc pv ph (max mp 1) in
+    below_or (ph * max mp 1) 1
+    (λ h.
+    let none : ph * max mp 1 ≡ 0 = omega arith in
+    omega (arith, z.some, all, ap (λ (i : ℕ). pv * i) none))
+    (λ h. omega (arith, z.few, all, mul-le-mul_left pv h))
 
 module _ {A : Type 0} where
   -- ---- a region's rule at a sample
@@ -142,17 +153,18 @@ module _ {A : Type 0} where
 
 -- ---- a walk over one of the region's planes
 
+module _ {g : Place} {gain : GainMap} {s : Start} {plane : ℕ} {k : Walk} (is : WalkIs g gain.region s plane k) {fw from : ℕ} {cs : List Column}
+    (b : Block g.x0 fw gain from cs) where
+  pub begins-of : Begins k from (length cs)
+  begins-of =
+      subst (λ (j : Walk). Begins j from (length cs)) (sym is.is)
+      (record { number = b.lies.number; here = b.lies.here; near = b.lies.near; few = b.few })
+
+  pub filled_of : Filled (map_position gain.map fw) (k.x0 + from) k.pitch (length cs) cs
+  filled_of =
+      subst (λ (j : Walk). Filled (map_position gain.map fw) (j.x0 + from) j.pitch (length cs) cs) (sym is.is) b.filled
+
 module _ {g : Place} {r : Region} {s : Start} {plane : ℕ} {k : Walk} (is : WalkIs g r s plane k) where
-  module _ {fw ph from w : ℕ} {grid : Grid} {hs : List ℕ} {ts : List Float} (b : Block g.x0 fw r grid ph from w hs ts) where
-    pub begins-of : Begins k from w
-    begins-of =
-        subst (λ (j : Walk). Begins j from w) (sym is.is)
-        (record { number = b.lies.number; here = b.lies.here; near = b.lies.near; few = b.few })
-
-    pub filled_of : Filled (k.x0 + from) k.pitch fw grid.origin_h grid.spacing_h ph w hs ts
-    filled_of =
-        subst (λ (j : Walk). Filled (j.x0 + from) j.pitch fw grid.origin_h grid.spacing_h ph w hs ts) (sym is.is) b.filled
-
   pub columns_of : {A : Type 0} (from w : ℕ) (f : ℕ → ℕ → A → A) (l row : List A)
       → row ≡ walked k (within (k.x0 + from) (k.x0 + from + w * k.pitch) f) l
       → row ≡ walked k (within (g.x0 + from) (g.x0 + from + w * pitch_of r) f) l
@@ -168,17 +180,6 @@ pub lies-first : {x0 : ℕ} {r : Region} {col nth : ℕ} → First r.left r.col_
     → r.col_pitch < 4294967296 → Lies x0 r col
 lies-first {x0} {r} {col} {nth} f left pitch =
     record { number = nth; here = f.here; near = omega (arith, first-bound _ _ _ _ _ f) }
-
--- the tables that `fill_block` has filled
-pub block-filled : {x0 fw : ℕ} {r : Region} {g : Grid} {ph from w pitch : ℕ} {hs : List ℕ} {ts : List Float} → pitch ≡ pitch_of r
-    → Lies x0 r from → w ≤ 65536 → Filled (x0 + from) pitch fw g.origin_h g.spacing_h ph w hs ts
-    → Block x0 fw r g ph from w hs ts
-block-filled {x0} {fw} {r} {g} {ph} {from} {w} {pitch} {hs} {ts} is lies few filled =
-    record {
-      lies = lies;
-      few = few;
-      filled = subst (λ (p : ℕ). Filled (x0 + from) p fw g.origin_h g.spacing_h ph w hs ts) is filled;
-    }
 
 -- the column after the count that `fill_block` answers
 module _ (x0 from : ℕ) (r : Region) {end room count pitch : ℕ} (c : Counted (x0 + from) pitch end room count) (is : pitch ≡ pitch_of r) where

@@ -1,17 +1,20 @@
 -- A gain map over a window, a block of columns after another. Nothing here has to be believed: proofs/Columns says what
 -- it comes to in the words of dng/specs.
-use Rattle.std.specs.Prelude.{ℕ, ◌+◌, ◌*◌, ◌≤◌, ◌<◌, max, ◌≡◌, true, List, Float}
+use Rattle.std.specs.Prelude.{ℕ, ◌+◌, ◌*◌, ◌≤◌, ◌<◌, max, ◌≡◌, true, List, length, Float}
 use Rattle.dng.specs.declared.Region.{Region}
-use Rattle.dng.specs.declared.Grid.{Grid}
 use Rattle.dng.specs.Select.{Rule, on_region}
 use Rattle.dng.specs.Value.{Frame, gained, nought}
+use Rattle.row_gain.specs.declared.Map.{Map}
+use Rattle.row_gain.specs.declared.Column.{Column}
+use Rattle.row_gain.specs.Gain.{map_position}
 use Rattle.row_gain.specs.Blocks.{within, Filled}
 use Rattle.row_opcode.specs.declared.Task.TheVariants.{Gain}
 use Rattle.row_opcode.specs.Plans.{task_fits}
+use Rattle.win_gain.specs.declared.GainMap.{GainMap}
 
 -- the counts of a gain map that was read whole
-abbrev pub MapFits : (pv ph : ℕ) → Grid → (mp : ℕ) → Type 0
-MapFits pv ph g mp = task_fits (Gain pv ph g mp) ≡ true
+abbrev pub MapFits : Map → Type 0
+MapFits map = task_fits (Gain map.points_v map.points_h map.grid map.planes) ≡ true
 
 -- a pitch of 0 counts as 1
 abbrev pub pitch_of : Region → ℕ
@@ -21,8 +24,8 @@ pitch_of r = max r.col_pitch 1
 abbrev pub sizes : (fw fh : ℕ) → Frame
 sizes fw fh = record { scale = nought; full_width = fw; full_height = fh }
 
-abbrev pub gain_rule : (fw fh : ℕ) → List ℕ → Region → (pv ph : ℕ) → Grid → (mp : ℕ) → (y x k : ℕ) → Float → Float
-gain_rule fw fh b r pv ph g mp = gained (sizes fw fh) b r pv ph g mp
+abbrev pub gain_rule : (fw fh : ℕ) → List ℕ → GainMap → (y x k : ℕ) → Float → Float
+gain_rule fw fh b g = gained (sizes fw fh) b g.region g.map.points_v g.map.points_h g.map.grid g.map.planes
 
 -- `f` at the region's samples in the image columns from a up to e, e left out, nothing elsewhere
 abbrev pub block_rule : {A : Type 0} → Region → (a e : ℕ) → (ℕ → ℕ → ℕ → A → A) → Rule A
@@ -34,14 +37,13 @@ pub record Lies (x0 : ℕ) (r : Region) (from : ℕ) : Type 0 where
   pub here : x0 + from ≡ r.left + number * pitch_of r
   pub near : from < 8589934592
 
--- the w columns of the region from x0 + from on have their positions in the tables
-pub record Block (x0 fw : ℕ) (r : Region) (g : Grid) (ph from w : ℕ) (hs : List ℕ) (ts : List Float) : Type 0 where
-  pub lies : Lies x0 r from
-  pub few : w ≤ 65536
-  pub filled : Filled (x0 + from) (pitch_of r) fw g.origin_h g.spacing_h ph w hs ts
+-- the columns are places of the region's from x0 + from on
+pub record Block (x0 fw : ℕ) (g : GainMap) (from : ℕ) (cs : List Column) : Type 0 where
+  pub lies : Lies x0 g.region from
+  pub few : length cs ≤ 65536
+  pub filled : Filled (map_position g.map fw) (x0 + from) (pitch_of g.region) (length cs) cs
 
--- tables of nh and nt entries that a block may have its positions in
-pub record Tables (nh nt : ℕ) : Type 0 where
-  pub some : 1 ≤ nh
-  pub few : nh ≤ 65536
-  pub same : nh ≤ nt
+-- a table of n columns, which a block may have its places in
+pub record Room (n : ℕ) : Type 0 where
+  pub some : 1 ≤ n
+  pub few : n ≤ 65536

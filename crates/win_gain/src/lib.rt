@@ -1,4 +1,4 @@
-// A gain map over a window: the positions of a block of columns are worked out once and serve every row.
+// A gain map over a window: the places of a block of columns are worked out once and serve every row.
 #![tactic(auto)]
 
 ghost use Rattle.std.specs.Prelude.{◌≡◌, ◌+◌, ◌*◌, ◌≤◌, ◌<◌, min, length};
@@ -8,263 +8,157 @@ ghost use Rattle.row_select.specs.Walks.{walked, Walks};
 ghost use Rattle.dng.specs.Select.{on_row, on_region, on_window};
 ghost use Rattle.dng.specs.Bounds.{RowFits};
 ghost use Rattle.dng.specs.Value.{position};
-ghost use Rattle.row_gain.specs.Gain.{AxisIs};
+ghost use Rattle.row_gain.specs.Gain.{AxisIs, map_position};
 ghost use Rattle.row_gain.specs.Blocks.{within, Filled, Begins};
 ghost use Rattle.row_opcode.specs.Planes.{region_planes};
 ghost use Rattle.win_rows.specs.Windows.{WindowFits, Ordered};
-ghost use Rattle.win_gain.specs.Columns.{MapFits, pitch_of, gain_rule, block_rule, Lies, Block, Tables};
+ghost use Rattle.win_gain.specs.Columns.{MapFits, pitch_of, gain_rule, block_rule, Lies, Block, Room};
 ghost use Rattle.win_gain.specs.Gains.{GainIs};
 
-use dng::{Grid, Opcode, Region, Window};
-use row_gain::Axis;
+use dng::{Opcode, Region, Window};
+use row_gain::{Axis, Column, Map};
 use row_opcode::Place;
 use row_select::{Start, Walk};
 
+// A gain map as an opcode has it: the samples that it is for, and the map. Its gains stand in the opcode's body.
+#[derive(Clone, Copy)]
+pub struct GainMap {
+    pub region: Region,
+    pub map: Map,
+}
+
 // ---- a block of one lent row
 
-// One plane: the w selected columns from image column x0 + from on. v is the row's axis.
+// One plane: the selected columns from image column x0 + from on, at their places. v is the row's axis.
 fn plane_block(
     row: &mut [f32],
     k: Walk,
-    r: Region,
     g: Place,
+    gain: GainMap,
+    body: &[u8],
     v: Axis,
     from: usize,
-    w: usize,
-    hs: &[u32],
-    ts: &[f32],
-    body: &[u8],
-    points_v: u32,
-    points_h: u32,
-    grid: Grid,
-    map_planes: u32,
+    columns: &[Column],
 )
-    requires { Walks k (length row.old) × MapFits points_v points_h grid map_planes × Begins k from w
-        × Filled (k.x0 + from) k.pitch g.full_width grid.origin_h grid.spacing_h points_h w
-        hs.now ts.now
-        × AxisIs (position g.y g.full_height grid.origin_v grid.spacing_v points_v) points_v v }
+    requires { Walks k (length row.old) × MapFits gain.map × Begins k from (length columns.now)
+        × Filled (map_position gain.map g.full_width) (k.x0 + from) k.pitch (length columns.now) columns.now
+        × AxisIs (position g.y g.full_height gain.map.grid.origin_v gain.map.grid.spacing_v gain.map.points_v)
+        gain.map.points_v v }
     ensures { row.new
         ≡ walked k
-        (within (k.x0 + from) (k.x0 + from + w * k.pitch)
-        (gain_rule g.full_width g.full_height body.now r points_v points_h grid map_planes
-        g.y))
+        (within (k.x0 + from) (k.x0 + from + length columns.now * k.pitch)
+        (gain_rule g.full_width g.full_height body.now gain g.y))
         row.old }
 {
-    let m = row_opcode::map_plane(k.plane, r.plane, map_planes);
-    row_gain::gain_block(
-        row,
-        k,
-        from,
-        w,
-        hs,
-        ts,
-        body,
-        grid,
-        v,
-        g.y,
-        g.full_height,
-        g.full_width,
-        points_v,
-        points_h,
-        map_planes,
-        m,
-    );
+    let m = row_opcode::map_plane(k.plane, gain.region.plane, gain.map.planes);
+    row_gain::gain_block(row, k, from, columns, body, gain.map, v, m, g.full_width);
 }
 
 // The planes of a region, one after another. They share the row's axis.
 fn planes_block(
     row: &mut [f32],
     g: Place,
-    r: Region,
+    gain: GainMap,
     start: Start,
-    from: usize,
-    w: usize,
-    hs: &[u32],
-    ts: &[f32],
     body: &[u8],
-    points_v: u32,
-    points_h: u32,
-    grid: Grid,
-    map_planes: u32,
+    from: usize,
+    columns: &[Column],
 )
-    requires { RowFits g.x0 g.planes g.y (length row.old) × First r.left r.col_pitch g.x0 start.col
-        start.nth
-        × MapFits points_v points_h grid map_planes
-        × Block g.x0 g.full_width r grid points_h from w hs.now ts.now }
+    requires { RowFits g.x0 g.planes g.y (length row.old)
+        × First gain.region.left gain.region.col_pitch g.x0 start.col start.nth × MapFits gain.map
+        × Block g.x0 g.full_width gain from columns.now }
     ensures { row.new
-        ≡ region_planes g r r.planes
-        (within (g.x0 + from) (g.x0 + from + w * pitch_of r)
-        (gain_rule g.full_width g.full_height body.now r points_v points_h grid map_planes
-        g.y))
+        ≡ region_planes g gain.region gain.region.planes
+        (within (g.x0 + from) (g.x0 + from + length columns.now * pitch_of gain.region)
+        (gain_rule g.full_width g.full_height body.now gain g.y))
         row.old }
 {
-    let end = row_opcode::planes_end(g, r);
-    let v = row_gain::row_axis(grid, g.y, g.full_height, points_v);
-    let mut p = r.plane as usize;
-    while p < end {
-        plane_block(
-            row,
-            row_opcode::walk_at(g, r, start, p),
-            r,
-            g,
-            v,
-            from,
-            w,
-            hs,
-            ts,
-            body,
-            points_v,
-            points_h,
-            grid,
-            map_planes,
-        );
-        p += 1;
+    let v = row_gain::row_axis(gain.map.grid, g.y, g.full_height, gain.map.points_v);
+    // not `each_plane`, whose closure is not told where the walk begins
+    for p in gain.region.plane as usize..row_opcode::planes_end(g, gain.region) {
+        let k = row_opcode::walk_at(g, gain.region, start, p);
+        plane_block(row, k, g, gain, body, v, from, columns);
     }
 }
 
 fn row_block(
     row: &mut [f32],
     g: Place,
-    r: Region,
+    gain: GainMap,
     start: Start,
-    from: usize,
-    w: usize,
-    hs: &[u32],
-    ts: &[f32],
     body: &[u8],
-    points_v: u32,
-    points_h: u32,
-    grid: Grid,
-    map_planes: u32,
+    from: usize,
+    columns: &[Column],
 )
-    requires { RowFits g.x0 g.planes g.y (length row.old) × First r.left r.col_pitch g.x0 start.col
-        start.nth
-        × MapFits points_v points_h grid map_planes
-        × Block g.x0 g.full_width r grid points_h from w hs.now ts.now }
+    requires { RowFits g.x0 g.planes g.y (length row.old)
+        × First gain.region.left gain.region.col_pitch g.x0 start.col start.nth × MapFits gain.map
+        × Block g.x0 g.full_width gain from columns.now }
     ensures { row.new
         ≡ each
         (on_row g.x0 g.planes g.y (length row.old)
-        (block_rule r (g.x0 + from) (g.x0 + from + w * pitch_of r)
-        (gain_rule g.full_width g.full_height body.now r points_v points_h grid map_planes)))
+        (block_rule gain.region (g.x0 + from) (g.x0 + from + length columns.now * pitch_of gain.region)
+        (gain_rule g.full_width g.full_height body.now gain)))
         row.old }
 {
-    if row_opcode::touched(g, r, start, row.len()) {
-        planes_block(
-            row, g, r, start, from, w, hs, ts, body, points_v, points_h, grid, map_planes,
-        );
+    if row_opcode::touched(g, gain.region, start, row.len()) {
+        planes_block(row, g, gain, start, body, from, columns);
     }
 }
 
 // ---- a block of a window
 
-// Data may end early: the rows end where one would start past it, and the last may be shorter than the others.
 fn block_rows(
     samples: &mut [f32],
     w: Window,
-    r: Region,
+    gain: GainMap,
     start: Start,
-    from: usize,
-    count: usize,
-    hs: &[u32],
-    ts: &[f32],
     body: &[u8],
-    points_v: u32,
-    points_h: u32,
-    grid: Grid,
-    map_planes: u32,
+    from: usize,
+    columns: &[Column],
 )
-    requires { WindowFits w × Ordered w × First r.left r.col_pitch w.x0 start.col start.nth
-        × MapFits points_v points_h grid map_planes
-        × Block w.x0 w.full_width r grid points_h from count hs.now ts.now }
+    requires { WindowFits w × Ordered w
+        × First gain.region.left gain.region.col_pitch w.x0 start.col start.nth × MapFits gain.map
+        × Block w.x0 w.full_width gain from columns.now }
     ensures { samples.new
         ≡ each
         (on_window w (length samples.old)
-        (block_rule r (w.x0 + from) (w.x0 + from + count * pitch_of r)
-        (gain_rule w.full_width w.full_height body.now r points_v points_h grid map_planes)))
+        (block_rule gain.region (w.x0 + from) (w.x0 + from + length columns.now * pitch_of gain.region)
+        (gain_rule w.full_width w.full_height body.now gain)))
         samples.old }
 {
-    let n = samples.len();
-    let width = win_rows::row_width(w);
-    let step = win_rows::row_stride(w);
-    let mut y = 0;
-    let mut at = 0;
-    while y < w.height {
-        if n <= at {
-            return;
-        }
-        let end = num_small::lesser(at + width, n);
-        row_block(
-            &mut samples[at..end],
-            win_rows::place_at(w, y),
-            r,
-            start,
-            from,
-            count,
-            hs,
-            ts,
-            body,
-            points_v,
-            points_h,
-            grid,
-            map_planes,
-        );
-        at += step;
-        y += 1;
-    }
+    win_rows::each_row(samples, w, move |row, g| {
+        row_block(row, g, gain, start, body, from, columns)
+    });
 }
 
-// How far the block after `count` columns begins.
-fn next_block(from: usize, count: usize, pitch: usize) -> usize
-    requires { from + count * pitch < 8589934592 }
-    ensures { result ≡ from + count * pitch }
-{
-    from + count * pitch
-}
-
-// As many columns from image column x0 + from on as the tables hold, or as there are before `end`; answers how far the
+// As many columns from image column x0 + from on as the table holds, or as there are before `end`; answers how far the
 // next block begins. Each block works out its rows' axes again; a window of up to 2048 columns has one block.
 fn one_block(
     samples: &mut [f32],
     w: Window,
-    r: Region,
+    gain: GainMap,
     start: Start,
+    body: &[u8],
     from: usize,
     end: usize,
-    body: &[u8],
-    points_v: u32,
-    points_h: u32,
-    grid: Grid,
-    map_planes: u32,
-    hs: &mut [u32],
-    ts: &mut [f32],
+    table: &mut [Column],
 ) -> usize
-    requires { WindowFits w × Ordered w × First r.left r.col_pitch w.x0 start.col start.nth
-        × MapFits points_v points_h grid map_planes × Lies w.x0 r from × (w.x0 + from < end)
-        × (end ≤ 16842752) × Tables (length hs.old) (length ts.old) }
+    requires { WindowFits w × Ordered w
+        × First gain.region.left gain.region.col_pitch w.x0 start.col start.nth × MapFits gain.map
+        × Lies w.x0 gain.region from × (w.x0 + from < end) × (end ≤ 16842752) × Room (length table.old) }
     ensures { (samples.new
         ≡ each
         (on_window w (length samples.old)
-        (block_rule r (w.x0 + from) (w.x0 + result)
-        (gain_rule w.full_width w.full_height body.now r points_v points_h grid map_planes)))
+        (block_rule gain.region (w.x0 + from) (w.x0 + result)
+        (gain_rule w.full_width w.full_height body.now gain)))
         samples.old)
-        × Lies w.x0 r result × (from < result) }
+        × Lies w.x0 gain.region result × (from < result) }
 {
-    let pitch = num_small::larger(r.col_pitch as usize, 1);
-    let count = row_gain::fill_block(
-        hs,
-        ts,
-        w.x0 + from,
-        pitch,
-        end,
-        w.full_width as u32,
-        grid.origin_h,
-        grid.spacing_h,
-        points_h,
-    );
-    block_rows(
-        samples, w, r, start, from, count, hs, ts, body, points_v, points_h, grid, map_planes,
-    );
-    next_block(from, count, pitch)
+    let pitch = (gain.region.col_pitch as usize).max(1);
+    let full = w.full_width as u32;
+    let count = row_gain::fill_block(table, w.x0 + from, pitch, end, gain.map, full);
+    block_rows(samples, w, gain, start, body, from, &table[..count]);
+    from + count * pitch
 }
 
 // ---- a window
@@ -274,118 +168,75 @@ fn columns_end(w: Window, r: Region) -> usize
     requires { WindowFits w }
     ensures { result ≡ min r.right (w.x0 + w.width) }
 {
-    num_small::lesser(r.right as usize, w.x0 + w.width)
+    (r.right as usize).min(w.x0 + w.width)
 }
 
-// The blocks of the columns that the region and the window share, one after another.
-fn all_blocks(
+// The blocks of the columns that the region and the window share, one after another, with a table of N columns.
+fn all_blocks<const N: usize>(
     samples: &mut [f32],
     w: Window,
-    r: Region,
+    gain: GainMap,
     start: Start,
     body: &[u8],
-    points_v: u32,
-    points_h: u32,
-    grid: Grid,
-    map_planes: u32,
-    hs: &mut [u32],
-    ts: &mut [f32],
 )
-    requires { WindowFits w × Ordered w × First r.left r.col_pitch w.x0 start.col start.nth
-        × MapFits points_v points_h grid map_planes × Tables (length hs.old) (length ts.old) }
+    requires room { Room N }
+    requires window { WindowFits w }
+    requires ordered { Ordered w }
+    requires first { First gain.region.left gain.region.col_pitch w.x0 start.col start.nth }
+    requires fits { MapFits gain.map }
     ensures { samples.new
         ≡ each
         (on_window w (length samples.old)
-        (on_region r (gain_rule w.full_width w.full_height body.now r points_v points_h grid
-        map_planes)))
+        (on_region gain.region (gain_rule w.full_width w.full_height body.now gain)))
         samples.old }
 {
-    let end = columns_end(w, r);
+    let mut table = [Column {
+        lower: 0,
+        share: 0.0,
+    }; N];
+    let end = columns_end(w, gain.region);
     let mut from = start.col;
+    // no `for`: where the next block begins is known when a block is filled
     while w.x0 + from < end {
-        from = one_block(
-            samples, w, r, start, from, end, body, points_v, points_h, grid, map_planes, hs, ts,
-        );
+        from = one_block(samples, w, gain, start, body, from, end, &mut table);
     }
 }
 
-// The same with tables that are as long as is needed: to clear the long ones costs as much as a small window.
-pub fn blocks(
-    samples: &mut [f32],
-    w: Window,
-    r: Region,
-    start: Start,
-    body: &[u8],
-    points_v: u32,
-    points_h: u32,
-    grid: Grid,
-    map_planes: u32,
-)
-    requires { WindowFits w × Ordered w × First r.left r.col_pitch w.x0 start.col start.nth
-        × MapFits points_v points_h grid map_planes }
+// The same with a table that is as long as is needed: to clear the long one costs as much as a small window.
+pub fn blocks(samples: &mut [f32], w: Window, gain: GainMap, start: Start, body: &[u8])
+    requires { WindowFits w × Ordered w
+        × First gain.region.left gain.region.col_pitch w.x0 start.col start.nth × MapFits gain.map }
     ensures { samples.new
         ≡ each
         (on_window w (length samples.old)
-        (on_region r (gain_rule w.full_width w.full_height body.now r points_v points_h grid
-        map_planes)))
+        (on_region gain.region (gain_rule w.full_width w.full_height body.now gain)))
         samples.old }
 {
-    if num_small::less(columns_end(w, r), w.x0 + start.col) < 128 {
-        let mut hs = [0u32; 128];
-        let mut ts = [0.0f32; 128];
-        all_blocks(
-            samples, w, r, start, body, points_v, points_h, grid, map_planes, &mut hs, &mut ts,
-        );
+    let columns = columns_end(w, gain.region).saturating_sub(w.x0 + start.col);
+    if columns < 128 {
+        all_blocks::<128>(samples, w, gain, start, body);
     } else {
-        let mut hs = [0u32; 2048];
-        let mut ts = [0.0f32; 2048];
-        all_blocks(
-            samples, w, r, start, body, points_v, points_h, grid, map_planes, &mut hs, &mut ts,
-        );
+        all_blocks::<2048>(samples, w, gain, start, body);
     }
 }
 
 // A gain map over a window that has columns and whose rows do not overlap.
-pub fn gain_window(
-    samples: &mut [f32],
-    w: Window,
-    r: Region,
-    body: &[u8],
-    points_v: u32,
-    points_h: u32,
-    grid: Grid,
-    map_planes: u32,
-)
-    requires { WindowFits w × Ordered w × MapFits points_v points_h grid map_planes }
+pub fn gain_window(samples: &mut [f32], w: Window, gain: GainMap, body: &[u8])
+    requires { WindowFits w × Ordered w × MapFits gain.map }
     ensures { samples.new
         ≡ each
         (on_window w (length samples.old)
-        (on_region r (gain_rule w.full_width w.full_height body.now r points_v points_h grid
-        map_planes)))
+        (on_region gain.region (gain_rule w.full_width w.full_height body.now gain)))
         samples.old }
 {
+    let r = gain.region;
     let start = row_select::first_column(r.left, r.col_pitch, w.x0 as u32);
-    blocks(
-        samples, w, r, start, body, points_v, points_h, grid, map_planes,
-    );
+    blocks(samples, w, gain, start, body);
 }
 
 // ---- which opcodes are gain maps
 
-// A gain map, or any other opcode.
-#[derive(Clone, Copy)]
-pub enum Gain {
-    Map {
-        region: Region,
-        points_v: u32,
-        points_h: u32,
-        grid: Grid,
-        map_planes: u32,
-    },
-    Other,
-}
-
-pub fn gain_of(op: Opcode) -> Gain
+pub fn gain_of(op: Opcode) -> Option<GainMap>
     ensures { GainIs op result }
 {
     match op {
@@ -395,13 +246,15 @@ pub fn gain_of(op: Opcode) -> Gain
             points_h,
             grid,
             map_planes,
-        } => Gain::Map {
-            region,
-            points_v,
-            points_h,
-            grid,
-            map_planes,
-        },
-        _ => Gain::Other,
+        } => {
+            let map = Map {
+                points_v,
+                points_h,
+                grid,
+                planes: map_planes,
+            };
+            Some(GainMap { region, map })
+        }
+        _ => None,
     }
 }

@@ -2,11 +2,12 @@
 -- sample kind A and any rule. Assumes nothing.
 use Prim.Native.Nat.{ℕ, ◌+◌, ◌-◌, ◌*◌, ◌≤◌, ◌<◌, min}
 use mathlib.Core.Path.{◌≡◌, refl, sym, ap, subst, ◌∙◌}
-use mathlib.Core.Bool.{Bool, true, false, ◌&&◌, and-false}
+use mathlib.Core.Bool.{true, false}
 use mathlib.Core.List.{List, ◌++◌}
 use native.Mathlib.Nat.{add-mul, one-mul, zero-mul, mul-le-mul_right, mul-le-mul_left}
 use native.Mathlib.Omega.{arith}
-use borrow.Author.Tests.{lt-leb}
+use borrow.Author.Tests.{leb-true}
+use Rattle.std.proofs.lemmas.Bool.{and_parts}
 use lib.Dec.{leb}
 use lib.Ieee.{Float}
 use lib.ListN.{length, take, drop, length-take}
@@ -57,13 +58,10 @@ start_fits w y at f p h =
       mul-le-mul_left 65536 (step_fits w f),
     )
 
-inactive-width : (w : Window) → w.width ≡ 0 → active w ≡ false
+-- a window that has columns, and whose rows do not overlap, as it is tested
+pub ordered : (w : Window) → active w ≡ true → Ordered w
 unfolding active
-inactive-width w e = ap (λ (b : Bool). b && leb w.width w.stride) (lt-leb 1 w.width (omega arith))
-
-inactive-stride : (w : Window) → w.stride < w.width → active w ≡ false
-unfolding active
-inactive-stride w h = ap (◌&&◌ (leb 1 w.width)) (lt-leb w.width w.stride h) ∙ and-false (leb 1 w.width)
+ordered w h = let f = and_parts (leb 1 w.width) (leb w.width w.stride) h in record { wide = leb-true _ _ f.0; strided = leb-true _ _ f.1 }
 
 -- the frame of a row's place
 abbrev pub frame_in : Float → Place → Frame
@@ -79,6 +77,9 @@ module _ {A : Type 0} (w : Window) (f : Rule A) (s : List A) where
 
   pub rows_start : Rows s 0 0
   rows_start = record { done = sym (rows-begin w (length s) f s); here = omega (arith, zero-mul (w.stride * w.planes)); near = omega arith; same = refl }
+
+  pub rows_at : {t : List A} {y at : ℕ} (here : ℕ) → here ≡ at → Rows t y at → Rows t y here
+  rows_at here e r = record { done = r.done; here = e ∙ r.here; near = r.near; same = r.same }
 
   -- the part that is lent of row y may be stepped
   pub part-fits : {t : List A} {y at width end : ℕ} {g : Place} → WindowFits w → Rows t y at → y < w.height
@@ -131,8 +132,5 @@ module _ {A : Type 0} (w : Window) (f : Rule A) (s : List A) where
   rows_short {t} {y} r h = r.done ∙ rows-past w (length s) y f s (omega (arith, r.here))
 
   -- a window without columns, or whose rows overlap, stays
-  pub unordered-width : w.width ≡ 0 → s ≡ each (on_window w (length s) f) s
-  unordered-width e = sym (rows_none w (length s) f s (inactive-width w e))
-
-  pub unordered-stride : w.stride < w.width → s ≡ each (on_window w (length s) f) s
-  unordered-stride h = sym (rows_none w (length s) f s (inactive-stride w h))
+  pub unordered : active w ≡ false → s ≡ each (on_window w (length s) f) s
+  unordered h = sym (rows_none w (length s) f s h)

@@ -1,29 +1,18 @@
 -- `fix_near::all_near` meets its contract: a lone position's neighbours are those with no marks. Assumes nothing.
-use Prim.Native.Nat.{ℕ}
-use mathlib.Core.List.{List}
-use mathlib.Core.Path.{subst}
-use Rattle.fix_near.specs.Looks.{marked, Lists}
-use Rattle.fix_near.proofs.Unmarked.{lone-near, asked-asks, asked-near}
+use mathlib.Core.Path.{◌∙◌}
+use Rattle.num_sorted.specs.Sorts.{has}
+use Rattle.fix_near.proofs.Unmarked.{lone-near, lone-empty, asks-none}
 use Rattle.fix_near.proofs.all_near.Goals as goal
 
-pub eight-requires : goal.eight-requires
-eight-requires c =
-    (c.requires.0.fits, (c.requires.0.far, (c.lone_inside.ensures c.if-lone_inside.true).1))
-
-pub returns-then-lone_inside : goal.returns-then-lone_inside
-returns-then-lone_inside c =
+pub returns-else-inside : goal.returns-else-inside
+returns-else-inside c =
     let a = c.args in
-    subst (λ (l : List ℕ). Lists c.eight.result l)
-    (lone-near (marked a.marks.now a.n) a.w a.period a.x a.y (c.requires.1 (c.lone_inside.ensures c.if-lone_inside.true).0))
-    c.eight.ensures
+    c.around-else-inside.ensures ∙ lone-empty (has a.marks.now) a.w a.period a.from.x a.from.y (c.requires.1 c.if-not-lone.false)
 
-pub around-requires : goal.around-requires
-around-requires c =
+pub returns-then-inside : goal.returns-then-inside
+returns-then-inside c =
     let a = c.args in
-    asked-asks a.marks.now a.n a.w a.period a.x a.y a.lone c.asked.ensures c.requires.0
+    c.eight.ensures ∙ lone-near (has a.marks.now) a.w a.period a.from.x a.from.y (c.requires.1 c.if-not-lone.false)
 
-pub returns : goal.returns
-returns c =
-    let a = c.args in
-    subst (λ (l : List ℕ). Lists c.around.result l)
-    (asked-near a.marks.now a.n a.w a.period a.x a.y a.lone c.asked.ensures c.requires.1) c.around.ensures
+pub around-requires-else-inside : goal.around-requires-else-inside
+around-requires-else-inside c = asks-none c.requires.0

@@ -1,56 +1,34 @@
 -- `fix_near::around` meets its contract: the walk over the steps. Assumes nothing.
-use Prim.Native.Nat.{◌<◌}
-use mathlib.Core.Path.{◌≡◌, refl}
-use mathlib.Core.List.{List, map}
 use native.Mathlib.Omega.{arith}
-use Rattle.dng.specs.Repair.{steps}
-use Rattle.fix_near.specs.declared.Step.{Step}
-use Rattle.fix_near.specs.Looks.{marked, pair_of}
-use Rattle.fix_near.proofs.Walking.{walk_start, walk_at, walk-missing, walk_end, step_on, step-one, step_in}
+use Rattle.num_sorted.specs.Sorts.{has}
+use Rattle.fix_near.proofs.Walking.{walk_at, walk-missing, walk_end, step_on, step-one, step_in}
 use Rattle.fix_near.proofs.around.Goals as goal
+use Rattle.fix_near.proofs.around.Goals.{in-Some, in_default}
 
-pub loop-i-init : goal.loop-i-init
-loop-i-init c =
-    let a = c.args in
-    walk_start a.w a.period (marked a.marks.now a.n) a.x a.y _ refl
-
-pub beside-next-requires : goal.beside-next-requires
-beside-next-requires c =
-    let array : List Step =
-    c.steps-all.result in
-    let made : map pair_of array ≡ steps =
-    c.steps-all.ensures in
-    let p = c.requires in
-    let one = step-one array c.loop-i.i made c.loop-i-test.true in
-    (p, ((one, (p.far, (omega (arith, p.column, p.fits.width), omega (arith, p.row, p.fits.height)))), c.loop-i-test.true))
+pub beside-requires : goal.beside-requires
+beside-requires c =
+    let p = c.requires in (
+      p,
+      (
+        step-one c.steps-all.result c.loop-i.i c.steps-all.ensures (omega arith),
+        (p.far, (omega (arith, p.column, p.fits.width), omega (arith, p.row, p.fits.height))),
+      ),
+    )
 
 pub place-requires : goal.place-requires
 place-requires c =
-    let array : List Step =
-    c.steps-all.result in
-    let inside : (c.in-At.xx < c.args.w.width) × (c.in-At.yy < c.args.w.height) =
-    let a = c.args in step_in a.w a.period (marked a.marks.now a.n) a.x a.y (step_on array c.loop-i.i) c.beside-next.ensures c.in-At.is in
-    let h = inside in
+    let a = c.args in
+    let h = step_in a.w a.period (has a.marks.now) a.from.x a.from.y (step_on c.steps-all.result c.loop-i.i) c.in-Some.ensures in
     let p = c.requires in
     (record { fits = p.fits; column = h.0; row = h.1 }, omega (arith, p.fits.some))
 
-pub loop-i-preserved-in-At : goal.loop-i-preserved-in-At
-loop-i-preserved-in-At c =
-    let array : List Step =
-    c.steps-all.result in
-    let made : map pair_of array ≡ steps =
-    c.steps-all.ensures in
-    walk_at c.loop-i.invariant array made c.loop-i-test.true c.beside-next.ensures
-    c.in-At.is c.place.ensures
-
 pub loop-i-preserved : goal.loop-i-preserved
 loop-i-preserved c =
-    let array : List Step =
-    c.steps-all.result in
-    let made : map pair_of array ≡ steps =
-    c.steps-all.ensures in
-    walk-missing c.loop-i.invariant array made c.loop-i-test.true c.beside-next.ensures
-    c.in-Missing.is
+    elim c.match-beside.branch [
+      | in-Some w ↦ rw (w.near-is, w.push.ensures)
+          (walk_at c.loop-i.invariant c.steps-all.result c.steps-all.ensures (omega arith) w.in-Some.ensures w.place.ensures)
+      | in_default w ↦ rw w.near-is (walk-missing c.loop-i.invariant c.steps-all.result c.steps-all.ensures (omega arith) w.in_default.ensures)
+    ]
 
 pub returns : goal.returns
-returns c = walk_end c.loop-i.invariant c.loop-i-test.false
+returns c = walk_end c.loop-i.invariant (omega arith)

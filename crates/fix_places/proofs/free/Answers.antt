@@ -1,17 +1,15 @@
 -- `fix_places::free` meets its contract: what lies between two marks that follow each other is free. Assumes nothing.
-use mathlib.Core.Bool.{false≢true}
+use mathlib.Core.Path.{sym, ◌∙◌}
+use native.Mathlib.Omega.{arith}
+use borrow.Author.Tests.{leb-true}
 use Rattle.fix_places.proofs.Between.{free-between}
 use Rattle.fix_places.proofs.free.Goals as goal
-
-pub returns-then-n-at : goal.returns-then-n-at
-returns-then-n-at c = λ e. absurd (false≢true e)
+use Rattle.fix_places.proofs.free.Goals.{then-at-marks, else-at-marks}
 
 pub returns-then-under : goal.returns-then-under
 returns-then-under c = λ e.
-    let t = c.before.before.before in
     let a = c.args in
-    free-between a.marks.now a.n c.requires.0 c.requires.1 a.at a.lo a.hi (c.under.ensures c.if-under.true)
-    (c.over.ensures e)
-
-pub returns : goal.returns
-returns c = λ e. absurd (false≢true e)
+    elim c.if-at-marks.branch [
+      | then-at-marks w ↦ free-between a.marks.now a.at a.lo a.hi (w.under.ensures (sym w.value-is ∙ c.if-under.true)) (c.over.ensures e)
+      | else-at-marks w ↦ absurd (omega (arith, leb-true _ _ (sym w.value-is ∙ c.if-under.true), w.if-at-marks.false))
+    ]

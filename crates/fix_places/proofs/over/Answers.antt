@@ -5,7 +5,7 @@ use borrow.Author.Tests.{ltb-true}
 use Rattle.fix_places.proofs.Between.{over-from}
 use Rattle.fix_places.proofs.over.Goals as goal
 
-pub returns : goal.returns
-returns c = λ e.
-    over-from c.args.marks.now c.args.n c.requires.1.0 c.requires.1.1 c.args.at c.args.hi
+pub returns-else-at-marks : goal.returns-else-at-marks
+returns-else-at-marks c = λ e.
+    over-from c.args.marks.now c.requires.1 c.args.at c.args.hi
     (subst (λ (z : ℕ). c.args.hi < z) c.mark.ensures.0 (ltb-true c.args.hi c.mark.result e))

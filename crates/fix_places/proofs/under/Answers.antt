@@ -6,7 +6,7 @@ use borrow.Author.Tests.{ltb-true}
 use Rattle.fix_places.proofs.Between.{under-from}
 use Rattle.fix_places.proofs.under.Goals as goal
 
-pub returns : goal.returns
-returns c = λ e.
-    under-from c.args.marks.now c.args.n c.requires.1.0 c.requires.1.1 c.args.at c.args.lo (omega arith) c.requires.0
+pub returns-else-at-eq0 : goal.returns-else-at-eq0
+returns-else-at-eq0 c = λ e.
+    under-from c.args.marks.now c.requires.1 c.args.at c.args.lo (omega arith) c.requires.0
     (subst (λ (z : ℕ). z < c.args.lo) c.mark.ensures.0 (ltb-true c.mark.result c.args.lo e))

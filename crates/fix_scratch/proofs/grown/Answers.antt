@@ -5,23 +5,18 @@ use native.Mathlib.Omega.{arith}
 use borrow.Author.Tests.{lt-leb, le-leb}
 use lib.Seq.{length-take-le}
 use Rattle.fix_scratch.proofs.grown.Goals as goal
-
-pub returns-then-n-t : goal.returns-then-n-t
-returns-then-n-t c = rw (lt-leb c.args.t c.args.n c.if-n-t.true) refl
+use Rattle.fix_scratch.proofs.grown.Goals.{else-held-via-then-held+else-past, else-held-via-else-held}
 
 pub slice_bounds-past-end : goal.slice_bounds-past-end
-slice_bounds-past-end c = sym (length-take-le c.args.n c.args.s.now (omega arith))
+slice_bounds-past-end c = sym (length-take-le c.args.held.n c.args.s.now (omega arith))
 
 pub returns-then-past : goal.returns-then-past
-returns-then-past c = rw (
-  le-leb c.args.t c.args.n
-      c.if-n-t.false,
-  sym c.past.ensures ∙ c.if-past.true,
-) refl
+returns-then-past c =
+    rw (le-leb c.args.held.t c.args.held.n c.if-held.true, sym c.past.ensures ∙ c.if-past.true) refl
 
-pub returns-else-past : goal.returns-else-past
-returns-else-past c = rw (
-  le-leb c.args.t c.args.n
-      c.if-n-t.false,
-  sym c.past.ensures ∙ c.if-past.false,
-) refl
+pub returns-else-held : goal.returns-else-held
+returns-else-held c =
+    elim c.else-held.branch [
+      | else-held-via-then-held+else-past w ↦ rw (le-leb c.args.held.t c.args.held.n w.if-held.true, sym w.past.ensures ∙ w.if-past.false) refl
+      | else-held-via-else-held w ↦ rw (lt-leb c.args.held.t c.args.held.n w.if-held.false) refl
+    ]

@@ -2,12 +2,8 @@
 -- Assumes nothing.
 use mathlib.Core.Path.{refl, sym, ◌∙◌}
 use native.Mathlib.Omega.{arith}
-use Rattle.fix_scratch.proofs.Filling.{place-there, place-full}
+use Rattle.fix_scratch.proofs.Filling.{place-full}
 use Rattle.fix_scratch.proofs.place.Goals as goal
-
-pub returns-then-find : goal.returns-then-find
-returns-then-find c =
-    place-there _ _ _ _ c.args.p c.requires.front (sym (c.find.ensures c.requires.front.fits c.requires.front.rises) ∙ c.if-find.true)
 
 pub returns : goal.returns
 returns c =

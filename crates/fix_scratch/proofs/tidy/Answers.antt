@@ -6,4 +6,4 @@ use Rattle.fix_scratch.proofs.tidy.Goals as goal
 pub returns : goal.returns
 returns c =
     let pack = c.pack in
-    tidied _ c.args.s.now c.args.n c.args.t pack.new.s pack.result c.requires pack.ensures pack.auto.s
+    tidied _ c.args.s.now c.args.held.n c.args.held.t pack.new.s pack.result c.requires pack.ensures pack.auto.s

@@ -6,7 +6,7 @@ use Rattle.fix_scratch.specs.Scratch.{span}
 use Rattle.fix_scratch.proofs.walk.Given as goal
 
 abbrev pub invariant-loop-p : goal.invariant-loop-p
-invariant-loop-p l = Steps l.top (span l.a) l.initial.s l.t l.s l.k l.u l.p × (l.a ≤ l.p) × (l.p ≤ max l.a l.b)
+invariant-loop-p l = Steps l.top (span l.a) l.initial.s l.fn.held.t l.s l.k l.p × (l.a ≤ l.p) × (l.p ≤ max l.a l.b)
 
 abbrev pub decreases-loop-p : goal.decreases-loop-p
 decreases-loop-p l = l.b - l.p

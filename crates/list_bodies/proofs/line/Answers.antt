@@ -1,24 +1,24 @@
 -- `list_bodies::line` meets its contract, by what was read and its test. Assumes nothing.
-use mathlib.Core.Path.{◌∙◌}
-use mathlib.Core.Path.{ap}
-use Rattle.dng.specs.declared.Parsed.TheVariants as P
+use mathlib.Core.Path.{ap, ◌∙◌}
+use Rattle.std.specs.Prelude.{Ok, Err}
+use Rattle.dng.proofs.Exits.{exit}
 use Rattle.list_bodies.specs.Bodies.{line_of}
 use Rattle.list_bodies.proofs.Laws.{cut-counted-at, is-counted, values-cut, values-read, values-not}
 use Rattle.list_bodies.proofs.line.Goals as goal
 
-pub returns-in-Cut : goal.returns-in-Cut
-returns-in-Cut c =
-    c.inside.ensures
-    ∙ values-cut _ _ _ 4 (line_of c.args.id) (cut-counted-at _ _ _ c.counted_in.ensures c.in-Cut.is)
+pub returns-in_err-region : goal.returns-in_err-region
+returns-in_err-region c =
+    exit c.from_residual.ensures.1
+    ∙ values-cut _ _ _ 4 (line_of c.args.id) (cut-counted-at _ _ _ c.counted_in.ensures c.in_err-region.was)
 
 pub returns-then-values_fit : goal.returns-then-values_fit
 returns-then-values_fit c =
-    let is = is-counted _ _ _ c.counted_in.ensures c.in-Is.is in
-    ap P.Read c.line_of.ensures
+    let is = is-counted _ _ _ c.counted_in.ensures c.in_ok-region.was in
+    ap Ok c.line_of.ensures
     ∙ values-read _ _ _ 4 (line_of c.args.id) c.values_fit.ensures c.if-values_fit.true is.1 is.2
 
 pub returns-else-values_fit : goal.returns-else-values_fit
 returns-else-values_fit c =
-    let is = is-counted _ _ _ c.counted_in.ensures c.in-Is.is in
-    c.refuse.ensures
+    let is = is-counted _ _ _ c.counted_in.ensures c.in_ok-region.was in
+    ap Err c.refuse.ensures
     ∙ values-not _ _ _ 4 (line_of c.args.id) c.values_fit.ensures c.if-values_fit.false is.0

@@ -5,7 +5,7 @@ use Rattle.list_bodies.proofs.warp.Goals as goal
 
 pub returns-then-warp_fits : goal.returns-then-warp_fits
 returns-then-warp_fits c =
-    warp-read _ _ _ c.warp_fits.ensures c.if-warp_fits.true c.word-n.ensures
+    warp-read _ _ _ c.warp_fits.ensures c.if-warp_fits.true c.word-planes.ensures
     c.real.ensures c.real-then-warp_fits.ensures
 
 pub returns-else-warp_fits : goal.returns-else-warp_fits

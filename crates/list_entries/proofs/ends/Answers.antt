@@ -2,9 +2,8 @@
 use mathlib.Core.Path.{ap}
 use Prim.Native.Nat.{ℕ, ◌+◌, ◌*◌, ◌/◌}
 use Rattle.dng.specs.declared.Reason.TheVariants.{Ends}
-use Rattle.dng.specs.declared.Next.TheVariants as N
 use Rattle.dng.specs.List.{refusal}
 use Rattle.list_entries.proofs.ends.Goals as goal
 
 pub returns : goal.returns
-returns c = ap (λ (left : ℕ). N.Malformed (refusal Ends (c.args.at + left / 4 * 4))) c.less.ensures
+returns c = ap (λ (left : ℕ). refusal Ends (c.args.at + left / 4 * 4)) c.less.ensures

@@ -1,21 +1,18 @@
 -- `list_find::directory` meets its contract. Assumes nothing.
-use native.Mathlib.Omega.{arith}
+use Rattle.std.proofs.Common.{◌∙◌, arith}
 use Rattle.list_find.proofs.Laws.{whole_room}
 use Rattle.list_find.proofs.Fine.{going-whole, dir-stop, dir-on}
 use Rattle.list_find.proofs.directory.Goals as goal
 
+pub returns-in_err-gone-clause-value : goal.returns-in_err-gone-clause-value
+returns-in_err-gone-clause-value c = c.from_residual.ensures ∙ dir-stop _ _ _ _ c.visit.ensures c.in_err-gone.was
+
 pub overflow_add-at : goal.overflow_add-at
-overflow_add-at c =
-    omega (arith, whole_room _ _ (going-whole _ _ _ _ c.visit.ensures c.in-Going.is))
+overflow_add-at c = omega (arith, whole_room _ _ (going-whole _ _ _ _ c.visit.ensures c.in_ok-gone.was))
 
-pub all_subs-requires : goal.all_subs-requires
-all_subs-requires c =
-    record { n_in_bounds = omega (arith, whole_room _ _ (going-whole _ _ _ _ c.visit.ensures c.in-Going.is), c.half.ensures.0); known = c.requires }
+pub all_subs-requires-clause-n_in_bounds : goal.all_subs-requires-clause-n_in_bounds
+all_subs-requires-clause-n_in_bounds c =
+    omega (arith, whole_room _ _ (going-whole _ _ _ _ c.visit.ensures c.in_ok-gone.was), c.half.ensures.0)
 
-pub returns-in-Done : goal.returns-in-Done
-returns-in-Done c =
-    record { value = dir-stop _ _ _ _ c.visit.ensures c.in-Done.is; known = c.requires }
-
-pub returns-in-Going : goal.returns-in-Going
-returns-in-Going c =
-    record { value = dir-on _ _ _ _ c.visit.ensures c.in-Going.is c.half.ensures.0 c.all_subs.ensures.value; known = c.all_subs.ensures.known_2 }
+pub returns-clause-value : goal.returns-clause-value
+returns-clause-value c = dir-on _ _ _ _ c.visit.ensures c.in_ok-gone.was c.half.ensures.0 c.all_subs.ensures.value

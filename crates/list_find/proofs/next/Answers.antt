@@ -1,8 +1,5 @@
 -- `list_find::next` meets its contract. Assumes nothing.
-use Prim.Native.Nat.{ℕ, ◌+◌, ◌*◌}
-use mathlib.Core.Path.{ap, ◌∙◌}
 use native.Mathlib.Omega.{arith}
-use Rattle.list_find.specs.Walk.{file_with, u32}
 use Rattle.list_find.proofs.Laws.{whole_room}
 use Rattle.list_find.proofs.next.Goals as goal
 
@@ -14,8 +11,3 @@ overflow_add-at-2 c = omega (arith, whole_room _ _ c.requires, c.half.ensures.0)
 
 pub word-requires : goal.word-requires
 word-requires c = omega (arith, whole_room _ _ c.requires, c.half.ensures.0)
-
-pub returns : goal.returns
-returns c =
-    let a = c.args in
-    c.word.ensures.0 ∙ ap (λ (n : ℕ). u32 (file_with a.most a.file.now) (a.at + 2 + 12 * n)) c.half.ensures.0

@@ -2,7 +2,6 @@
 -- Assumes nothing.
 use Prim.Native.Nat.{◌+◌, ◌-◌, ◌*◌, ◌≤◌}
 use mathlib.Core.Path.{◌≡◌}
-use lib.ListN.{length}
 use Rattle.num_zeros.specs.Zeros.{Known}
 use Rattle.list_find.specs.Walk.{file_with, subs_from}
 use Rattle.list_find.proofs.subs.Given as goal
@@ -12,7 +11,6 @@ invariant-loop-i l =
     (l.i ≤ l.n)
     × (subs_from (file_with l.most l.file) l.tag (l.n - l.i) (l.o + 4 * l.i) l.gone ≡ subs_from (file_with l.most l.file) l.tag l.n l.o l.k)
     × Known l.file l.known
-    × (length l.known ≡ length l.initial.known)
 
 abbrev pub decreases-loop-i : goal.decreases-loop-i
 decreases-loop-i l = l.n - l.i

@@ -2,7 +2,6 @@
 -- how many directories may still be gone to. Assumes nothing.
 use Prim.Native.Nat.{◌-◌, ◌≤◌}
 use mathlib.Core.Path.{◌≡◌}
-use lib.ListN.{length}
 use Rattle.num_zeros.specs.Zeros.{Known}
 use Rattle.list_find.specs.Walk.{file_with, chain}
 use Rattle.list_find.proofs.walk.Given as goal
@@ -12,7 +11,6 @@ invariant-loop-at l =
     (l.gone ≤ 64)
     × (chain (file_with l.most l.file) l.tag 65 l.at l.gone ≡ chain (file_with l.most l.file) l.tag 65 l.first 0)
     × Known l.file l.known
-    × (length l.known ≡ length l.initial.known)
 
 abbrev pub decreases-loop-at : goal.decreases-loop-at
 decreases-loop-at l = 65 - l.gone

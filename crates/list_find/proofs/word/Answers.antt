@@ -3,9 +3,6 @@ use native.Mathlib.Omega.{arith}
 use Rattle.list_find.proofs.Laws.{halves}
 use Rattle.list_find.proofs.word.Goals as goal
 
-pub returns-then-most : goal.returns-then-most
-returns-then-most c = (simp c.if-most.true c.u32_at.ensures, omega arith)
-
 pub returns-else-most : goal.returns-else-most
 returns-else-most c =
     let a = c.args in (

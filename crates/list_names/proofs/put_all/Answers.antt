@@ -1,9 +1,10 @@
 -- `list_names::put_all` meets its contract. The loop's invariant: the buffer with the names that are left stored from j on is the one with all names
 -- stored. Assumes nothing.
-use mathlib.Core.Path.{refl, ap, sym, ◌∙◌}
+use mathlib.Core.Path.{ap, sym, ◌∙◌}
 use native.Mathlib.Omega.{arith}
 use lib.Seq.{sets}
 use Rattle.dng.specs.Run.{kept_of, names_of}
+use Rattle.list_classes.proofs.Counted.{counted, counted-most}
 use Rattle.list_read.proofs.Fold.{begin, item, stop, end}
 use Rattle.list_names.specs.Names.{skipped_in}
 use Rattle.list_names.proofs.Laws.{put-more, none}
@@ -12,8 +13,6 @@ use Rattle.list_names.proofs.put_all.Goals as goal
 pub loop-k-init : goal.loop-k-init
 loop-k-init c = (
   omega arith,
-  omega arith,
-  refl,
   let a = c.args in
       ap (λ l. sets a.names.now 0 (names_of (skipped_in a.whole) (kept_of a.preview l))) (begin _ c.count-n.ensures),
 )
@@ -21,31 +20,23 @@ loop-k-init c = (
 pub loop-k-preserved : goal.loop-k-preserved
 loop-k-preserved c =
     let a = c.args in (
-      omega arith,
-      omega arith,
-      c.put.auto.names ∙ c.loop-k.invariant.2,
+      omega (arith, c.from-j.ensures, counted-most c.is_named-named.result),
       put-more
           a.preview (skipped_in a.whole) _ _
-          (item _ _ _ _ c.loop-k-test.true c.step.ensures c.in-Item.is)
-          c.is_named-named.ensures c.one_if-j.ensures.0 _ _ c.put.ensures ∙ c.loop-k.invariant.3,
+          (item _ _ _ _ c.loop-k-test.true c.step.ensures c.in-Ok.is)
+          c.is_named-named.ensures (c.from-j.ensures ∙ counted _) _ _ c.put.ensures ∙ c.loop-k.invariant.1,
     )
 
-pub shape_of-names-in-Malformed : goal.shape_of-names-in-Malformed
-shape_of-names-in-Malformed c = c.loop-k.invariant.2
-
-pub returns-in-Malformed : goal.returns-in-Malformed
-returns-in-Malformed c =
+pub returns-in_default : goal.returns-in_default
+returns-in_default c =
     let a = c.args in
     sym (ap (λ l. sets c.loop-k.names c.loop-k.j l) (none a.preview (skipped_in a.whole)
-    (stop _ _ _ _ c.loop-k-test.true c.step.ensures c.in-Malformed.is)))
-    ∙ c.loop-k.invariant.3
-
-pub shape_of-names : goal.shape_of-names
-shape_of-names c = c.loop-k.invariant.2
+    (stop _ _ _ _ c.loop-k-test.true c.step.ensures c.in_default.is)))
+    ∙ c.loop-k.invariant.1
 
 pub returns : goal.returns
 returns c =
     let a = c.args in
     sym (ap (λ l. sets c.loop-k.names c.loop-k.j l) (none a.preview (skipped_in a.whole)
     (end a.list.now c.count-n.result c.loop-k.k c.loop-k.c c.loop-k-test.false)))
-    ∙ c.loop-k.invariant.3
+    ∙ c.loop-k.invariant.1

@@ -2,7 +2,6 @@
 -- stored. Assumes nothing.
 use Prim.Native.Nat.{◌-◌, ◌≤◌}
 use mathlib.Core.Path.{◌≡◌}
-use lib.ListN.{length}
 use lib.Seq.{sets}
 use Rattle.dng.specs.List.{read_from}
 use Rattle.dng.specs.Run.{kept_of, kept_in, names_of}
@@ -11,9 +10,6 @@ use Rattle.list_names.proofs.put_all.Given as goal
 
 abbrev pub invariant-loop-k : goal.invariant-loop-k
 invariant-loop-k l =
-    (l.k ≤ l.n) × (l.j ≤ l.k) × (length l.names ≡ length l.initial.names) ×
+    (l.j ≤ l.k) ×
     (sets l.names l.j (names_of (skipped_in l.whole) (kept_of l.preview (read_from l.list (l.n - l.k) l.c)))
     ≡ sets l.initial.names 0 (names_of (skipped_in l.whole) (kept_in l.preview l.list)))
-
-abbrev pub decreases-loop-k : goal.decreases-loop-k
-decreases-loop-k l = l.n - l.k

@@ -1,14 +1,16 @@
 -- `list_read::step` meets its contract, by what was found and how its body was read. Assumes nothing.
+use mathlib.Core.Path.{◌∙◌}
+use Rattle.dng.proofs.Exits.{exit}
 use Rattle.list_read.proofs.Laws.{step-item, step-body, step_cut}
 use Rattle.list_read.proofs.step.Goals as goal
 
-pub returns-in-Read : goal.returns-in-Read
-returns-in-Read c =
-    step-item _ _ c.next.ensures c.in-Found.is c.parse.ensures c.in-Read.is
+pub returns-in_err-entry : goal.returns-in_err-entry
+returns-in_err-entry c = exit c.from_residual.ensures.1 ∙ step_cut _ _ c.next.ensures c.in_err-entry.was
 
-pub returns-in-Malformed-parse : goal.returns-in-Malformed-parse
-returns-in-Malformed-parse c =
-    step-body _ _ c.next.ensures c.in-Found.is c.parse.ensures c.in-Malformed-parse.is
+pub returns-in_err-op : goal.returns-in_err-op
+returns-in_err-op c =
+    exit c.from_residual-in_err-op.ensures.1
+    ∙ step-body _ _ c.next.ensures c.in_ok-entry.was c.parse.ensures c.in_err-op.was
 
-pub returns-in-Malformed : goal.returns-in-Malformed
-returns-in-Malformed c = step_cut _ _ c.next.ensures c.in-Malformed.is
+pub returns : goal.returns
+returns c = step-item _ _ c.next.ensures c.in_ok-entry.was c.parse.ensures c.in_ok-op.was

@@ -1,6 +1,4 @@
--- `list_survey::read_entries` meets its contract. The loop's invariant: k entries are read, and what is counted of them and of those that are left
--- from the cursor on is what is counted of all; and the first malformed one, if there is one, is yet to come. The measure is what is left of the
--- count. Assumes nothing.
+-- `list_survey::read_entries` meets its contract, by the loop's invariant. Assumes nothing.
 use Prim.Native.Nat.{◌-◌}
 use mathlib.Core.Path.{◌≡◌, ap, sym, ◌∙◌}
 use native.Mathlib.Omega.{arith}
@@ -17,7 +15,6 @@ pub loop-k-init : goal.loop-k-init
 loop-k-init c =
     let args = c.args in
     let z = none_yet args.n in (
-      omega arith,
       omega (arith, ap (λ n. length (read_from args.list.now n start)) z),
       ap (λ n. why_from args.list.now n start) z,
       ap (λ t. tally_from t (kept_of args.preview (read_from args.list.now (args.n - 0) start))) c.begin-t.ensures
@@ -26,34 +23,33 @@ loop-k-init c =
 
 pub turn-t-requires : goal.turn-t-requires
 turn-t-requires c =
-    small _ _ _ _ _ c.requires c.loop-k.invariant.3
+    small _ _ _ _ _ c.requires c.loop-k.invariant.2
 
 pub loop-k-preserved : goal.loop-k-preserved
 loop-k-preserved c =
     let taken = c.loop-k-test.true in
     let stepped = c.step.ensures in
-    let told = c.in-Item.is in
+    let told = c.in-Ok.is in
     let inv = c.loop-k.invariant in (
-      omega arith,
-      total _ _ _ _ _ taken stepped told inv.1,
-      sym (why-item _ _ _ _ taken stepped told) ∙ inv.2,
-      more _ _ (item _ _ _ _ taken stepped told) c.dropped.ensures c.turn-t.ensures ∙ inv.3,
+      total _ _ _ _ _ taken stepped told inv.0,
+      sym (why-item _ _ _ _ taken stepped told) ∙ inv.1,
+      more _ _ (item _ _ _ _ taken stepped told) c.dropped.ensures c.turn-t.ensures ∙ inv.2,
     )
 
-pub returns-in-Malformed : goal.returns-in-Malformed
-returns-in-Malformed c =
-    let told = c.in-Malformed.is in
+pub returns-in-Err : goal.returns-in-Err
+returns-in-Err c =
+    let told = c.in-Err.is in
     let stepped = c.step.ensures in
     let taken = c.loop-k-test.true in
     let args = c.args in
     let nothing = stop _ _ _ _ taken stepped told in
     let entries : c.loop-k.k ≡ length (read_from args.list.now args.n start) = omega (arith, ap length nothing) in
-    known _ _ _ _ c.made_of.ensures (reading-stop _ _ entries taken (sym c.loop-k.invariant.2 ∙ why-stop _ _ _ _ taken stepped told))
-    entries (no_more _ _ nothing ∙ c.loop-k.invariant.3)
+    known _ _ _ _ c.made_of.ensures (reading-stop _ _ entries taken (sym c.loop-k.invariant.1 ∙ why-stop _ _ _ _ taken stepped told))
+    entries (no_more _ _ nothing ∙ c.loop-k.invariant.2)
 
 pub returns : goal.returns
 returns c =
     let args = c.args in
     let nothing = end args.list.now args.n c.loop-k.k c.loop-k.c c.loop-k-test.false in
     let entries : args.n ≡ length (read_from args.list.now args.n start) = omega (arith, ap length nothing) in
-    known _ _ _ _ c.made_of-2.ensures (reading-whole _ _ entries) entries (no_more _ _ nothing ∙ c.loop-k.invariant.3)
+    known _ _ _ _ c.made_of-2.ensures (reading-whole _ _ entries) entries (no_more _ _ nothing ∙ c.loop-k.invariant.2)

@@ -1,7 +1,6 @@
 -- `list_survey::read_entries` meets its contract. The loop's invariant: k entries are read, and what is counted of them and of those that are left
--- from the cursor on is what is counted of all; and the first malformed one, if there is one, is yet to come. The measure is what is left of the
--- count. Assumes nothing.
-use Prim.Native.Nat.{◌+◌, ◌-◌, ◌≤◌}
+-- from the cursor on is what is counted of all; and the first malformed one, if there is one, is yet to come. Assumes nothing.
+use Prim.Native.Nat.{◌+◌, ◌-◌}
 use mathlib.Core.Path.{◌≡◌}
 use lib.ListN.{length}
 use Rattle.dng.specs.List.{read_from, why_from}
@@ -13,9 +12,6 @@ use Rattle.list_survey.proofs.read_entries.Given as goal
 
 abbrev pub invariant-loop-k : goal.invariant-loop-k
 invariant-loop-k l =
-    (l.k ≤ l.n) × (l.k + length (read_from l.list (l.n - l.k) l.c) ≡ length (read_from l.list l.n start)) ×
+    (l.k + length (read_from l.list (l.n - l.k) l.c) ≡ length (read_from l.list l.n start)) ×
     (why_from l.list (l.n - l.k) l.c ≡ why_from l.list l.n start) ×
     (tally_from l.t (kept_of l.preview (read_from l.list (l.n - l.k) l.c)) ≡ tally_from begun (kept_of l.preview (read_from l.list l.n start)))
-
-abbrev pub decreases-loop-k : goal.decreases-loop-k
-decreases-loop-k l = l.n - l.k

@@ -10,13 +10,13 @@ pub row_in-r-requires : goal.row_in-r-requires
 row_in-r-requires c = part-fits 4 _ _ c.if-work-n.false
 
 pub returns-then-work-n : goal.returns-then-work-n
-returns-then-work-n c = short _ _ _ _ c.if-work-n.true c.clear_f32.ensures
+returns-then-work-n c = short _ _ _ _ c.if-work-n.true c.clear.ensures
 
 pub returns-else-work-n : goal.returns-else-work-n
 returns-else-work-n c =
     let a = c.args in
-    enough a.w a.scale a.preview a.y a.list.now a.bytes.now _ a.work.now c.clear_f32-else-work-n.new.room
+    enough a.w a.scale a.preview a.y a.list.now a.bytes.now _ a.work.now c.clear-else-work-n.new.room
     c.row_in-r.result
     c.row_numbers.result
     c.if-work-n.false c.row_in-r.ensures c.row_numbers.ensures
-    _ c.clear_f32-else-work-n.ensures (search rules)
+    _ c.clear-else-work-n.ensures (search rules)

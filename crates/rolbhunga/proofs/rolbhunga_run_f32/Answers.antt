@@ -3,4 +3,4 @@ use Rattle.rolbhunga.proofs.Windows.{told}
 use Rattle.rolbhunga.proofs.rolbhunga_run_f32.Goals as goal
 
 pub returns : goal.returns
-returns c = told _ _ c.run_f32.result c.numbers.result _ _ _ c.run_f32.ensures c.numbers.ensures
+returns c = told _ _ c.run.result c.numbers.result _ _ _ c.run.ensures c.numbers.ensures

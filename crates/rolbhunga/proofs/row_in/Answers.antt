@@ -7,4 +7,4 @@ returns c =
     let a = c.args in
     left a.w a.scale a.preview a.y a.list.now a.bytes.now _ a.room.now _ _ c.run_row-r.result
     c.is_row_done.result
-    c.decode_f32.ensures c.run_row-r.ensures c.is_row_done.ensures c.put_f32.ensures
+    c.decode.ensures c.run_row-r.ensures c.is_row_done.ensures c.put.ensures

@@ -1,10 +1,9 @@
--- `row_gain::axis_at` meets its contract: the three parts, from what the leaves ensure.
-use Rattle.row_gain.proofs.Laws.{floor-on}
+-- `axis_at` meets its contract: the place on the ruler is the position. Assumes nothing.
+use native.Mathlib.Omega.{arith}
+use Rattle.row_gain.proofs.Laws.{column-on}
 use Rattle.row_gain.proofs.axis_at.Goals as goal
 
 pub returns : goal.returns
 returns c =
-    let f =
-    floor-on _ _ _ _ _ c.ruler_of.ensures _ _ c.place.ensures _ _
-    c.floor-f.ensures in
-    record { lower-is = f.index_is; upper_is = cc f.index_is; share-is = cc f.rest-is }
+    let on = column-on c.new.ensures _ c.column-c.ensures in
+    record { lower-is = on.lower-is; upper_is = omega (arith, on.lower-is, c.next.ensures, c.saturating_sub.ensures); share-is = on.share-is }

@@ -1,88 +1,68 @@
--- `row_gain::row_along` meets its contract: what lies before column c is done, and the pair at hand is that of its own map column.
-use mathlib.Core.Path.{refl, ap, ◌∙◌}
+-- `row_along` meets its contract: each turn is one sample of the walk. Assumes nothing.
+use Prim.Native.Nat.{ℕ, ◌+◌, ◌-◌, ◌*◌, ◌<◌, min}
+use mathlib.Core.Path.{◌≡◌, refl, ap, ◌∙◌}
+use mathlib.Core.List.{List}
 use native.Mathlib.Nat.{mul-le-mul_left}
 use native.Mathlib.Omega.{arith}
-use lib.Ieee.{nan}
-use Rattle.num_narrow.specs.Narrow.{narrow}
-use Rattle.pointwise.proofs.Walk.{upto-begin, upto-next-by, upto-end, upto_le, first-bound}
-use Rattle.row_select.specs.Walks.{walked}
-use Rattle.row_gain.proofs.Laws.{floor-on, index-le}
+use lib.Ieee.{Float, nan, binary32, add, mul}
+use lib.ListN.{length, get_or, set}
+use Rattle.row_select.specs.declared.Walk.{Walk}
+use Rattle.row_select.specs.Walks.{Walks}
+use Rattle.row_select.proofs.Sizes.{begin-small, at_least}
+use Rattle.row_select.proofs.Going.{Going, begin, next, end}
+use Rattle.row_gain.specs.declared.Column.{Column}
+use Rattle.row_gain.specs.declared.Pair.{Pair}
+use Rattle.row_gain.specs.declared.Strip.{Strip}
+use Rattle.row_gain.specs.Strip.{ColumnIs, PairIs, place_on, along_strip}
+use Rattle.row_gain.proofs.Laws.{place-le}
 use Rattle.row_gain.proofs.Rows.{raised_is}
 use Rattle.row_gain.proofs.row_along.Goals as goal
 
-pub end_of-stop-requires : goal.end_of-stop-requires
-end_of-stop-requires c = let w = c.requires.0 in (w.right32, w.few)
+-- one turn: sample i is raised
+turn : (b : List ℕ) (s : Strip) {k : Walk} {l row : List Float} {x c i : ℕ} {q : Pair} {p : Column} {v : Float} → Walks k (length l)
+    → Going k (along_strip b s) l row c i → x ≡ k.x0 + c → i < min (length l) ((k.right - k.x0) * k.planes)
+    → ColumnIs (place_on s.along x) p → PairIs b s q → q.h ≡ p.lower
+    → v ≡ mul binary32 (get_or row i nan) (add binary32 q.a (mul binary32 q.d p.share))
+    → Going k (along_strip b s) l (set row i v) (c + k.pitch) (i + k.pitch * k.planes)
+turn b s {k} {l} {row} {x} {c} {i} w u at below on is h value =
+    next w u nan below
+    (value ∙ raised_is b s x k.plane (get_or row i nan) is on h ∙ ap (λ (y : ℕ). along_strip b s y k.plane (get_or row i nan)) at)
 
-pub overflow_mul-step : goal.overflow_mul-step
-overflow_mul-step c =
-    omega (arith, c.requires.0.pitch32, mul-le-mul_left c.args.k.pitch c.requires.0.few)
+pub overflow_add-x : goal.overflow_add-x
+overflow_add-x c = let w = c.requires.0 in omega (arith, w.column, begin-small w, at_least w c.args.k.col)
 
 pub overflow_mul-i : goal.overflow_mul-i
-overflow_mul-i c =
-    let w = c.requires.0 in
-    omega (arith, w.left32, w.pitch32, first-bound _ _ _ _ _ w.first, mul-le-mul_left c.args.k.col w.few)
-
-pub overflow_add-i : goal.overflow_add-i
-overflow_add-i c =
-    let w = c.requires.0 in
-    omega (arith, w.left32, w.pitch32, w.inside, w.few, first-bound _ _ _ _ _ w.first, mul-le-mul_left c.args.k.col w.few)
-
-pub pair_at-q-requires : goal.pair_at-q-requires
-pair_at-q-requires c = (c.requires.1, omega arith)
+overflow_mul-i c = omega (arith, begin-small c.requires.0)
 
 pub loop-i-init : goal.loop-i-init
-loop-i-init c = let w = c.requires.0 in (upto-begin w.some w.first, c.pair_at-q.ensures.0)
+loop-i-init c = (_, begin c.requires.0, refl, c.at-q.ensures.0)
 
-pub overflow_add-x0 : goal.overflow_add-x0
-overflow_add-x0 c = omega (arith, c.loop-i-test.true, c.end_of-stop.ensures, c.requires.0.column, c.requires.0.short, upto_le c.requires.0.some c.loop-i.invariant.0)
+pub move_to-requires : goal.move_to-requires
+move_to-requires c =
+    let r = c.requires.1 in (
+      r,
+      omega (arith, c.column-c.ensures.lower-is, place-le c.args.s.along c.args.s.last c.loop-i.x r.ends r.last32),
+      c.loop-i.invariant.3,
+    )
 
-pub overflow_cast-x0 : goal.overflow_cast-x0
-overflow_cast-x0 c = omega (arith, c.loop-i-test.true, c.end_of-stop.ensures, c.requires.0.column, c.requires.0.short, upto_le c.requires.0.some c.loop-i.invariant.0)
+pub loop-i-preserved : goal.loop-i-preserved
+loop-i-preserved c =
+    let u = c.loop-i.invariant in
+    let q = c.move_to.ensures in (
+      u.0 + c.args.k.pitch,
+      turn _ c.args.s c.requires.0 u.1 u.2 (omega (arith, c.loop-i-test.true, c.stop_of-stop.ensures)) c.column-c.ensures q.0 q.1
+          c.raise.ensures,
+      omega (arith, u.2),
+      q.0,
+    )
 
-pub pair_for-q-requires : goal.pair_for-q-requires
-pair_for-q-requires c =
-    let h = index-le _ _ _ _ _ _ _ (floor-on _ _ _ _ _ c.ruler_of-r.ensures _ _ c.place.ensures _ _ c.floor-f.ensures) (omega (arith, c.ranges.n)) in
-    (c.requires.1, omega (arith, c.requires.2, h), c.loop-i.invariant.1)
-
-pub bounds-row-i : goal.bounds-row-i
-bounds-row-i c = omega (arith, c.loop-i-test.true, c.end_of-stop.ensures, c.loop-i.invariant.0.same)
-
-pub offset_bounds-row-i-in-loop-i : goal.offset_bounds-row-i-in-loop-i
-offset_bounds-row-i-in-loop-i c = omega (arith, c.loop-i-test.true, c.end_of-stop.ensures, c.requires.0.short)
-
-pub bounds-row-i-in-loop-i : goal.bounds-row-i-in-loop-i
-bounds-row-i-in-loop-i c = omega (arith, c.loop-i-test.true, c.end_of-stop.ensures, c.loop-i.invariant.0.same)
-
-pub overflow_add-i-in-loop-i : goal.overflow_add-i-in-loop-i
-overflow_add-i-in-loop-i c =
-    let w = c.requires.0 in
-    omega (arith, c.loop-i-test.true, c.end_of-stop.ensures, w.short, w.pitch32, mul-le-mul_left c.args.k.pitch w.few)
-
-pub overflow_add-c : goal.overflow_add-c
-overflow_add-c c = omega (arith, c.loop-i-test.true, c.end_of-stop.ensures, c.requires.0.column, c.requires.0.short, upto_le c.requires.0.some c.loop-i.invariant.0, c.requires.0.pitch32)
+pub returns : goal.returns
+returns c = end c.requires.0 c.loop-i.invariant.1 (omega (arith, c.loop-i-test.false, c.stop_of-stop.ensures))
 
 pub loop-i-smaller : goal.loop-i-smaller
 loop-i-smaller c =
     let w = c.requires.0 in
     omega (arith, c.loop-i-test.true, w.spaced, mul-le-mul_left c.args.k.pitch w.some)
 
-pub loop-i-preserved : goal.loop-i-preserved
-loop-i-preserved c =
-    let w = c.requires.0 in
-    let f = floor-on _ _ _ _ _ c.ruler_of-r.ensures _ _ c.place.ensures _ _ c.floor-f.ensures in
-    let q = c.pair_for-q.ensures in (
-      upto-next-by nan _ _ (omega (arith, w.spaced)) refl w.inside c.loop-i.invariant.0 (omega (arith, c.loop-i-test.true, c.end_of-stop.ensures))
-          (c.raised.ensures
-          ∙ raised_is _ _ _ _ _ _ _ c.args.k.plane _ _ _ q.0 c.requires.2 (q.1 ∙ f.index_is)
-          (c.to_f32.ensures ∙ ap narrow f.rest-is)),
-      q.0,
-    )
-
-pub shape_of-row : goal.shape_of-row
-shape_of-row c = c.loop-i.invariant.0.same
-
-pub returns : goal.returns
-unfolding walked
-returns c =
-    let w = c.requires.0 in
-    upto-end w.inside c.loop-i.invariant.0 (omega (arith, c.loop-i-test.false, c.end_of-stop.ensures))
+pub overflow_add-i : goal.overflow_add-i
+overflow_add-i c = omega (arith, begin-small c.requires.0)

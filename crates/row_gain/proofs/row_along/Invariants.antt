@@ -1,12 +1,13 @@
--- `row_gain::row_along` meets its contract: what lies before column c is done, and the pair at hand is that of its own map column.
-use Prim.Native.Nat.{◌-◌}
-use Rattle.pointwise.proofs.Walk.{Upto}
+-- `row_along` meets its contract: the walk stands at sample i, whose image column is x, and the pair at hand is that of its own map column.
+-- Assumes nothing.
+use Prim.Native.Nat.{ℕ, ◌+◌, ◌-◌}
+use mathlib.Core.Path.{◌≡◌}
+use Rattle.row_select.proofs.Going.{Going}
 use Rattle.row_gain.specs.Strip.{PairIs, along_strip}
 use Rattle.row_gain.proofs.row_along.Given as goal
 
 abbrev pub invariant-loop-i : goal.invariant-loop-i
-invariant-loop-i l =
-    Upto l.left l.right l.pitch l.plane l.x0 l.planes (along_strip l.body l.s l.full l.origin l.spacing l.n) l.initial.row l.row l.c l.i × PairIs l.body l.s l.q
+invariant-loop-i l = (c : ℕ) × Going l.k (along_strip l.body l.s) l.initial.row l.row c l.i × (l.x ≡ l.k.x0 + c) × PairIs l.body l.s l.q
 
 abbrev pub decreases-loop-i : goal.decreases-loop-i
 decreases-loop-i l = l.stop - l.i

@@ -5,12 +5,6 @@ use Rattle.row_opcode.proofs.Plans.{leaves16, row16-is, idle, reached, begun}
 use Rattle.row_opcode.proofs.Planes.{row-left}
 use Rattle.row_opcode.proofs.row_step16.Goals as goal
 
-pub region_row16-requires : goal.region_row16-requires
-region_row16-requires c =
-    let a = c.args in
-    let w = begun a.op a.g.x0 a.g.full_width a.g.full_height c.requires.1 c.in-Area.is in
-    (c.requires.0, w.first)
-
 pub returns-in-Nothing : goal.returns-in-Nothing
 returns-in-Nothing c =
     let a = c.args in
@@ -30,4 +24,4 @@ returns-in-Area c =
     let a = c.args in
     let w = begun a.op a.g.x0 a.g.full_width a.g.full_height c.requires.1 c.in-Area.is in
     c.region_row16.ensures
-    ∙ row16-is a.op w.plan a.g.x0 a.g.planes a.g.y a.row.now a.body.now c.table_size.ensures
+    ∙ row16-is a.op w.plan a.g.x0 a.g.planes a.g.y a.row.now a.body.now

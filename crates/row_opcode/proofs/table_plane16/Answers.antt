@@ -1,12 +1,7 @@
 -- `table_plane16` meets its contract: an empty table changes nothing. Assumes nothing.
 use Rattle.dng.specs.Value.{map_table16}
-use Rattle.row_opcode.proofs.Planes.{table-some, table_none}
+use Rattle.row_opcode.proofs.Planes.{table_none}
 use Rattle.row_opcode.proofs.table_plane16.Goals as goal
-
-pub returns-then-n-gt0 : goal.returns-then-n-gt0
-returns-then-n-gt0 c =
-    let a = c.args in
-    table-some a.k a.n (map_table16 a.n a.body.now) a.row.now _ c.if-n-gt0.true c.table_row16.ensures
 
 pub returns-else-n-gt0 : goal.returns-else-n-gt0
 returns-else-n-gt0 c =

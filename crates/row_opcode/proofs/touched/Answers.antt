@@ -3,7 +3,6 @@
 use Prim.Native.Nat.{ℕ}
 use mathlib.Core.Path.{◌≡◌, sym, ◌∙◌}
 use mathlib.Core.Bool.{true, false}
-use native.Mathlib.Nat.{mul-le-mul_left}
 use native.Mathlib.Omega.{arith}
 use Rattle.pointwise.specs.Select.{selects}
 use Rattle.pointwise.proofs.Walk.{first-bound}
@@ -31,14 +30,6 @@ pub returns-then-r-g : goal.returns-then-r-g
 returns-then-r-g c =
     no c.args.g c.args.r c.args.len
     (none-by-columns c.args.g c.args.r c.requires.1 c.args.len c.if-r-g.true)
-
-pub overflow_mul-start : goal.overflow_mul-start
-overflow_mul-start c =
-    omega (arith, first-bound _ _ _ _ _ c.requires.1, mul-le-mul_left c.args.start.col c.requires.0.few)
-
-pub overflow_add-start : goal.overflow_add-start
-overflow_add-start c =
-    omega (arith, first-bound _ _ _ _ _ c.requires.1, mul-le-mul_left c.args.start.col c.requires.0.few)
 
 pub returns-then-len-start : goal.returns-then-len-start
 returns-then-len-start c =

@@ -8,7 +8,7 @@ pub returns : goal.returns
 returns c =
     let a = c.args in
     record {
-      is = ap (walk_by a.g a.r a.start a.plane) c.larger.ensures;
+      is = ap (walk_by a.g a.r a.start a.plane) c.max.ensures;
       left32 = search rules;
       right32 = search rules;
       pitch32 = search rules;

@@ -29,19 +29,19 @@ returns-then-step-lt2 c =
 pub returns-then-rest-eq0 : goal.returns-then-rest-eq0
 returns-then-rest-eq0 c =
     let step = c.before.before.before in
-    first_on c.args.left c.args.pitch c.args.x0 c.larger-step.result c.larger-step.ensures (omega arith) c.if-rest-eq0.true
+    first_on c.args.left c.args.pitch c.args.x0 c.max-step.result c.max-step.ensures (omega arith) c.if-rest-eq0.true
 
 pub overflow_sub-forward : goal.overflow_sub-forward
 overflow_sub-forward c =
     let step = c.before.before.before in
-    omega (arith, mod-lt (distance step.before) {m = c.larger-step.result} (omega arith))
+    omega (arith, mod-lt (distance step.before) {m = c.max-step.result} (omega arith))
 
 pub overflow_add-result : goal.overflow_add-result
 overflow_add-result c =
     let step = c.before.before.before in
-    omega (arith, div-le_self (distance step.before) c.larger-step.result)
+    omega (arith, div-le_self (distance step.before) c.max-step.result)
 
 pub returns : goal.returns
 returns c =
     let step = c.before.before.before in
-    first_off c.args.left c.args.pitch c.args.x0 c.larger-step.result c.larger-step.ensures (omega arith) (omega arith)
+    first_off c.args.left c.args.pitch c.args.x0 c.max-step.result c.max-step.ensures (omega arith) (omega arith)

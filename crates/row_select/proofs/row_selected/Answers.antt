@@ -21,11 +21,11 @@ returns-then-hi-y c = sym (selects-high _ _ _ _ c.if-hi-y.true)
 
 pub returns-then-step-lt2 : goal.returns-then-step-lt2
 returns-then-step-lt2 c =
-    let step = c.larger-step in
+    let step = c.max-step in
     let one : max c.args.pitch 1 ≡ 1 = omega (arith, c.if-step-lt2.true, step.ensures) in
     sym (selects-every c.args.top c.args.bottom c.args.pitch c.args.y one c.if-y-lo.false c.if-hi-y.false)
 
 pub returns : goal.returns
 unfolding selects
 returns c =
-    simp (le-leb _ _ c.if-y-lo.false, lt-ltb _ _ c.if-hi-y.false, c.larger-step.ensures)
+    simp (le-leb _ _ c.if-y-lo.false, lt-ltb _ _ c.if-hi-y.false, c.max-step.ensures)

@@ -1,23 +1,17 @@
--- `raise_pixel` meets its contract: each turn is one store of the run from a up to e. Assumes nothing.
-use mathlib.Core.Path.{◌≡◌, refl, sym, ap, ◌∙◌}
+-- `raise_pixel` meets its contract: each turn is one store. Assumes nothing.
+use mathlib.Core.Path.{refl, sym, ◌∙◌}
 use native.Mathlib.Omega.{arith}
 use lib.Ieee.{nan}
-use lib.ListN.{length}
-use Rattle.pointwise.proofs.Each.{length-each}
-use Rattle.pointwise.proofs.Parts.{each-between-empty, store}
+use Rattle.pointwise.proofs.Each.{each-agree}
+use Rattle.pointwise.proofs.Parts.{between_in, each-between-empty, store}
 use Rattle.row_vignette.proofs.raise_pixel.Goals as goal
 
-pub loop-i-init : goal.loop-i-init
-loop-i-init c = (sym (each-between-empty _ _ _ _ (omega arith)), omega arith, omega arith, refl)
+pub loop-v-init : goal.loop-v-init
+loop-v-init c = sym (each-between-empty 0 0 _ _ (omega arith))
 
-pub loop-i-preserved : goal.loop-i-preserved
-loop-i-preserved c =
-    let u = c.loop-i.invariant in
-    let grown = store nan _ _ _ _ _ _ u.0 refl u.1 (omega arith) in
-    (grown, omega arith, omega arith, ap length grown ∙ length-each _ _)
+pub loop-v-preserved : goal.loop-v-preserved
+loop-v-preserved c = store nan _ _ _ _ _ _ c.loop-v.invariant refl (omega arith) (omega arith)
 
 pub returns : goal.returns
 returns c =
-    let u = c.loop-i.invariant in
-    let end : c.loop-i.i ≡ c.args.e = omega arith in
-    rw end at u.0
+    c.loop-v.invariant ∙ each-agree _ _ c.args.pixel.now (λ i v h. between_in 0 c.loop-v.v-index _ i v (omega arith) (omega arith))

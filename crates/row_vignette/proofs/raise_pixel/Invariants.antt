@@ -1,14 +1,8 @@
--- `raise_pixel` meets its contract: each turn is one store of the run from a up to e. Assumes nothing.
-use Prim.Native.Nat.{◌-◌, ◌≤◌}
+-- `raise_pixel` meets its contract: the samples before the turn's are raised. Assumes nothing.
 use mathlib.Core.Path.{◌≡◌}
 use lib.Ieee.{binary32, mul}
-use lib.ListN.{length}
 use Rattle.pointwise.specs.Points.{each, between}
 use Rattle.row_vignette.proofs.raise_pixel.Given as goal
 
-abbrev pub invariant-loop-i : goal.invariant-loop-i
-invariant-loop-i l =
-    (l.row ≡ each (between l.a l.i (λ j v. mul binary32 v l.g)) l.initial.row) × (l.a ≤ l.i) × (l.i ≤ l.e) × (length l.row ≡ length l.initial.row)
-
-abbrev pub decreases-loop-i : goal.decreases-loop-i
-decreases-loop-i l = l.e - l.i
+abbrev pub invariant-loop-v : goal.invariant-loop-v
+invariant-loop-v l = l.v-items ≡ each (between 0 l.v-index (λ i v. mul binary32 v l.g)) l.initial.v-items

@@ -27,4 +27,4 @@ nonzero_div-len c = omega (arith, c.requires.0)
 
 pub returns : goal.returns
 returns c =
-    subst (Begun c.args.len c.args.planes) (sym c.larger.ensures) (begun-cut c.requires.0)
+    subst (Begun c.args.len c.args.planes) (sym c.max.ensures) (begun-cut c.requires.0)

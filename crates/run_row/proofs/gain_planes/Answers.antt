@@ -39,19 +39,19 @@ returns-then-touched c =
     let a = c.args in
     let F : Region → Window → Rule Float = λ q w.
     on_region q
-    (gain_rule w.full_width w.full_height a.body.now q a.points_v a.points_h a.grid a.map_planes) in
+    (gain_rule w.full_width w.full_height a.body.now (record { region = q; map = a.gain.map })) in
     single-row c.window_of.ensures a.row.now c.requires.0
-    (begun-spans c.requires.0.some c.requires.1 c.columns_of-columns.ensures) (F (every_row a.r))
+    (begun-spans c.requires.0.some c.requires.1 c.columns_of-columns.ensures) (F (every_row a.gain.region))
     (c.blocks-then-touched.ensures
     ∙ ap (λ (q : Region). each (on_window c.window_of.result (length a.row.now) (F q c.window_of.result)) a.row.now)
     c.every_row.ensures)
-    ∙ every-row a.r
-    (gain_rule a.g.full_width a.g.full_height a.body.now a.r a.points_v a.points_h a.grid a.map_planes)
+    ∙ every-row a.gain.region
+    (gain_rule a.g.full_width a.g.full_height a.body.now a.gain)
     a.g.x0 a.g.planes a.g.y a.row.now (c.touched.ensures.0 c.if-touched.true)
 
 pub returns-else-touched : goal.returns-else-touched
 returns-else-touched c =
     let a = c.args in
-    row-untouched a.g a.r
-    (gain_rule a.g.full_width a.g.full_height a.body.now a.r a.points_v a.points_h a.grid a.map_planes) a.row.now
+    row-untouched a.g a.gain.region
+    (gain_rule a.g.full_width a.g.full_height a.body.now a.gain) a.row.now
     (c.touched.ensures.1 c.if-touched.false)

@@ -20,7 +20,7 @@ abbrev made : Place → Float → Opcode → List ℕ → Entry → List Float �
 made g scale op list e row = each (on_row g.x0 g.planes g.y (length row) (rule_of (frame_of g scale) op (body_of list e))) row
 
 pub gain_planes-requires : goal.gain_planes-requires
-gain_planes-requires c = (c.requires.0, c.requires.2, map-fits c.args.op c.gain_of.ensures c.in-Map.is c.requires.1)
+gain_planes-requires c = (c.requires.0, c.requires.2, map-fits c.args.op c.gain_of.ensures c.in-Some.is c.requires.1)
 
 pub returns-then-dropped : goal.returns-then-dropped
 returns-then-dropped c =
@@ -32,17 +32,17 @@ returns-then-g-lt2 c =
     let a = c.args in
     not-left-out c.dropped.ensures a.row.now (made a.g a.scale a.op a.list.now a.e a.row.now) c.if-dropped.false c.step_one.ensures
 
-pub returns-in-Map : goal.returns-in-Map
-returns-in-Map c =
+pub returns-in-Some : goal.returns-in-Some
+returns-in-Some c =
     let a = c.args in
     let g = a.g in
     not-left-out c.dropped.ensures a.row.now (made g a.scale a.op a.list.now a.e a.row.now) c.if-dropped.false
     (lent (frame_of g a.scale) g.x0 g.planes g.y a.list.now a.e a.op c.body.ensures a.row.now
-    (map_row a.op c.gain_of.ensures c.in-Map.is g.x0 g.planes g.y (length a.row.now) g.full_width g.full_height
+    (map_row a.op c.gain_of.ensures c.in-Some.is g.x0 g.planes g.y (length a.row.now) g.full_width g.full_height
     a.scale c.body.result.now a.row.now _ c.gain_planes.ensures))
 
-pub returns-in-Other : goal.returns-in-Other
-returns-in-Other c =
+pub returns-in-None : goal.returns-in-None
+returns-in-None c =
     let a = c.args in
     not-left-out c.dropped.ensures a.row.now (made a.g a.scale a.op a.list.now a.e a.row.now) c.if-dropped.false
-    c.step_one-in-Other.ensures
+    c.step_one-in-None.ensures

@@ -11,5 +11,5 @@ unfolding cleared
 returns c =
     record {
       mended = c.attempt-r.ensures;
-      wide_clear = c.clear_f32.ensures ∙ ap (λ (n : ℕ). replicate n nought) c.attempt-r.auto.wide;
+      wide_clear = c.clear.ensures ∙ ap (λ (n : ℕ). replicate n nought) c.attempt-r.auto.wide;
     }

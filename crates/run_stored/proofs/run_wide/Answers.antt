@@ -10,4 +10,4 @@ unfolding of_bits
 returns c =
     let a = c.args in
     rounded a.w (at_one a.period a.preview) (record { marks = length a.marks.now }) a.list.now a.names.now a.samples.now
-    c.widen.ensures c.run_f32-answer.ensures c.held-over.ensures c.narrow.ensures
+    c.widen.ensures c.run-answer.ensures c.held-over.ensures c.narrow.ensures

@@ -1,7 +1,5 @@
--- `run_verdict::is_whole` meets its contract. The loop's invariant: the entries that are left from the cursor on decide. The measure is what is
--- left of the count. Assumes nothing.
+-- `run_verdict::is_whole` meets its contract, by the loop's invariant. Assumes nothing.
 use mathlib.Core.Path.{ap, ◌∙◌}
-use native.Mathlib.Omega.{arith}
 use Rattle.dng.specs.Run.{kept_of}
 use Rattle.list_read.proofs.Fold.{begin, item, stop, end}
 use Rattle.run_verdict.specs.Verdict.{whole_items}
@@ -10,29 +8,25 @@ use Rattle.run_verdict.proofs.is_whole.Goals as goal
 
 pub loop-k-init : goal.loop-k-init
 loop-k-init c =
-    let a = c.args in (
-      omega arith,
-      ap (λ l. whole_items a.full_width a.full_height (kept_of a.preview l)) (begin _ c.count-n.ensures),
-    )
+    let a = c.args in
+    ap (λ l. whole_items a.full_width a.full_height (kept_of a.preview l)) (begin _ c.count-n.ensures)
 
 pub returns-then-not-is_settled : goal.returns-then-not-is_settled
 returns-then-not-is_settled c =
-    unsettled _ _ _ _ _ (item _ _ _ _ c.loop-k-test.true c.step.ensures c.in-Item.is) c.is_settled.ensures
+    unsettled _ _ _ _ _ (item _ _ _ _ c.loop-k-test.true c.step.ensures c.in-Ok.is) c.is_settled.ensures
     c.if-not-is_settled.true
-    ∙ c.loop-k.invariant.1
+    ∙ c.loop-k.invariant
 
 pub loop-k-preserved : goal.loop-k-preserved
-loop-k-preserved c = (
-  omega arith,
-  settled _ _ _ _ _ (item _ _ _ _ c.loop-k-test.true c.step.ensures c.in-Item.is) c.is_settled.ensures
-      c.if-not-is_settled.false
-      ∙ c.loop-k.invariant.1,
-)
+loop-k-preserved c =
+    settled _ _ _ _ _ (item _ _ _ _ c.loop-k-test.true c.step.ensures c.in-Ok.is) c.is_settled.ensures
+    c.if-not-is_settled.false
+    ∙ c.loop-k.invariant
 
-pub returns-in-Malformed : goal.returns-in-Malformed
-returns-in-Malformed c =
-    none _ _ _ (stop _ _ _ _ c.loop-k-test.true c.step.ensures c.in-Malformed.is) ∙ c.loop-k.invariant.1
+pub returns-in_default : goal.returns-in_default
+returns-in_default c =
+    none _ _ _ (stop _ _ _ _ c.loop-k-test.true c.step.ensures c.in_default.is) ∙ c.loop-k.invariant
 
 pub returns : goal.returns
 returns c =
-    none _ _ _ (end c.args.list.now c.count-n.result c.loop-k.k c.loop-k.c c.loop-k-test.false) ∙ c.loop-k.invariant.1
+    none _ _ _ (end c.args.list.now c.count-n.result c.loop-k.k c.loop-k.c c.loop-k-test.false) ∙ c.loop-k.invariant

@@ -1,6 +1,5 @@
--- `run_verdict::is_whole` meets its contract. The loop's invariant: the entries that are left from the cursor on decide. The measure is what is
--- left of the count. Assumes nothing.
-use Prim.Native.Nat.{◌-◌, ◌≤◌}
+-- `run_verdict::is_whole` meets its contract. The loop's invariant: the entries that are left from the cursor on decide. Assumes nothing.
+use Prim.Native.Nat.{◌-◌}
 use mathlib.Core.Path.{◌≡◌}
 use Rattle.dng.specs.List.{read_from}
 use Rattle.dng.specs.Run.{kept_of}
@@ -9,7 +8,4 @@ use Rattle.run_verdict.proofs.is_whole.Given as goal
 
 abbrev pub invariant-loop-k : goal.invariant-loop-k
 invariant-loop-k l =
-    (l.k ≤ l.n) × (whole_items l.full_width l.full_height (kept_of l.preview (read_from l.list (l.n - l.k) l.c)) ≡ whole_list l.full_width l.full_height l.preview l.list)
-
-abbrev pub decreases-loop-k : goal.decreases-loop-k
-decreases-loop-k l = l.n - l.k
+    whole_items l.full_width l.full_height (kept_of l.preview (read_from l.list (l.n - l.k) l.c)) ≡ whole_list l.full_width l.full_height l.preview l.list

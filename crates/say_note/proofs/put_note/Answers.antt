@@ -14,18 +14,18 @@ put_malformed-requires c =
       arith,
       c.requires,
       malformed-bound c.args.list.now
-          (sym c.read.ensures ∙ c.in-Malformed.is),
+          (sym c.read.ensures ∙ c.in-Err.is),
     )
 
 pub put_lines-requires : goal.put_lines-requires
 put_lines-requires c =
     omega (arith, c.requires, lines-bound c.args.list.now)
 
-pub returns-in-Malformed : goal.returns-in-Malformed
-returns-in-Malformed c =
-    note-malformed _ c.if-list-gt65535.false c.read.ensures c.in-Malformed.is
+pub returns-in-Err : goal.returns-in-Err
+returns-in-Err c =
+    note-malformed _ c.if-list-gt65535.false c.read.ensures c.in-Err.is
     c.put_malformed.ensures
 
-pub returns-in-Whole : goal.returns-in-Whole
-returns-in-Whole c =
-    note-whole _ c.if-list-gt65535.false c.read.ensures c.in-Whole.is c.put_lines.ensures
+pub returns-in-Ok : goal.returns-in-Ok
+returns-in-Ok c =
+    note-whole _ c.if-list-gt65535.false c.read.ensures c.in-Ok.is c.put_lines.ensures

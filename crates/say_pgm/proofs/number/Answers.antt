@@ -8,7 +8,7 @@ use Rattle.say_pgm.proofs.number.Goals as goal
 
 pub loop-i-init : goal.loop-i-init
 unfolding number_at
-loop-i-init c = (omega arith, refl, refl)
+loop-i-init c = (omega arith, refl, refl, omega arith)
 
 pub returns-then-not-is_digit : goal.returns-then-not-is_digit
 returns-then-not-is_digit c =
@@ -30,12 +30,13 @@ loop-i-preserved c =
       digits-on _ _ in-it r on ∙ c.loop-i.invariant.1,
       decimal-on _ _ _ _ _ in-it r on c.digit.ensures.0 c.more-value.ensures
           ∙ c.loop-i.invariant.2,
+      omega arith,
     )
 
 pub returns : goal.returns
 returns c = record {
   starts = refl;
-  ends = digits-end _ _ c.loop-i-test.false ∙ c.loop-i.invariant.1;
+  ends = omega (arith, digits-end c.args.bytes.now c.loop-i.i c.loop-i-test.false, c.loop-i.invariant.1, c.loop-i.invariant.3);
   held = omega (
     arith,
     decimal-end c.loop-i.value c.args.bytes.now c.loop-i.i c.loop-i-test.false,

@@ -6,16 +6,16 @@ use Rattle.say_pgm.proofs.Laws.{in-sizes}
 use Rattle.say_pgm.proofs.read_frame.Goals as goal
 
 pub sized-requires : goal.sized-requires
-sized-requires c = in-sizes _ _ _ _ _ (sym c.header.ensures ∙ c.in-Header.is)
+sized-requires c = in-sizes _ _ (sym c.read_header.ensures ∙ c.in-Some.is)
 
-pub returns-in-Header : goal.returns-in-Header
+pub returns-in-Some : goal.returns-in-Some
 unfolding frame_of
-returns-in-Header c =
+returns-in-Some c =
     let a = c.args in
-    c.sized.ensures ∙ ap (frame_on a.most (length a.bytes.now)) (sym c.in-Header.is ∙ c.header.ensures)
+    c.sized.ensures ∙ ap (frame_on a.most (length a.bytes.now)) (sym c.in-Some.is ∙ c.read_header.ensures)
 
-pub returns-in-Broken : goal.returns-in-Broken
+pub returns-in-None : goal.returns-in-None
 unfolding frame_of
-returns-in-Broken c =
+returns-in-None c =
     let a = c.args in
-    ap (frame_on a.most (length a.bytes.now)) (sym c.in-Broken.is ∙ c.header.ensures)
+    ap (frame_on a.most (length a.bytes.now)) (sym c.in-None.is ∙ c.read_header.ensures)

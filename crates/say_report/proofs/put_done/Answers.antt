@@ -1,7 +1,6 @@
 -- `say_report::put_done` meets its contract. Assumes nothing.
 use Prim.Native.Nat.{ℕ}
-use mathlib.Core.Path.{refl, ap, ◌∙◌}
-use native.Mathlib.Nat.{sub-zero}
+use mathlib.Core.Path.{refl, ap}
 use native.Mathlib.Omega.{arith}
 use lib.Dec.{lit≤}
 use lib.ListN.{take}
@@ -29,7 +28,7 @@ pub returns : goal.returns
 unfolding done_text
 returns c =
     let a = c.args in
-    let named = ap (λ (m : ℕ). skipped_text (take m a.names.now)) (sub-zero _ ∙ c.lesser-k.ensures) in
+    let named = ap (λ (m : ℕ). skipped_text (take m a.names.now)) c.min-k.ensures in
     within-as _ 512 (lit≤ tt) refl
     (within-then _ _
     (within-then _ _

@@ -5,10 +5,10 @@ use Rattle.win_opcode.proofs.by_kind.Goals as goal
 
 pub gain_window-requires : goal.gain_window-requires
 gain_window-requires c =
-    (c.requires.0, c.requires.1, map-fits c.args.op c.gain_of.ensures c.in-Map.is c.requires.2)
+    (c.requires.0, c.requires.1, map-fits c.args.op c.gain_of.ensures c.in-Some.is c.requires.2)
 
-pub returns-in-Map : goal.returns-in-Map
-returns-in-Map c =
+pub returns-in-Some : goal.returns-in-Some
+returns-in-Some c =
     let a = c.args in
-    map-rule a.op c.gain_of.ensures c.in-Map.is a.w a.scale (length a.samples.now) a.body.now a.samples.now _
+    map-rule a.op c.gain_of.ensures c.in-Some.is a.w a.scale (length a.samples.now) a.body.now a.samples.now _
     c.gain_window.ensures

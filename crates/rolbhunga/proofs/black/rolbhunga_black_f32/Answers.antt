@@ -1,7 +1,5 @@
--- `rolbhunga::black::rolbhunga_black_f32` meets its contract: the call's promise, in numbers. Assumes nothing.
-use Rattle.rolbhunga.proofs.BlackBytes.{told}
+-- `rolbhunga::black::rolbhunga_black_f32` meets its contract: what is lent is as C passes it. Assumes nothing.
 use Rattle.rolbhunga.proofs.black.rolbhunga_black_f32.Goals as goal
 
 pub returns : goal.returns
-returns c =
-    told _ c.black_f32-a.result c.number.result _ c.black_f32-a.ensures c.number.ensures
+returns c = rw c.lent.ensures at c.told.ensures

@@ -1,5 +1,0 @@
--- `add_steps` meets its contract: a step of 1 is the dense run. Assumes nothing.
-use Rattle.row_deltas.proofs.add_steps.Goals as goal
-
-pub returns-then-step-eq1 : goal.returns-then-step-eq1
-returns-then-step-eq1 c = rw c.if-step-eq1.true c.add_dense.ensures
