@@ -130,18 +130,7 @@ module _ {w : Window} {m : ℕ → Bool} {y end : ℕ} {s s' : List ℕ} {n x : 
   pub scan-over : (e : ℕ) → e ≤ end → length s' < count_below (y * w.width + e) m → length s < count_below (y * w.width + end) m
   scan-over e h g = omega (arith, t.long, count-mono m (y * w.width + e) (y * w.width + end) (omega arith))
 
-  -- a part of 64 columns, or of what is left
-  module _ {s'' : List ℕ} {k e : ℕ} (l : length s'' ≡ length s') (b : e ≡ min end (x + 64)) where
-    pub scan-block : 64 < end - x → Holds (y * w.width + e) m s' s'' k → Scanned w m y end s s'' k (x + 64)
-    scan-block h g =
-        let d : e ≡ x + 64 = omega arith in
-        subst (λ (z : ℕ). Scanned w m y end s s'' k z) d (scan-join (omega arith) l g)
-
-    pub scan-last : end - x ≤ 64 → Holds (y * w.width + e) m s' s'' k → Holds (y * w.width + end) m s s'' k
-    scan-last h g =
-        let d : e ≡ end = omega (arith, t.within) in
-        subst (λ (z : ℕ). Holds (y * w.width + z) m s s'' k) d (hold-base g s t.long)
-
+  -- of 64 columns, or of what is left, one too many
   pub scan-many : (e : ℕ) → e ≡ min end (x + 64) → length s' < count_below (y * w.width + e) m → length s < count_below (y * w.width + end) m
   scan-many e b g = scan-over e (omega arith) g
 

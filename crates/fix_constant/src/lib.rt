@@ -153,9 +153,12 @@ impl<S: Sample> Scan<'_, S> {
             Gathered (y * s.w.width + s.w.width) (same S.none S.eq s.w s.k s.samples.now) marks.old marks.new result }
     {
         let mut held = n;
-        for from in (0..self.w.width).step_by(64) {
+        let mut from = 0;
+        // not by `step_by(64)`: a narrow window's rows, a block each, take half as much time again
+        while from < self.w.width {
             let end = self.w.width.min(from + 64);
             held = self.block(y, from, end, marks, held)?;
+            from = end;
         }
         Some(held)
     }

@@ -37,7 +37,7 @@ fn patch(s: &mut [u32], held: Held, width: usize, r: Rect, top: usize) -> Option
 }
 
 // A list's points and rectangles, in a window whose positions are counted by rows, or `across`: by columns.
-#[derive(Drop)]
+#[derive(Clone, Copy)]
 struct List<'a> {
     body: &'a [u8],
     points: usize,

@@ -10,7 +10,7 @@ ghost use Rattle.fix_lone.specs.Asked.{AsksMark-prop};
 use dng::Window;
 
 // Mark i of a window's, and how far apart neighbours are.
-#[derive(Drop)]
+#[derive(Clone, Copy)]
 struct Mark<'a> {
     marks: &'a [u32],
     w: Window,

@@ -1,7 +1,8 @@
 -- What is asked of a position whose neighbours are looked for, which of them are sound, and the steps and neighbours as
 -- the code has them.
 -- Document 01, 'What each does to a value', Repair.
-use Rattle.std.specs.Prelude.{ℕ, ◌+◌, ◌*◌, ◌/◌, ◌%◌, ◌≤◌, ◌<◌, Bool, true, false, not, ◌&&◌, cond, List, [], ◌∷◌, Option, Some, None, ◌≡◌, leb, ltb, eqb, ℤ, pos, negsuc, length, get_or, take}
+use Rattle.std.proofs.Common.{sym, ap, subst, ◌∙◌, length-take-le, take-append-drop}
+use Rattle.std.specs.Prelude.{ℕ, ◌+◌, ◌-◌, ◌*◌, ◌/◌, ◌%◌, ◌≤◌, ◌<◌, Bool, true, false, not, ◌&&◌, cond, List, [], ◌∷◌, ◌++◌, Option, Some, None, ◌≡◌, leb, ltb, eqb, ℤ, pos, negsuc, length, get_or, take, drop, replicate}
 use Rattle.dng.specs.declared.Window.{Window}
 use Rattle.dng.specs.Repair.{steps, moved, sound}
 use Rattle.fix_scratch.specs.Marks.{Fits}
@@ -67,6 +68,28 @@ near_on w period bad x y (d ∷ ds) =
 
 abbrev pub near_of : Window → (period : ℕ) → (ℕ → Bool) → (x y : ℕ) → List ℕ
 near_of w period bad x y = near_on w period bad x y steps
+
+-- ---- at most eight of them, in an array of eight
+
+-- the array: zeros behind them
+abbrev pub array_of : List ℕ → List ℕ
+array_of l = l ++ replicate (8 - length l) 0
+
+-- they are the first n of the array
+pub record InArray (n : ℕ) (at : List ℕ) : Type 0 where
+  pub few : n ≤ 8
+  pub eight : length at ≡ 8
+  pub zeros : drop n at ≡ replicate (8 - n) 0
+
+-- and give the array back
+module _ {n : ℕ} {at : List ℕ} (a : InArray n at) where
+  pub length-near : length (take n at) ≡ n
+  length-near = length-take-le n at (subst (λ (k : ℕ). n ≤ k) (sym a.eight) a.few)
+
+  pub array_of-near : array_of (take n at) ≡ at
+  array_of-near =
+      ap (λ (k : ℕ). take n at ++ replicate (8 - k) 0) length-near ∙ ap (λ (l : List ℕ). take n at ++ l) (sym a.zeros)
+      ∙ take-append-drop n at
 
 -- ---- the parts
 

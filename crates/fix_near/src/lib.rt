@@ -5,7 +5,7 @@ ghost use Rattle.std.specs.Prelude.{◌≡◌, true, ℕ, List, [], ◌∷◌, �
 ghost use Rattle.dng.specs.Repair.{steps, moved};
 ghost use Rattle.num_sorted.specs.Sorts.{has, Rises};
 ghost use Rattle.fix_scratch.specs.Marks.{Fits};
-ghost use Rattle.fix_near.specs.Looks.{Asks, Inside, none, Lone, pair_of, one_step, Steps, open_at, sound_of, near_of};
+ghost use Rattle.fix_near.specs.Looks.{Asks, Inside, none, Lone, pair_of, one_step, Steps, open_at, sound_of, near_of, array_of, InArray, array_of-near, length-near};
 
 use dng::Window;
 use fix_constant::Spot;
@@ -18,8 +18,9 @@ pub struct Step {
     pub dy: i64,
 }
 
-// Where the samples of the sound neighbours begin: the first n.
-#[derive(Drop)]
+// Where the samples of the sound neighbours begin: the first n. Behind them stand zeros, so that the list of them gives
+// the array back, which `Copy` asks for.
+#[derive(Clone, Copy)]
 pub struct Near {
     at: [usize; 8],
     n: usize,
@@ -30,7 +31,11 @@ impl Model for Near {
 
     ghost view = { λ r. take r.n r.at };
 
-    ghost invariant = { λ r. r.n ≤ 8 };
+    ghost invariant = { λ r. InArray r.n r.at };
+
+    ghost inverse = { λ l. record { at = array_of l; n = length l } };
+
+    ghost inverse_ok = { λ r h i. record { at = array_of-near h i; n = length-near h i } };
 }
 
 impl Near {

@@ -80,7 +80,7 @@ module _ {A : Type 0} (d : A) (w : Window) (test : ℕ → A → Bool) where
 -- ---- the stages one after another
 
 -- what the stages ask of gathered marks
-marking : (w : Window) (bad : ℕ → Bool) (l : List ℕ) (period step : ℕ) → Fits w → period ≤ 65536 → step ≡ step_of period
+pub marking : (w : Window) (bad : ℕ → Bool) (l : List ℕ) (period step : ℕ) → Fits w → period ≤ 65536 → step ≡ step_of period
     → l ≡ chosen bad 0 (positions w) → Marking l w step
 marking w bad l period step f far e h =
     record {

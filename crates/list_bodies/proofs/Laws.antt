@@ -3,7 +3,7 @@
 use mathlib.Core.Path.{◌≡◌, refl, sym, ap, subst, ◌∙◌}
 use mathlib.Core.Bool.{Bool, true, false, ◌&&◌, cond}
 use mathlib.Core.List.{List, ◌∷◌, ◌++◌}
-use Prim.Native.Nat.{ℕ, ◌+◌, ◌*◌, ◌≤◌, ◌<◌}
+use Prim.Native.Nat.{ℕ, ◌+◌, ◌*◌, ◌/◌, ◌≤◌, ◌<◌}
 use native.Mathlib.Omega.{arith}
 use borrow.Author.Tests.{le-leb, lt-leb, leb-true, leb-false}
 use lib.Dec.{leb}
@@ -22,7 +22,7 @@ use Rattle.dng.specs.declared.Reason.TheVariants as Why
 use Rattle.dng.specs.declared.Refusal.{Refusal}
 use Rattle.dng.specs.List.{refusal, offset_in, extent, first_cut, fours, eights, vignette_fields, constant_fields, bad_list_fields, trim_fields, counted_fields, gain_fields, inside_why, field_why}
 use Rattle.dng.specs.List.{u32_at, f64_at, region_at, grid_at, radial_at, given, half, warp_at, vignette_at, constant_at, bad_list_at, trim_at, counted_at, polynomial_at, gain_at}
-use Rattle.dng.proofs.Cuts.{extent-append, cut-early, cut-late, cut-here}
+use Rattle.dng.proofs.Cuts.{cut-same, extent-append, cut-early, cut-late, cut-here}
 use Rattle.list_fields.specs.Fields.{word_at, area_at, lattice_at, lens_at}
 use Rattle.list_fields.proofs.Laws.{value-cut, region-cut, grid-cut, radial-cut}
 use Rattle.list_counts.specs.Fits.{warp_fits, bad_list_fits, values_fit, degree_fits, gains_fit, gains_at}
@@ -133,6 +133,11 @@ module _ (s : List ℕ) (at len : ℕ) where
   unfolding constant_at extent
   constant-cut c = cut_inside constant_fields _ (sym (lt-leb 8 len c.short)) c
 
+  pub constant-short : {r : Refusal} → r ≡ refusal Why.Inside (offset_in s at (len / 4 * 4)) → len < 8 → Err r ≡ constant_at s at len
+  unfolding extent
+  constant-short e h =
+      ap Err e ∙ constant-cut (record { short = h; place = ap (λ (k : ℕ). offset_in s at k) (sym (cut-same 4 2 len (omega arith) (omega arith))) })
+
   pub trim-read :
       {t l b r : ℕ} → 16 ≤ len → t ≡ u32_at s (at + 0) → l ≡ u32_at s (at + 4) → b ≡ u32_at s (at + 8) → r ≡ u32_at s (at + 12)
       → Ok (TrimBounds t l b r) ≡ trim_at s at len
@@ -142,6 +147,11 @@ module _ (s : List ℕ) (at len : ℕ) where
   pub trim-cut : {f : ℕ} → CutAt s at len trim_fields f → Err (refusal Why.Inside f) ≡ trim_at s at len
   unfolding trim_at extent
   trim-cut c = cut_inside trim_fields _ (sym (lt-leb 16 len c.short)) c
+
+  pub trim-short : {r : Refusal} → r ≡ refusal Why.Inside (offset_in s at (len / 4 * 4)) → len < 16 → Err r ≡ trim_at s at len
+  unfolding extent
+  trim-short e h =
+      ap Err e ∙ trim-cut (record { short = h; place = ap (λ (k : ℕ). offset_in s at k) (sym (cut-same 4 4 len (omega arith) (omega arith))) })
 
   -- ---- a warp, which is always read
 

@@ -3,9 +3,9 @@
 // The body starts at `at` of the list and is `len` bytes long; every function takes any position and any length.
 #![tactic(auto)]
 
-ghost use Rattle.std.specs.Prelude.{◌≡◌, cond, leb, ◌<◌, Ok};
+ghost use Rattle.std.specs.Prelude.{◌≡◌, cond, leb, ◌*◌, ◌/◌, ◌<◌, Ok};
 ghost use Rattle.dng.specs.declared.Opcode.TheVariants.{MapTable};
-ghost use Rattle.dng.specs.declared.Reason.TheVariants.{Count, Degree};
+ghost use Rattle.dng.specs.declared.Reason.TheVariants.{Inside, Count, Degree};
 ghost use Rattle.dng.specs.List.{refusal, offset_in, warp_at, vignette_at, constant_at, bad_list_at, trim_at, counted_at};
 ghost use Rattle.dng.specs.List.{polynomial_at, gain_at, parsed_at};
 ghost use Rattle.list_bodies.specs.Bodies.{counted_in, line_of};
@@ -24,23 +24,24 @@ fn refuse(list: &[u8], at: usize, k: usize, reason: Reason) -> Refusal
 }
 
 // A malformed warp has no planes, and the list goes on.
-fn warp(list: &[u8], at: usize, len: usize) -> Opcode
-    ensures { result ≡ warp_at list.now at len }
+fn warp(list: &[u8], at: usize, len: usize) -> Result<Opcode, Refusal>
+    ensures { result ≡ Ok (warp_at list.now at len) }
 {
+    let none = Opcode::WarpRectilinear {
+        planes: 0,
+        cx: 0.5,
+        cy: 0.5,
+    };
     if list_counts::warp_fits(list, at, len) {
         let planes = list_fields::word(list, at, 0);
         let k = planes as usize * 48;
-        Opcode::WarpRectilinear {
+        Ok(Opcode::WarpRectilinear {
             planes,
             cx: list_fields::real(list, at, 4 + k),
             cy: list_fields::real(list, at, 12 + k),
-        }
+        })
     } else {
-        Opcode::WarpRectilinear {
-            planes: 0,
-            cx: 0.5,
-            cy: 0.5,
-        }
+        Ok(none)
     }
 }
 
@@ -51,14 +52,22 @@ fn vignette(list: &[u8], at: usize, len: usize) -> Result<Opcode, Refusal>
     Ok(Opcode::FixVignetteRadial { radial })
 }
 
+// 23, in a body of words alone: the first that is not whole starts at the last multiple of four.
+fn cut_words(list: &[u8], at: usize, len: usize) -> Refusal
+    ensures { result ≡ refusal Inside (offset_in list.now at (len / 4 * 4)) }
+{
+    refuse(list, at, len / 4 * 4, Reason::Inside)
+}
+
 fn constant(list: &[u8], at: usize, len: usize) -> Result<Opcode, Refusal>
     ensures { result ≡ constant_at list.now at len }
 {
-    let constant = list_fields::word_in(list, at, 0, len)?;
-    let bayer_phase = list_fields::word_in(list, at, 4, len)?;
+    if len < 8 {
+        return Err(cut_words(list, at, len));
+    }
     Ok(Opcode::FixBadPixelsConstant {
-        constant,
-        bayer_phase,
+        constant: list_fields::word(list, at, 0),
+        bayer_phase: list_fields::word(list, at, 4),
     })
 }
 
@@ -82,15 +91,14 @@ fn bad_list(list: &[u8], at: usize, len: usize) -> Result<Opcode, Refusal>
 fn trim(list: &[u8], at: usize, len: usize) -> Result<Opcode, Refusal>
     ensures { result ≡ trim_at list.now at len }
 {
-    let top = list_fields::word_in(list, at, 0, len)?;
-    let left = list_fields::word_in(list, at, 4, len)?;
-    let bottom = list_fields::word_in(list, at, 8, len)?;
-    let right = list_fields::word_in(list, at, 12, len)?;
+    if len < 16 {
+        return Err(cut_words(list, at, len));
+    }
     Ok(Opcode::TrimBounds {
-        top,
-        left,
-        bottom,
-        right,
+        top: list_fields::word(list, at, 0),
+        left: list_fields::word(list, at, 4),
+        bottom: list_fields::word(list, at, 8),
+        right: list_fields::word(list, at, 12),
     })
 }
 
@@ -191,7 +199,7 @@ fn low(list: &[u8], id: u32, at: usize, len: usize) -> Result<Opcode, Refusal>
     ensures { result ≡ parsed_at list.now id at len }
 {
     match id {
-        Opcode::WARP_RECTILINEAR => Ok(warp(list, at, len)),
+        Opcode::WARP_RECTILINEAR => warp(list, at, len),
         Opcode::WARP_FISHEYE => Ok(Opcode::WarpFisheye),
         Opcode::FIX_VIGNETTE_RADIAL => vignette(list, at, len),
         Opcode::FIX_BAD_PIXELS_CONSTANT => constant(list, at, len),

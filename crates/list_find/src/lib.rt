@@ -68,18 +68,18 @@ pub enum FindError {
 // An answer, which ends the walk, or how many directories were gone to.
 type Walked = ControlFlow<Result<Place, FindError>, usize>;
 
-const MAX_DIRECTORIES: usize = 64;
+pub const MAX_DIRECTORIES: usize = 64;
 
 // The tag of SubIFDs, and the types that count: UNDEFINED and BYTE of a list, LONG and IFD of SubIFDs.
-const SUB_IFDS: usize = 330;
+pub const SUB_IFDS: usize = 330;
 
-const UNDEFINED: usize = 7;
+pub const UNDEFINED: usize = 7;
 
-const BYTE: usize = 1;
+pub const BYTE: usize = 1;
 
-const LONG: usize = 4;
+pub const LONG: usize = 4;
 
-const IFD: usize = 13;
+pub const IFD: usize = 13;
 
 // ---- numbers
 

@@ -56,7 +56,7 @@ pub fn rolbhunga_black_f32(
         input.now out.old)
         result out.new }
 {
-    told(input, out, f, lent(p, blacks, scales, rows, columns))
+    told::<f32>(input, out, f, lent(p, blacks, scales, rows, columns))
 }
 
 pub fn rolbhunga_black_u16(
@@ -75,7 +75,7 @@ pub fn rolbhunga_black_u16(
         input.now out.old)
         result out.new }
 {
-    told(input, out, f, lent(p, blacks, scales, rows, columns))
+    told::<u16>(input, out, f, lent(p, blacks, scales, rows, columns))
 }
 
 // ---- samples in bytes

@@ -29,27 +29,27 @@ use Rattle.row_gain.proofs.Laws.{place_is}
 use Rattle.row_gain.proofs.Blocks.{within_in, within-agree}
 
 -- a value raised by the pair of its own map column is what `along_strip` says
-pub raised_is : (b : List ℕ) (s : Strip) (x p : ℕ) {q : Pair} {c : Column} (v : Float) → PairIs b s q → ColumnIs (place_on s.along x) c
-    → q.h ≡ c.lower → mul binary32 v (add binary32 q.a (mul binary32 q.d c.share)) ≡ along_strip b s x p v
+pub raised_is : (b : List ℕ) (s : Strip) (f : ℕ → Float) (x p : ℕ) {q : Pair} {c : Column} (v : Float) → PairIs b s q → ColumnIs (f x) c
+    → q.h ≡ c.lower → mul binary32 v (add binary32 q.a (mul binary32 q.d c.share)) ≡ along_strip b s f x p v
 unfolding along_strip mix
-raised_is b s x p {q} {c} v is on h =
+raised_is b s f x p {q} {c} v is on h =
     let line : q.a ≡ line_of b s q.h = is.line in
     let rise : q.d ≡ sub binary32 (line_of b s (min (q.h + 1) s.last)) (line_of b s q.h) = is.rise in
-    let low : q.h ≡ lower (place_on s.along x) = h ∙ on.lower-is in
-    let part : c.share ≡ share (place_on s.along x) = on.share-is in
+    let low : q.h ≡ lower (f x) = h ∙ on.lower-is in
+    let part : c.share ≡ share (f x) = on.share-is in
     cc
 
 -- and so, in a block, where the map column and the share come from the table
-pub block-value : (b : List ℕ) (s : Strip) (a pitch w : ℕ) {cs : List Column} (x j p : ℕ) {q : Pair} (v : Float) → PairIs b s q
-    → Filled (place_on s.along) a pitch w cs → 1 ≤ pitch → j < w → x ≡ a + j * pitch
+pub block-value : (b : List ℕ) (s : Strip) (f : ℕ → Float) (a pitch w : ℕ) {cs : List Column} (x j p : ℕ) {q : Pair} (v : Float) → PairIs b s q
+    → Filled f a pitch w cs → 1 ≤ pitch → j < w → x ≡ a + j * pitch
     → let c = get_or cs j (record { lower = 0; share = nan }) in
     q.h ≡ c.lower
-    → mul binary32 v (add binary32 q.a (mul binary32 q.d c.share)) ≡ within a (a + w * pitch) (along_strip b s) x p v
-block-value b s a pitch w {cs} x j p v is f some h at i =
+    → mul binary32 v (add binary32 q.a (mul binary32 q.d c.share)) ≡ within a (a + w * pitch) (along_strip b s f) x p v
+block-value b s f a pitch w {cs} x j p v is filled some h at i =
     let more : (j + 1) * pitch ≤ w * pitch = mul-le-mul_right pitch (omega arith) in
-    raised_is b s (a + j * pitch) p v is (f.columns j h) i
-    ∙ ap (λ (y : ℕ). along_strip b s y p v) (sym at)
-    ∙ sym (within_in a (a + w * pitch) (along_strip b s) x p v (omega arith) (omega arith))
+    raised_is b s f (a + j * pitch) p v is (filled.columns j h) i
+    ∙ ap (λ (y : ℕ). along_strip b s f y p v) (sym at)
+    ∙ sym (within_in a (a + w * pitch) (along_strip b s f) x p v (omega arith) (omega arith))
 
 -- ---- a strip is two rows of the map
 
@@ -59,7 +59,7 @@ place v ph h mp m near step e f =
     rw (e, f) (omega arith)
 
 -- the gain of a map column on the strip is the one of the definitions
-pub line-is : (b : List ℕ) (v : Axis) (pv ph mp m : ℕ) (fv : Float) {along : Ruler} (s : Strip) (h : ℕ) → AxisIs fv pv v → StripIs v ph mp m along s
+pub line-is : (b : List ℕ) (v : Axis) (pv ph mp m : ℕ) (fv : Float) (s : Strip) (h : ℕ) → AxisIs fv pv v → StripIs v ph mp m s
     → line_of b s h ≡ line_at b pv ph mp m fv h
 unfolding line_of line_at
 line-is b v pv ph mp m fv s h a is =
@@ -68,15 +68,23 @@ line-is b v pv ph mp m fv s h a is =
     cc
 
 -- so that along the strip of its position a row is changed as the definitions say
-pub along-is : (b : List ℕ) (map : Map) (m full : ℕ) (v : Axis) (s : Strip) (fv : Float) → StripAt map m full v s → AxisIs fv map.points_v v
-    → (x k : ℕ) (u : Float) → along_strip b s x k u ≡ map_gain b map m full fv x k u
+pub along-is : (b : List ℕ) (map : Map) (m full : ℕ) (v : Axis) (s : Strip) (fv : Float) → StripAt map m v s → AxisIs fv map.points_v v
+    → (x k : ℕ) (u : Float) → along_strip b s (map_position map full) x k u ≡ map_gain b map m full fv x k u
 unfolding along_strip times_gain gain_of
 along-is b map m full v s fv is a x k u =
     let f : Float = map_position map full x in
-    ap (λ (z : Float). mul binary32 u (mix (line_of b s (lower z)) (line_of b s (min (lower z + 1) s.last)) (share z)))
-    (place_is _ _ _ _ s.along is.along-is x)
-    ∙ ap (λ (n : ℕ). mul binary32 u (mix (line_of b s (lower f)) (line_of b s (min (lower f + 1) n)) (share f))) is.last-is
+    ap (λ (n : ℕ). mul binary32 u (mix (line_of b s (lower f)) (line_of b s (min (lower f + 1) n)) (share f))) is.last-is
     ∙ (ap₂ (λ (i j : Float). mul binary32 u (mix i j (share f))) (is.lines fv a b (lower f)) (is.lines fv a b (upper map.points_h f)))
+
+-- and so where a ruler of the map measures
+pub along-ruler : (b : List ℕ) (map : Map) (m full : ℕ) (v : Axis) (s : Strip) (fv : Float) {r : Ruler} → StripAt map m v s
+    → RulerIs full map.grid.origin_h map.grid.spacing_h map.points_h r → AxisIs fv map.points_v v
+    → (x k : ℕ) (u : Float) → along_strip b s (place_on r) x k u ≡ map_gain b map m full fv x k u
+unfolding along_strip
+along-ruler b map m full v s fv {r} is ruler a x k u =
+    ap (λ (z : Float). mul binary32 u (mix (line_of b s (lower z)) (line_of b s (min (lower z + 1) s.last)) (share z)))
+    (place_is _ _ _ _ r ruler x)
+    ∙ along-is b map m full v s fv is a x k u
 
 -- ---- no position wraps
 
@@ -117,9 +125,8 @@ reach i ph mp m near last step some plane few e f l =
     rw (e, f, l)
     (omega arith)
 
-pub reaches : (v : Axis) (ph mp m : ℕ) {full : ℕ} {origin spacing : Float} {along : Ruler} (s : Strip) → Beside v ph mp m
-    → StripIs v ph mp m along s → RulerIs full origin spacing ph along → Reaches s
-reaches v ph mp m s b is r =
+pub reaches : (v : Axis) (ph mp m : ℕ) (s : Strip) → Beside v ph mp m → StripIs v ph mp m s → Reaches s
+reaches v ph mp m s b is =
     let planes : 1 ≤ mp = omega (arith, b.plane) in
     record {
       near = reach v.lower ph mp m _ _ _ b.some b.plane b.lower_in is.near-is is.step_is is.last-is;
@@ -131,19 +138,22 @@ reaches v ph mp m s b is r =
         mul-le-mul_left ph planes,
         mul-le-mul_right {m = 1} {n = v.lower + 1} (ph * mp) (omega arith),
       );
-      ends = ap (λ (a : Ruler). a.last) is.along-is ∙ r.last-is ∙ ap (whole_in binary64) (sym is.last-is);
     }
 
+-- a ruler of the map ends at the strip's last column
+pub ends-at : {full : ℕ} {origin spacing : Float} {ph : ℕ} {r : Ruler} {last : ℕ} → last ≡ ph - 1 → RulerIs full origin spacing ph r
+    → r.last ≡ whole_in binary64 last
+ends-at is r = r.last-is ∙ ap (whole_in binary64) (sym is)
+
 -- the strip of an axis is that of each position which has that axis
-pub strip-at : (v : Axis) (map : Map) (m n full : ℕ) {along : Ruler} (s : Strip) → n ≡ max map.planes 1 → MapSized map m → OnMap v map.points_v
-    → RulerIs full map.grid.origin_h map.grid.spacing_h map.points_h along → StripIs v map.points_h n m along s → StripAt map m full v s
-strip-at v map m n full s e z a r is =
+pub strip-at : (v : Axis) (map : Map) (m n : ℕ) (s : Strip) → n ≡ max map.planes 1 → MapSized map m → OnMap v map.points_v
+    → StripIs v map.points_h n m s → StripAt map m v s
+strip-at v map m n s e z a is =
     record {
       lines = λ f on b h. line-is b v map.points_v map.points_h n m f s h on is
           ∙ ap (λ (i : ℕ). line_at b map.points_v map.points_h i m f h) e;
       last-is = is.last-is;
-      along-is = subst (RulerIs full map.grid.origin_h map.grid.spacing_h map.points_h) (sym is.along-is) r;
-      reaches = reaches v map.points_h n m s (beside v map.points_v map.points_h map.planes m n e z a) is r;
+      reaches = reaches v map.points_h n m s (beside v map.points_v map.points_h map.planes m n e z a) is;
     }
 
 -- ---- rules that agree on the walk's plane

@@ -1,20 +1,18 @@
 -- How two tables are filled with the positions of a block of columns. Assumes nothing.
-use Prim.Native.Nat.{ℕ, ◌+◌, ◌*◌, ◌^◌, ◌≤◌, ◌<◌}
+use Prim.Native.Nat.{ℕ, ◌+◌, ◌-◌, ◌*◌, ◌^◌, ◌≤◌, ◌<◌}
 use mathlib.Core.Path.{◌≡◌, sym, subst, ◌∙◌}
 use mathlib.Core.List.{List}
 use native.Mathlib.Nat.{lt_of_mul-lt-mul_right}
 use native.Mathlib.Omega.{arith}
 use lib.ListN.{length, get_or, set, length-set}
 use lib.Seq.{get_or-set_same, get_or-set_other}
-use lib.Ieee.{Float, nan, binary64}
+use lib.Ieee.{Float, nan}
 use Rattle.pointwise.proofs.Each.{below_or}
-use Rattle.num_convert.specs.Convert.{whole_in}
 use Rattle.dng.specs.Value.{position}
 use Rattle.row_gain.specs.declared.Column.{Column}
-use Rattle.row_gain.specs.declared.Ruler.{Ruler}
-use Rattle.row_gain.specs.Strip.{RulerIs, ColumnIs, place_on}
+use Rattle.row_gain.specs.Strip.{ColumnIs}
 use Rattle.row_gain.specs.Blocks.{Filled}
-use Rattle.row_gain.proofs.Laws.{place-le, place_is}
+use Rattle.row_gain.proofs.Laws.{lower-le}
 
 -- The first j entries are filled, and column `at` is the next.
 pub record Filling (f : ℕ → Float) (x pitch : ℕ) (cs₀ cs : List Column) (at j : ℕ) : Type 0 where
@@ -49,16 +47,8 @@ pub in-room : (x pitch room at j : ℕ) → at ≡ x + j * pitch → at < x + ro
 in-room x pitch room at j e h = lt_of_mul-lt-mul_right pitch (omega arith)
 
 -- a filled entry is a map column
-pub entry-le : (r : Ruler) (n x pitch w : ℕ) (cs : List Column) → Filled (place_on r) x pitch w cs → r.last ≡ whole_in binary64 n
-    → n < 2 ^ 32 → (j : ℕ) → j < w → (get_or cs j (record { lower = 0; share = nan })).lower ≤ n
-entry-le r n x pitch w cs f e h j q = omega (arith, (f.columns j q).lower-is, place-le r n (x + j * pitch) e h)
-
--- what is measured by the ruler is the position on the axis
-pub filled-on : {full : ℕ} {origin spacing : Float} {n : ℕ} {r : Ruler} → RulerIs full origin spacing n r → {x pitch w : ℕ} {cs : List Column}
-    → Filled (λ at. position at full origin spacing n) x pitch w cs → Filled (place_on r) x pitch w cs
-filled-on {full} {origin} {spacing} {n} {r} is {x} {pitch} {w} {cs} f =
-    record {
-      columns = λ j h. subst (λ (z : Float). ColumnIs z (get_or cs j (record { lower = 0; share = nan })))
-          (sym (place_is full origin spacing n r is (x + j * pitch))) (f.columns j h);
-      room = f.room;
-    }
+pub entry-le : (full : ℕ) (origin spacing : Float) (n x pitch w : ℕ) (cs : List Column)
+    → Filled (λ at. position at full origin spacing n) x pitch w cs → n ≤ 2 ^ 32 → (j : ℕ) → j < w
+    → (get_or cs j (record { lower = 0; share = nan })).lower ≤ n - 1
+entry-le full origin spacing n x pitch w cs f h j q =
+    omega (arith, (f.columns j q).lower-is, lower-le (x + j * pitch) full origin spacing n h)

@@ -16,6 +16,10 @@ pub record Filled (f : ℕ → Float) (x pitch w : ℕ) (cs : List Column) : Typ
   pub columns : (j : ℕ) → j < w → ColumnIs (f (x + j * pitch)) (get_or cs j (record { lower = 0; share = nan }))
   pub room : w ≤ length cs
 
+-- no column's point lies past map column `last`
+pub record Among (last : ℕ) (cs : List Column) : Type 0 where
+  pub lower_in : (j : ℕ) → j < length cs → (get_or cs j (record { lower = 0; share = nan })).lower ≤ last
+
 -- `room` columns can be filled from x on
 pub record Fillable (x pitch end room : ℕ) : Type 0 where
   pub spaced : 1 ≤ pitch

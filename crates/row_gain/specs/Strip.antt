@@ -42,31 +42,28 @@ pub record Beside (v : Axis) (ph mp m : ℕ) : Type 0 where
   pub lower_in : (v.lower + 1) * (ph * mp) ≤ 16777216
   pub upper_in : (v.upper + 1) * (ph * mp) ≤ 16777216
 
-pub record StripIs (v : Axis) (ph mp m : ℕ) (along : Ruler) (s : Strip) : Type 0 where
+pub record StripIs (v : Axis) (ph mp m : ℕ) (s : Strip) : Type 0 where
   pub near-is : s.near ≡ 76 + 4 * (v.lower * (ph * mp) + m)
   pub far-is : s.far ≡ 76 + 4 * (v.upper * (ph * mp) + m)
   pub step_is : s.step ≡ 4 * mp
   pub last-is : s.last ≡ ph - 1
   pub share-is : s.share ≡ v.share
-  pub along-is : s.along ≡ along
 
--- a position of the last map column is far from where a sum would wrap, and no place lies past that column
+-- a position of the last map column is far from where a sum would wrap
 pub record Reaches (s : Strip) : Type 0 where
   pub near : s.near + s.last * s.step < 4294967296
   pub far : s.far + s.last * s.step < 4294967296
   pub last32 : s.last < 4294967296
-  pub ends : s.along.last ≡ whole_in binary64 s.last
 
 -- the gain of map column h between the two rows
 unfoldable pub line_of : List ℕ → Strip → ℕ → Float
 line_of b s h = mix (f32_at b (s.near + h * s.step)) (f32_at b (s.far + h * s.step)) s.share
 
 -- the strip of the rows whose axis is v: its lines are those of the map
-pub record StripAt (map : Map) (m full : ℕ) (v : Axis) (s : Strip) : Type 0 where
+pub record StripAt (map : Map) (m : ℕ) (v : Axis) (s : Strip) : Type 0 where
   pub lines : (f : Float) → AxisIs f map.points_v v → (b : List ℕ) (h : ℕ)
       → line_of b s h ≡ line_at b map.points_v map.points_h (max map.planes 1) m f h
   pub last-is : s.last ≡ map.points_h - 1
-  pub along-is : RulerIs full map.grid.origin_h map.grid.spacing_h map.points_h s.along
   pub reaches : Reaches s
 
 -- the lines of map column q .h and of the next, the second less the first
@@ -74,8 +71,8 @@ pub record PairIs (b : List ℕ) (s : Strip) (q : Pair) : Type 0 where
   pub line : q.a ≡ line_of b s q.h
   pub rise : q.d ≡ sub binary32 (line_of b s (min (q.h + 1) s.last)) (line_of b s q.h)
 
--- v times the gain of image column x, between the lines of the two map columns beside it
-unfoldable pub along_strip : List ℕ → Strip → ℕ → ℕ → Float → Float
-along_strip b s x p v =
-    let f = place_on s.along x in
+-- v times the gain of image column x, which lies at `place` of it, between the lines of the two map columns beside it
+unfoldable pub along_strip : List ℕ → Strip → (place : ℕ → Float) → ℕ → ℕ → Float → Float
+along_strip b s place x p v =
+    let f = place x in
     mul binary32 v (mix (line_of b s (lower f)) (line_of b s (min (lower f + 1) s.last)) (share f))

@@ -1,13 +1,14 @@
 // Gain maps, on one plane of a lent row.
 #![tactic(auto)]
 
-ghost use Rattle.std.specs.Prelude.{◌≡◌, ◌+◌, ◌-◌, ◌*◌, ◌≤◌, ◌<◌, min, length, Float};
-ghost use Rattle.std.specs.Float.{binary32};
+ghost use Rattle.std.specs.Prelude.{◌≡◌, ℕ, ◌+◌, ◌-◌, ◌*◌, ◌≤◌, ◌<◌, min, length, Float};
+ghost use Rattle.std.specs.Float.{binary32, binary64};
 ghost use Rattle.std.specs.Float.Ieee.{add, mul};
+ghost use Rattle.num_convert.specs.Convert.{whole_in};
 ghost use Rattle.row_select.specs.Walks.{walked, Walks};
 ghost use Rattle.dng.specs.Value.{position};
 ghost use Rattle.row_gain.specs.Gain.{AxisIs, OnMap, MapSized, map_position, map_gain};
-ghost use Rattle.row_gain.specs.Blocks.{within, Fillable, Filled, Counted, Begins};
+ghost use Rattle.row_gain.specs.Blocks.{within, Fillable, Filled, Counted, Begins, Among};
 ghost use Rattle.row_gain.specs.Strip.{RulerIs, place_on, ColumnIs, Beside, StripIs, StripAt, Reaches, PairIs, line_of, along_strip};
 
 use dng::Grid;
@@ -114,7 +115,7 @@ pub fn row_axis(g: Grid, y: u32, full_height: u32, points_v: u32) -> Axis
 // ---- two map rows mixed
 
 // The two map rows around an image row, as the code carries them: where in the body the gains of map column 0 stand,
-// how far apart the map columns are, the last map column, the share of the second row, and what measures along the two.
+// how far apart the map columns are, the last map column, and the share of the second row.
 #[derive(Clone, Copy)]
 struct Strip {
     near: usize,
@@ -122,13 +123,12 @@ struct Strip {
     step: usize,
     last: u32,
     share: f32,
-    along: Ruler,
 }
 
 // `planes` is the map's own count, at least 1; planes are fastest in a map, rows slowest.
-fn strip_of(v: Axis, columns: u32, planes: u32, m: u32, along: Ruler) -> Strip
+fn strip_of(v: Axis, columns: u32, planes: u32, m: u32) -> Strip
     requires { Beside v columns planes m }
-    ensures { StripIs v columns planes m along result }
+    ensures { StripIs v columns planes m result }
 {
     let width = columns as usize * planes as usize;
     Strip {
@@ -137,7 +137,6 @@ fn strip_of(v: Axis, columns: u32, planes: u32, m: u32, along: Ruler) -> Strip
         step: 4 * planes as usize,
         last: columns.saturating_sub(1),
         share: v.share,
-        along,
     }
 }
 
@@ -150,11 +149,11 @@ impl Map {
     }
 
     // The strip of map plane m around the axis v.
-    fn strip(self, v: Axis, m: u32, full: u32) -> Strip
+    fn strip(self, v: Axis, m: u32) -> Strip
         requires { MapSized self m × OnMap v self.points_v }
-        ensures { StripAt self m full v result }
+        ensures { StripAt self m v result }
     {
-        strip_of(v, self.points_h, self.planes.max(1), m, self.ruler(full))
+        strip_of(v, self.points_h, self.planes.max(1), m)
     }
 }
 
@@ -208,11 +207,11 @@ impl Pair {
 
 // ---- one row
 
-// The selected columns of a row between the lines of a strip. Neighbours mostly lie between the same two map columns,
-// so the pair is kept.
-fn row_along(row: &mut [f32], k: Walk, body: &[u8], s: Strip)
-    requires { Walks k (length row.old) × Reaches s }
-    ensures { row.new ≡ walked k (along_strip body.now s) row.old }
+// The selected columns of a row between the lines of a strip; `along` measures across the image. Neighbours mostly lie
+// between the same two map columns, so the pair is kept.
+fn row_along(row: &mut [f32], k: Walk, body: &[u8], s: Strip, along: Ruler)
+    requires { Walks k (length row.old) × Reaches s × (along.last ≡ whole_in binary64 s.last) }
+    ensures { row.new ≡ walked k (along_strip body.now s (place_on along)) row.old }
 {
     let stop = row_select::stop_of(k, row.len());
     let step = k.pitch * k.planes;
@@ -222,7 +221,7 @@ fn row_along(row: &mut [f32], k: Walk, body: &[u8], s: Strip)
     let mut q = Pair::at(body, s, 0);
     // not `step_by`, which takes a dozen instructions more a sample
     while i < stop {
-        let c = s.along.column(x as u32);
+        let c = along.column(x as u32);
         q.move_to(body, s, c.lower);
         row[i] = q.raise(c.share, row[i]);
         x += k.pitch;
@@ -238,7 +237,7 @@ pub fn gain_row(row: &mut [f32], k: Walk, body: &[u8], map: Map, v: Axis, m: u32
         → AxisIs f map.points_v v
         → row.new ≡ walked k (map_gain body.now map m full_width f) row.old }
 {
-    row_along(row, k, body, map.strip(v, m, full_width));
+    row_along(row, k, body, map.strip(v, m), map.ruler(full_width));
 }
 
 // ---- a block of columns: the positions are worked out once and serve every row
@@ -270,11 +269,13 @@ pub fn fill_block(
 // The selected columns of a row from image column x0 + from on, at the places that `columns` has of them.
 fn block_along(row: &mut [f32], k: Walk, from: usize, columns: &[Column], body: &[u8], s: Strip)
     requires { Walks k (length row.old) × Begins k from (length columns.now)
-        × Filled (place_on s.along) (k.x0 + from) k.pitch (length columns.now) columns.now
+        × Among s.last columns.now
         × Reaches s }
-    ensures { row.new
-        ≡ walked k (within (k.x0 + from) (k.x0 + from + length columns.now * k.pitch)
-        (along_strip body.now s))
+    ensures { (f : ℕ → Float)
+        → Filled f (k.x0 + from) k.pitch (length columns.now) columns.now
+        → row.new
+        ≡ walked k
+        (within (k.x0 + from) (k.x0 + from + length columns.now * k.pitch) (along_strip body.now s f))
         row.old }
 {
     let stop = row_select::stop_of(k, row.len()).min((from + columns.len() * k.pitch) * k.planes);
@@ -316,5 +317,5 @@ pub fn gain_block(
         (map_gain body.now map m full_width f))
         row.old }
 {
-    block_along(row, k, from, columns, body, map.strip(v, m, full_width));
+    block_along(row, k, from, columns, body, map.strip(v, m));
 }

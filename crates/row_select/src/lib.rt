@@ -163,3 +163,16 @@ pub fn on_walk<T: Copy, F: Fn(usize, T) -> T>(row: &mut [T], k: Walk, f: F)
         on_steps(row, begin, stop, step, k.nth, f);
     }
 }
+
+// The same by steps alone, also where the samples lie side by side. What prepares a run of samples is made ready in each
+// row, also in one that is left: much of what narrow rows of whole numbers cost.
+pub fn on_spaced<T: Copy, F: Fn(usize, T) -> T>(row: &mut [T], k: Walk, f: F)
+    requires walk { Walks k (length row.old) }
+    requires calls { Takes (F.pre f) }
+    ensures { (h : ℕ → T → T) → Gives (F.post f) h
+        → row.new ≡ walked k (λ x p v. h ((x - k.left) / k.pitch) v) row.old }
+{
+    let from = k.col * k.planes + k.plane;
+    let stop = stop_of(k, row.len());
+    on_steps(row, from, stop, k.pitch * k.planes, k.nth, f);
+}

@@ -9,7 +9,7 @@ ghost use Rattle.num_convert.specs.Convert.{whole_in};
 ghost use Rattle.row_select.specs.Walks.{walked, Walks};
 ghost use Rattle.dng.specs.Value.{map_table, map_table16, table_at};
 
-use row_select::{Walk, on_walk};
+use row_select::{Walk, on_spaced, on_walk};
 
 // ---- entries of a table
 
@@ -124,11 +124,11 @@ pub fn table_row16(row: &mut [u16], k: Walk, body: &[u8], n: u32)
 {
     if 36 + 2 * (n as usize) <= body.len() {
         if 65536 <= n {
-            on_walk(row, k, move |_, v| whole_value16(body, n, v));
+            on_spaced(row, k, move |_, v| whole_value16(body, n, v));
         } else {
-            on_walk(row, k, move |_, v| full_value16(body, n, v));
+            on_spaced(row, k, move |_, v| full_value16(body, n, v));
         }
     } else {
-        on_walk(row, k, move |_, v| table_value16(body, n, v));
+        on_spaced(row, k, move |_, v| table_value16(body, n, v));
     }
 }

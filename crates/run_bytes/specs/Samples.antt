@@ -1,6 +1,6 @@
 -- Samples that stand in bytes. Document 01, its last line: samples little-endian. Over the kind A where the two kinds
 -- do not differ.
-use Rattle.std.specs.Prelude.{ℕ, ◌*◌, ◌/◌, ◌%◌, ◌^◌, List, Float, length, get_or, replicate}
+use Rattle.std.specs.Prelude.{ℕ, ◌*◌, ◌/◌, ◌%◌, ◌^◌, List, Float, ◌≡◌, length, get_or, replicate}
 use Rattle.std.specs.Float.{binary32}
 use Rattle.std.specs.Float.Ieee.{of_bits}
 use Rattle.num_words.specs.Words.{little}
@@ -37,3 +37,13 @@ floats_in b = decoded (float_at b) (replicate (length b / 4) nought)
 
 abbrev pub wholes_in : List ℕ → List ℕ
 wholes_in b = decoded (whole_at b) (replicate (length b / 2) 0)
+
+-- what a kind of sample is in bytes: its size, what clears room for it, where it stands, its pattern, and its value for
+-- a place that is never looked at
+pub record IsInBytes {A : Type 0} (size : ℕ) (zero : A) (at : List ℕ → ℕ → A) (bits : A → ℕ) (none : A)
+    (its_size : ℕ) (its_zero : A) (its_at : List ℕ → ℕ → A) (its_bits : A → ℕ) (its_none : A) : Type 0 where
+  pub same_size : size ≡ its_size
+  pub same_zero : zero ≡ its_zero
+  pub same_at : at ≡ its_at
+  pub same_bits : bits ≡ its_bits
+  pub same_none : none ≡ its_none

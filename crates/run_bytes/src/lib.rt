@@ -4,11 +4,11 @@
 
 ghost use Rattle.std.specs.Prelude.{◌≡◌, ℕ, ◌*◌, ◌≤◌, List, length};
 ghost use Rattle.std.proofs.Common.{rules};
-ghost use Rattle.std.specs.Float.{binary32};
+ghost use Rattle.std.specs.Float.{nan, binary32};
 ghost use Rattle.std.specs.Float.Ieee.{to_bits};
 ghost use Rattle.num_words.specs.Words.{put};
 ghost use Rattle.dng.specs.Value.{nought};
-ghost use Rattle.run_bytes.specs.Samples.{float_at, whole_at, decoded, encoded, cleared};
+ghost use Rattle.run_bytes.specs.Samples.{float_at, whole_at, decoded, encoded, cleared, IsInBytes};
 
 use sample::Sample;
 
@@ -87,6 +87,15 @@ impl InBytes for u16 {
         num_words::put_u16(bytes, i * 2, self);
     }
 }
+
+// Proved and never called: the members above are those of the paper's two kinds, so what the calls below promise of f32
+// and of u16 is what the paper says.
+pub fn bytes_are_the_papers()
+    ensures f32 { IsInBytes ⟦<f32 as InBytes>⟧.SIZE ⟦<f32 as InBytes>⟧.ZERO ⟦<f32 as InBytes>⟧.at
+        ⟦<f32 as InBytes>⟧.bits ⟦<f32 as Sample>⟧.none 4 nought float_at (to_bits binary32) nan }
+    ensures u16 { IsInBytes ⟦<u16 as InBytes>⟧.SIZE ⟦<u16 as InBytes>⟧.ZERO ⟦<u16 as InBytes>⟧.at
+        ⟦<u16 as InBytes>⟧.bits ⟦<u16 as Sample>⟧.none 2 0 whole_at (λ n. n) 0 }
+{}
 
 pub fn decode<S: InBytes>(bytes: &[u8], room: &mut [S])
     requires { length room.old * S.SIZE ≤ length bytes.now }

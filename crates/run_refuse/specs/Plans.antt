@@ -2,7 +2,7 @@
 -- will write. Document 01, 'What comes back'.
 -- Over which lists a form takes and which opcodes it skips. proofs/Laws says that it is what the definitions of a run
 -- and of a row answer.
-use Rattle.std.specs.Prelude.{ℕ, Bool, cond, List, leb, length, Result, Ok, Err}
+use Rattle.std.specs.Prelude.{ℕ, Bool, cond, List, ◌≡◌, leb, length, Result, Ok, Err}
 use Rattle.dng.specs.declared.Window.{Window}
 use Rattle.dng.specs.declared.RowWindow.{RowWindow}
 use Rattle.dng.specs.declared.Answer.{Answer}
@@ -34,6 +34,13 @@ module _ (takes : List Item → Bool) (skip : Class → Bool) where
   unfoldable pub plan_of : List ℕ → Window → (period : ℕ) → (preview : Bool) → (room : ℕ) → Result ℕ Answer
   plan_of list w period preview room =
       cond (in_range w period) (plan_read list preview room (reading_of list)) (Err Ans.Range)
+
+-- a form takes those lists, skips those opcodes, and is settled so
+pub record IsForm (takes : List Item → Bool) (skip : Class → Bool) (those_lists : List Item → Bool)
+    (those_opcodes : Class → Bool) : Type 0 where
+  pub same_takes : takes ≡ those_lists
+  pub same_skip : skip ≡ those_opcodes
+  pub same_plan : plan_of takes skip ≡ plan_of those_lists those_opcodes
 
 -- a row: 1, 20 to 25, 3
 unfoldable pub row_plan_for : (taken : Bool) → (names : ℕ) → Result ℕ RowAnswer

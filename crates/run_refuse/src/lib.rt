@@ -9,7 +9,7 @@ ghost use Rattle.dng.specs.List.{Item};
 ghost use Rattle.dng.specs.Run.{kept_in, takes16, skipped, skipped16, names_of};
 ghost use Rattle.dng.specs.Answer.{takes_all};
 ghost use Rattle.list_survey.specs.Survey.{survey_on};
-ghost use Rattle.run_refuse.specs.Plans.{plan_for, plan_of, row_plan_of};
+ghost use Rattle.run_refuse.specs.Plans.{plan_for, plan_of, row_plan_of, IsForm};
 
 use dng::{Answer, RowAnswer, RowWindow, Window};
 use list_survey::Survey;
@@ -69,6 +69,13 @@ impl Form for u16 {
         list_names::write_names16(list, names, preview);
     }
 }
+
+// Proved and never called: the members above are those of the paper's two forms, so what `settle` promises of f32 and
+// of u16 is what the paper says.
+pub fn forms_are_the_papers()
+    ensures f32 { IsForm ⟦<f32 as Form>⟧.takes ⟦<f32 as Form>⟧.skip takes_all skipped }
+    ensures u16 { IsForm ⟦<u16 as Form>⟧.takes ⟦<u16 as Form>⟧.skip takes16 skipped16 }
+{}
 
 // 3 and 4, of a list that is read whole and has so many names.
 fn settle_read(taken: bool, names: usize, room: usize) -> Result<usize, Answer>

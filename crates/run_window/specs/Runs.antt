@@ -1,6 +1,6 @@
 -- The end of a run: what it answers, and what it leaves. Document 01, 'What comes back'. And that the run over the kind
 -- of sample is at f32 and at u16 the paper's.
-use Rattle.std.specs.Prelude.{ℕ, List, Float, Result, Ok, Err, ◌≡◌, refl, eqb}
+use Rattle.std.specs.Prelude.{ℕ, Bool, List, Float, Result, Ok, Err, ◌≡◌, refl, eqb}
 use Rattle.std.specs.Float.{nan, binary32}
 use Rattle.std.specs.Float.Ieee.{div, eq}
 use Rattle.num_round.specs.Whole.{round_held}
@@ -8,7 +8,11 @@ use Rattle.num_convert.specs.Convert.{whole_in}
 use Rattle.dng.specs.declared.Window.{Window}
 use Rattle.dng.specs.declared.Settings.{Settings}
 use Rattle.dng.specs.declared.Answer.{Answer}
-use Rattle.dng.specs.Value.{rule_of, rule16_of}
+use Rattle.dng.specs.declared.Class.{Class}
+use Rattle.dng.specs.declared.Opcode.{Opcode}
+use Rattle.dng.specs.List.{Item}
+use Rattle.dng.specs.Select.{Rule}
+use Rattle.dng.specs.Value.{Frame, rule_of, rule16_of}
 use Rattle.dng.specs.Run.{Room, skipped, skipped16, takes16}
 use Rattle.dng.specs.Answer.{Out, frame_of, takes_all, run_out, f32_out, u16_out}
 use Rattle.sample.specs.Kinds.{kind_of}
@@ -41,3 +45,12 @@ module _ (w : Window) (set : Settings) (room : Room) (list : List ℕ) where
       takes16 skipped16 w set.period set.preview room list s names
       ≡ u16_out w set.period set.preview room list s names
   is_u16 s names = refl
+
+-- with those members of a kind of sample and of its form, every run is that one
+pub record IsRun {A C : Type 0} (none : A) (to_float : A → Float) (of_mean : Float → A) (constant_at : Float → ℕ → C)
+    (equals : C → A → Bool) (rule : Frame → Opcode → List ℕ → Rule A) (takes : List Item → Bool) (skip : Class → Bool)
+    (out : Window → Settings → Room → List ℕ → List A → List ℕ → Out A) : Type 0 where
+  pub same : (w : Window) (set : Settings) (room : Room) (list : List ℕ) (s : List A) (names : List ℕ)
+      → run_out (kind_of none to_float of_mean constant_at equals rule (frame_of w set.scale)) takes skip w set.period
+      set.preview room list s names
+      ≡ out w set room list s names

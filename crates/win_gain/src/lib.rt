@@ -171,15 +171,16 @@ fn columns_end(w: Window, r: Region) -> usize
     (r.right as usize).min(w.x0 + w.width)
 }
 
-// The blocks of the columns that the region and the window share, one after another, with a table of N columns.
-fn all_blocks<const N: usize>(
+// The blocks of the columns that the region and the window share, one after another.
+fn all_blocks(
     samples: &mut [f32],
     w: Window,
     gain: GainMap,
     start: Start,
     body: &[u8],
+    table: &mut [Column],
 )
-    requires room { Room N }
+    requires room { Room (length table.old) }
     requires window { WindowFits w }
     requires ordered { Ordered w }
     requires first { First gain.region.left gain.region.col_pitch w.x0 start.col start.nth }
@@ -190,19 +191,17 @@ fn all_blocks<const N: usize>(
         (on_region gain.region (gain_rule w.full_width w.full_height body.now gain)))
         samples.old }
 {
-    let mut table = [Column {
-        lower: 0,
-        share: 0.0,
-    }; N];
     let end = columns_end(w, gain.region);
     let mut from = start.col;
     // no `for`: where the next block begins is known when a block is filled
     while w.x0 + from < end {
-        from = one_block(samples, w, gain, start, body, from, end, &mut table);
+        from = one_block(samples, w, gain, start, body, from, end, table);
     }
 }
 
-// The same with a table that is as long as is needed: to clear the long one costs as much as a small window.
+// The same with a table that is as long as is needed: to clear the long one costs as much as a small window. Not in
+// line: the tables would stand in the frame of what runs the other opcodes too.
+#[inline(never)]
 pub fn blocks(samples: &mut [f32], w: Window, gain: GainMap, start: Start, body: &[u8])
     requires { WindowFits w × Ordered w
         × First gain.region.left gain.region.col_pitch w.x0 start.col start.nth × MapFits gain.map }
@@ -213,10 +212,14 @@ pub fn blocks(samples: &mut [f32], w: Window, gain: GainMap, start: Start, body:
         samples.old }
 {
     let columns = columns_end(w, gain.region).saturating_sub(w.x0 + start.col);
+    let clear = Column {
+        lower: 0,
+        share: 0.0,
+    };
     if columns < 128 {
-        all_blocks::<128>(samples, w, gain, start, body);
+        all_blocks(samples, w, gain, start, body, &mut [clear; 128]);
     } else {
-        all_blocks::<2048>(samples, w, gain, start, body);
+        all_blocks(samples, w, gain, start, body, &mut [clear; 2048]);
     }
 }
 

@@ -58,6 +58,10 @@ start_fits w y at f p h =
       mul-le-mul_left 65536 (step_fits w f),
     )
 
+-- a row starts a stride behind the one before
+pub next_start : (w : Window) (y : ℕ) {at step : ℕ} → at ≡ row_start w y → step ≡ w.stride * w.planes → at + step ≡ row_start w (y + 1)
+next_start w y h e = omega (arith, h, e, add-mul y 1 (w.stride * w.planes), one-mul (w.stride * w.planes))
+
 -- a window that has columns, and whose rows do not overlap, as it is tested
 pub ordered : (w : Window) → active w ≡ true → Ordered w
 unfolding active
@@ -77,9 +81,6 @@ module _ {A : Type 0} (w : Window) (f : Rule A) (s : List A) where
 
   pub rows_start : Rows s 0 0
   rows_start = record { done = sym (rows-begin w (length s) f s); here = omega (arith, zero-mul (w.stride * w.planes)); near = omega arith; same = refl }
-
-  pub rows_at : {t : List A} {y at : ℕ} (here : ℕ) → here ≡ at → Rows t y at → Rows t y here
-  rows_at here e r = record { done = r.done; here = e ∙ r.here; near = r.near; same = r.same }
 
   -- the part that is lent of row y may be stepped
   pub part-fits : {t : List A} {y at width end : ℕ} {g : Place} → WindowFits w → Rows t y at → y < w.height

@@ -57,11 +57,13 @@ pub fn each_row<T: Copy, F: Fn(&mut [T], Place)>(samples: &mut [T], w: Window, o
     let n = samples.len();
     let width = row_width(w);
     let step = row_stride(w);
+    // where the row starts, beside y: a product for each would be much of what a row that is left costs
+    let mut at = 0;
     for y in 0..w.height {
-        let at = y * step;
         if n <= at {
             return;
         }
         one(&mut samples[at..(at + width).min(n)], place_at(w, y));
+        at += step;
     }
 }

@@ -1,13 +1,11 @@
 -- `list_bodies::low` meets its contract, by the id. Assumes nothing.
-use mathlib.Core.Path.{ap}
-use Rattle.std.specs.Prelude.{Ok}
 use Rattle.list_bodies.proofs.Ids.{nought, none-0}
 use Rattle.dng.specs.List.{vignette_at, constant_at, trim_at, parsed_at}
 use Rattle.list_bodies.proofs.low.Goals as goal
 
 pub returns-in-1 : goal.returns-in-1
 unfolding parsed_at
-returns-in-1 c = rw c.in-1.is (ap Ok c.warp.ensures)
+returns-in-1 c = rw c.in-1.is c.warp.ensures
 
 pub returns-in-2 : goal.returns-in-2
 unfolding parsed_at

@@ -19,14 +19,14 @@ use Rattle.row_gain.proofs.Rows.{raised_is}
 use Rattle.row_gain.proofs.row_along.Goals as goal
 
 -- one turn: sample i is raised
-turn : (b : List ℕ) (s : Strip) {k : Walk} {l row : List Float} {x c i : ℕ} {q : Pair} {p : Column} {v : Float} → Walks k (length l)
-    → Going k (along_strip b s) l row c i → x ≡ k.x0 + c → i < min (length l) ((k.right - k.x0) * k.planes)
-    → ColumnIs (place_on s.along x) p → PairIs b s q → q.h ≡ p.lower
+turn : (b : List ℕ) (s : Strip) (f : ℕ → Float) {k : Walk} {l row : List Float} {x c i : ℕ} {q : Pair} {p : Column} {v : Float} → Walks k (length l)
+    → Going k (along_strip b s f) l row c i → x ≡ k.x0 + c → i < min (length l) ((k.right - k.x0) * k.planes)
+    → ColumnIs (f x) p → PairIs b s q → q.h ≡ p.lower
     → v ≡ mul binary32 (get_or row i nan) (add binary32 q.a (mul binary32 q.d p.share))
-    → Going k (along_strip b s) l (set row i v) (c + k.pitch) (i + k.pitch * k.planes)
-turn b s {k} {l} {row} {x} {c} {i} w u at below on is h value =
+    → Going k (along_strip b s f) l (set row i v) (c + k.pitch) (i + k.pitch * k.planes)
+turn b s f {k} {l} {row} {x} {c} {i} w u at below on is h value =
     next w u nan below
-    (value ∙ raised_is b s x k.plane (get_or row i nan) is on h ∙ ap (λ (y : ℕ). along_strip b s y k.plane (get_or row i nan)) at)
+    (value ∙ raised_is b s f x k.plane (get_or row i nan) is on h ∙ ap (λ (y : ℕ). along_strip b s f y k.plane (get_or row i nan)) at)
 
 pub overflow_add-x : goal.overflow_add-x
 overflow_add-x c = let w = c.requires.0 in omega (arith, w.column, begin-small w, at_least w c.args.k.col)
@@ -41,7 +41,7 @@ pub move_to-requires : goal.move_to-requires
 move_to-requires c =
     let r = c.requires.1 in (
       r,
-      omega (arith, c.column-c.ensures.lower-is, place-le c.args.s.along c.args.s.last c.loop-i.x r.ends r.last32),
+      omega (arith, c.column-c.ensures.lower-is, place-le c.args.along c.args.s.last c.loop-i.x c.requires.2 r.last32),
       c.loop-i.invariant.3,
     )
 
@@ -50,7 +50,7 @@ loop-i-preserved c =
     let u = c.loop-i.invariant in
     let q = c.move_to.ensures in (
       u.0 + c.args.k.pitch,
-      turn _ c.args.s c.requires.0 u.1 u.2 (omega (arith, c.loop-i-test.true, c.stop_of-stop.ensures)) c.column-c.ensures q.0 q.1
+      turn _ c.args.s (place_on c.args.along) c.requires.0 u.1 u.2 (omega (arith, c.loop-i-test.true, c.stop_of-stop.ensures)) c.column-c.ensures q.0 q.1
           c.raise.ensures,
       omega (arith, u.2),
       q.0,

@@ -1,9 +1,9 @@
 -- `all_blocks` meets its contract: each turn is a block. Assumes nothing.
 use Prim.Native.Nat.{ℕ, ◌+◌}
-use mathlib.Core.Path.{ap₂, ◌∙◌}
+use mathlib.Core.Path.{refl, ap₂, ◌∙◌}
 use mathlib.Core.List.{List}
 use native.Mathlib.Omega.{arith}
-use lib.ListN.{length, length-replicate}
+use lib.ListN.{length}
 use lib.Ieee.{Float}
 use Rattle.pointwise.specs.Points.{each}
 use Rattle.dng.specs.Select.{on_window}
@@ -12,16 +12,16 @@ use Rattle.win_gain.proofs.Columns.{block-begin, block-next, block-all, lies-fir
 use Rattle.win_gain.proofs.all_blocks.Goals as goal
 
 pub loop-from-init : goal.loop-from-init
-loop-from-init g c =
+loop-from-init c =
     let a = c.args in (
       block-begin a.w (length a.samples.now) a.gain.region (a.w.x0 + a.start.col) _ a.samples.now,
       omega arith,
       lies-first c.requires.first (omega arith) (omega arith),
-      length-replicate _ _,
+      refl,
     )
 
 pub loop-from-preserved : goal.loop-from-preserved
-loop-from-preserved g c =
+loop-from-preserved c =
     let a = c.args in
     let o = c.one_block-from in
     let f = gain_rule a.w.full_width a.w.full_height a.body.now a.gain in
@@ -39,7 +39,7 @@ loop-from-preserved g c =
     )
 
 pub returns : goal.returns
-returns g c =
+returns c =
     let a = c.args in
     let w = c.requires.window in
     c.loop-from.invariant.0

@@ -16,9 +16,9 @@ abbrev pub over : Window → (n : ℕ) → GainMap → (a e : ℕ) → List ℕ 
 over w n gain a e body = on_window w n (block_rule gain.region a e (gain_rule w.full_width w.full_height body gain))
 
 abbrev pub invariant-loop-from : goal.invariant-loop-from
-invariant-loop-from g l =
+invariant-loop-from l =
     (l.samples ≡ each (over l.w (length l.initial.samples) l.gain (l.w.x0 + l.start.col) (l.w.x0 + l.from) l.body) l.initial.samples)
-    × (l.start.col ≤ l.from) × Lies l.w.x0 l.gain.region l.from × (length l.table ≡ g.row.N)
+    × (l.start.col ≤ l.from) × Lies l.w.x0 l.gain.region l.from × (length l.table ≡ length l.initial.table)
 
 abbrev pub decreases-loop-from : goal.decreases-loop-from
-decreases-loop-from g l = l.end - (l.w.x0 + l.from)
+decreases-loop-from l = l.end - (l.w.x0 + l.from)

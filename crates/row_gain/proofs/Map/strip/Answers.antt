@@ -6,4 +6,4 @@ pub strip_of-requires : goal.strip_of-requires
 strip_of-requires c = beside _ c.args.self.points_v _ c.args.self.planes _ _ c.max.ensures c.requires.0 c.requires.1
 
 pub returns : goal.returns
-returns c = strip-at _ c.args.self _ _ c.args.full _ c.max.ensures c.requires.0 c.requires.1 c.ruler.ensures c.strip_of.ensures
+returns c = strip-at _ c.args.self _ _ _ c.max.ensures c.requires.0 c.requires.1 c.strip_of.ensures

@@ -1,9 +1,7 @@
 -- `run_refuse::U16Form::skips` meets its contract: the survey's own. Assumes nothing.
-use mathlib.Core.Path.{ap}
-use Rattle.list_survey.specs.declared.Survey.{Survey}
 use Rattle.list_survey.specs.Survey.{survey_on}
 use Rattle.run_refuse.proofs.U16Form.skips.Goals as goal
 
 pub returns : goal.returns
 unfolding survey_on
-returns c n is e = ap (λ (s : Survey). s.skips16) e
+returns c n is e = simp e
